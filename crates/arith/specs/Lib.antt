@@ -1,0 +1,3 @@
+pub mod Gcd
+pub mod Lcm
+pub mod Residue

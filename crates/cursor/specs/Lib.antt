@@ -1,0 +1,5 @@
+pub mod Choice
+pub mod Parsed
+pub mod Fields
+pub mod FieldLaws
+pub mod Parts
