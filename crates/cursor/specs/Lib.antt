@@ -1,5 +1,9 @@
 pub mod Choice
 pub mod Parsed
+pub mod ParsedLaws
 pub mod Fields
 pub mod FieldLaws
+pub mod Widths
+pub mod Padded
+pub mod RecordLaws
 pub mod Parts

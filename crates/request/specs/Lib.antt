@@ -1,0 +1,5 @@
+pub mod Request
+pub mod Answers
+pub mod ReadingLaws
+pub mod SectionLaws
+pub mod Readable

@@ -1,0 +1,74 @@
+-- The request file: what its bytes say, or the number that they are refused with.
+use Prim.Native.Nat.{ℕ, suc}
+use mathlib.Core.List.{List, [], _∷_}
+use mathlib.Core.Bool.{Bool}
+use lib.ListN.{length, getD}
+use lib.Dec.{leb, ltb, eqb}
+use Rattle.cursor.specs.Choice.{pick, both}
+use Rattle.cursor.specs.Parsed.{Parsed, got, refused, then, records}
+use Rattle.cursor.specs.Fields.{byteOf, wordOf}
+use Rattle.request.specs.declared.Task.{Task}
+use Rattle.request.specs.declared.Pair.{Pair}
+
+abbrev pub noTask : Task
+noTask = record { c = 0; t = 0; d = 0; p = 0 }
+
+abbrev pub noPair : Pair
+noPair = record { a = 0; b = 0 }
+
+-- "A task has 1 ≤ C ≤ D ≤ T and P < T."
+unfoldable pub taskRule : Task → Bool
+taskRule x = both (leb 1 (x .c)) (both (leb (x .c) (x .d)) (both (leb (x .d) (x .t)) (ltb (x .p) (x .t))))
+
+-- "records of four u16: C (worst transfer time), T (period), D (deadline after release), P (phase)"; 3: a task breaks its inequalities
+unfoldable pub judgedTask : Task → List ℕ → Parsed Task
+judgedTask x rest = pick (taskRule x) (got x rest) (refused 3)
+
+unfoldable pub taskOf : List ℕ → Parsed Task
+taskOf bytes =
+    then (wordOf 1 bytes) (λ c rest.
+    then (wordOf 1 rest) (λ t rest.
+    then (wordOf 1 rest) (λ d rest.
+    then (wordOf 1 rest) (λ p rest. judgedTask (record { c = c; t = t; d = d; p = p }) rest))))
+
+-- "task count n (one byte, 1 to 16), then n records"; 1: bytes end inside a section or before its count; 2: n is 0 or above 16
+unfoldable pub tasksOf : List ℕ → Parsed (List Task)
+tasksOf bytes = then (byteOf 1 bytes) (λ n rest. pick (both (leb 1 n) (leb n 16)) (records taskOf n [] rest) (refused 2))
+
+-- the period of task i
+abbrev pub periodOf : List Task → ℕ → ℕ
+periodOf tasks i = getD tasks i noTask .t
+
+-- "A pair has a < b < n and equal T"
+unfoldable pub pairRule : List Task → ℕ → ℕ → Bool
+pairRule tasks a b = both (ltb a b) (both (ltb b (length tasks)) (eqb (periodOf tasks a) (periodOf tasks b)))
+
+-- "pairs of bytes a, b"; 5: a pair breaks its rule
+unfoldable pub judgedPair : List Task → ℕ → ℕ → List ℕ → Parsed Pair
+judgedPair tasks a b rest = pick (pairRule tasks a b) (got (record { a = a; b = b }) rest) (refused 5)
+
+unfoldable pub pairOf : List Task → List ℕ → Parsed Pair
+pairOf tasks bytes = then (byteOf 1 bytes) (λ a rest. then (byteOf 1 rest) (λ b rest. judgedPair tasks a b rest))
+
+-- "pair count (one byte, 0 to 16), then pairs"; 4: pair count above 16
+unfoldable pub pairsOf : List Task → List ℕ → Parsed (List Pair)
+pairsOf tasks bytes = then (byteOf 1 bytes) (λ m rest. pick (leb m 16) (records (pairOf tasks) m [] rest) (refused 4))
+
+-- what the bytes of a request say: its tasks and pairs, or the number from 1 to 6 of its refusal
+pub data Reading : Type 0 where
+  readable : List Task → List Pair → Reading
+  unreadable : ℕ → Reading
+
+-- 6: bytes follow the last pair
+abbrev pub ended : List Task → Parsed (List Pair) → Reading
+ended tasks (got pairs []) = readable tasks pairs
+ended tasks (got pairs (b ∷ rest)) = unreadable 6
+ended tasks (refused number) = unreadable number
+
+abbrev pub afterTasks : Parsed (List Task) → Reading
+afterTasks (got tasks rest) = ended tasks (pairsOf tasks rest)
+afterTasks (refused number) = unreadable number
+
+-- "Sections stand in a fixed order, each after its count."
+unfoldable pub reading : List ℕ → Reading
+reading bytes = afterTasks (tasksOf bytes)
