@@ -1,0 +1,10 @@
+pub mod Cycle
+pub mod Planned
+pub mod Answers
+pub mod OrderLaws
+pub mod PlannedLaws
+pub mod LimitLaws
+pub mod LoopLaws
+pub mod Pending
+pub mod Listing
+pub mod ReadLaws

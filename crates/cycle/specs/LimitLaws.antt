@@ -1,0 +1,162 @@
+-- What the hyperperiod is, the least common multiple of the periods; and what a request within the limits keeps: its cycle is a whole number of
+-- periods of each task, so every job is released within the cycle, and due within the next one.
+use Prim.Native.Nat.{ℕ, zero, suc, _+_, _*_, _/_, _≤_, _<_, _∣_}
+use mathlib.Core.Path.{_≡_, refl, subst}
+use mathlib.Core.Bool.{Bool, true, false}
+use mathlib.Core.List.{List, [], _∷_}
+use mathlib.Core.Logic.{_↔_}
+use native.Mathlib.Nat.{dvd-refl, dvd-trans, one-dvd, le-of-dvd, div-mul-cancel, mul-le-mul-right, lt-of-mul-lt-mul-right}
+use native.Mathlib.Omega.{arith}
+use lib.ListN.{length, getD}
+use lib.Dec.{ltb}
+use borrow.Author.Tests.{ltb-false}
+use Rattle.cursor.specs.Choice.{pick}
+use Rattle.arith.specs.Lcm.{lcmOf, dvd-lcm-left, dvd-lcm-right, lcm-dvd, lcm-pos}
+use Rattle.arith.specs.Residue.{quotient-pos}
+use Rattle.request.specs.Request.{Reading, readable, unreadable, reading, noTask, periodOf}
+use Rattle.request.specs.Readable.{TaskKept, Readable, readable-kept, unreadable-number}
+use Rattle.request.specs.declared.Task.{Task}
+use Rattle.request.specs.declared.Pair.{Pair}
+use Rattle.cycle.specs.Cycle.{lcmWith, hyperperiod, jobsIn, jobOf, allJobs, planned, Cycle, cycle, noCycle, inCycle, cycleOf}
+use Rattle.cycle.specs.Planned.{IsJob, InPlanningOrder}
+use Rattle.cycle.specs.PlannedLaws.{Periodic, planned-in-order, planned-length}
+use Rattle.cycle.specs.declared.Job.{Job}
+
+-- The common multiple of h and the periods: what divides h divides it, every period divides it, it divides every other such multiple.
+pub lcm-with-keeps : (m h : ℕ) (tasks : List Task) → m ∣ h → m ∣ lcmWith h tasks
+unfolding lcmWith
+lcm-with-keeps m h [] d = d
+lcm-with-keeps m h (x ∷ tasks) d = lcm-with-keeps m (lcmOf h (x .t)) tasks (dvd-trans m d (dvd-lcm-left h (x .t)))
+
+pub lcm-with-divides : (h : ℕ) (tasks : List Task) (i : ℕ) → i < length tasks → periodOf tasks i ∣ lcmWith h tasks
+unfolding lcmWith
+lcm-with-divides h [] i k = absurd (omega arith)
+lcm-with-divides h (x ∷ tasks) zero k = lcm-with-keeps (x .t) (lcmOf h (x .t)) tasks (dvd-lcm-right h (x .t))
+lcm-with-divides h (x ∷ tasks) (suc i) k = lcm-with-divides (lcmOf h (x .t)) tasks i (omega arith)
+
+periodic-rest : (x : Task) (tasks : List Task) → Periodic (x ∷ tasks) → Periodic tasks
+periodic-rest x tasks pos i k = pos (suc i) (omega arith)
+
+pub lcm-with-dvd : (m h : ℕ) (tasks : List Task) → 0 < h → Periodic tasks → h ∣ m → ((i : ℕ) → i < length tasks → periodOf tasks i ∣ m) → lcmWith h tasks ∣ m
+unfolding lcmWith
+lcm-with-dvd m h [] some pos d each = d
+lcm-with-dvd m h (x ∷ tasks) some pos d each =
+    lcm-with-dvd m (lcmOf h (x .t)) tasks (lcm-pos h (x .t) some (pos 0 (omega arith))) (periodic-rest x tasks pos)
+    (lcm-dvd h (x .t) m some d (each 0 (omega arith)))
+    (λ i k. each (suc i) (omega arith))
+
+pub lcm-with-pos : (h : ℕ) (tasks : List Task) → 0 < h → Periodic tasks → 0 < lcmWith h tasks
+unfolding lcmWith
+lcm-with-pos h [] some pos = some
+lcm-with-pos h (x ∷ tasks) some pos = lcm-with-pos (lcmOf h (x .t)) tasks (lcm-pos h (x .t) some (pos 0 (omega arith))) (periodic-rest x tasks pos)
+
+-- so it only grows
+pub lcm-with-grows : (h : ℕ) (tasks : List Task) → 0 < h → Periodic tasks → h ≤ lcmWith h tasks
+lcm-with-grows h tasks some pos = le-of-dvd (lcm-with-pos h tasks some pos) (lcm-with-keeps h h tasks (dvd-refl h))
+
+-- H is a multiple of each period, divides every common multiple, is positive, and so is the least
+module _ (tasks : List Task) where
+  pub hyperperiod-divides : (i : ℕ) → i < length tasks → periodOf tasks i ∣ hyperperiod tasks
+  unfolding hyperperiod
+  hyperperiod-divides i k = lcm-with-divides 1 tasks i k
+
+  pub hyperperiod-dvd : (m : ℕ) → Periodic tasks → ((i : ℕ) → i < length tasks → periodOf tasks i ∣ m) → hyperperiod tasks ∣ m
+  unfolding hyperperiod
+  hyperperiod-dvd m pos each = lcm-with-dvd m 1 tasks (omega arith) pos (one-dvd m) each
+
+  pub hyperperiod-pos : Periodic tasks → 0 < hyperperiod tasks
+  unfolding hyperperiod
+  hyperperiod-pos pos = lcm-with-pos 1 tasks (omega arith) pos
+
+  pub hyperperiod-least : (m : ℕ) → 0 < m → Periodic tasks → ((i : ℕ) → i < length tasks → periodOf tasks i ∣ m) → hyperperiod tasks ≤ m
+  hyperperiod-least m some pos each = le-of-dvd some (hyperperiod-dvd m pos each)
+
+-- of the releases p, p + t, p + 2·t, .. just those of the first h / t jobs are within the cycle
+pub release-early : (h t p j : ℕ) → p < t → t ∣ h → (p + j * t < h) ↔ (j < h / t)
+release-early h t p j phase d = (below, above)
+  where
+    below : p + j * t < h → j < h / t
+    below k = lt-of-mul-lt-mul-right t (omega (arith, div-mul-cancel t d))
+
+    above : j < h / t → p + j * t < h
+    above k = omega (arith, div-mul-cancel t d, mul-le-mul-right t k)
+
+-- What a request within the limits keeps. Crates above go by this.
+pub record WithinLimits (tasks : List Task) (pairs : List Pair) (h : ℕ) (jobs : List Job) : Type 0 where
+  pub readable : Readable tasks pairs
+  pub h-is : h ≡ hyperperiod tasks
+  pub h-pos : 1 ≤ h
+  pub h-few : h ≤ 10000
+  pub jobs-are : jobs ≡ planned tasks h
+  pub jobs-few : length jobs ≤ 128
+  pub in-order : InPlanningOrder tasks h jobs
+  pub period-divides : (i : ℕ) → i < length tasks → periodOf tasks i ∣ h
+  pub period-le : (i : ℕ) → i < length tasks → periodOf tasks i ≤ h
+  pub has-job : (i : ℕ) → i < length tasks → 0 < jobsIn tasks h i
+  pub release-below : (i j : ℕ) → IsJob tasks h i j → jobOf tasks i j .release < h
+  pub due-below : (i j : ℕ) → IsJob tasks h i j → jobOf tasks i j .due < 2 * h
+
+module _ (tasks : List Task) (pairs : List Pair) (kept : Readable tasks pairs) where
+  pub readable-periodic : Periodic tasks
+  readable-periodic i k = let task : TaskKept (getD tasks i noTask) = kept .task i k in omega arith
+
+  module _ (h : ℕ) (some : 0 < h) (divides : (i : ℕ) → i < length tasks → periodOf tasks i ∣ h) where
+    job-release-below : (i j : ℕ) → IsJob tasks h i j → jobOf tasks i j .release < h
+    unfolding jobOf jobsIn
+    job-release-below i j is =
+        let x = getD tasks i noTask in
+        release-early h (x .t) (x .p) j (kept .task i (is .known) .phase) (divides i (is .known)) .1 (is .early)
+
+    job-due-below : (i j : ℕ) → IsJob tasks h i j → jobOf tasks i j .due < 2 * h
+    unfolding jobOf
+    job-due-below i j is = omega (arith, job-release-below i j is, kept .task i (is .known) .due, le-of-dvd some (divides i (is .known)))
+
+  within-limits : hyperperiod tasks ≤ 10000 → length (allJobs tasks (hyperperiod tasks)) ≤ 128
+      → WithinLimits tasks pairs (hyperperiod tasks) (planned tasks (hyperperiod tasks))
+  unfolding jobsIn
+  within-limits few-ticks few-jobs =
+      let h = hyperperiod tasks in
+      let some : 0 < h = hyperperiod-pos tasks readable-periodic in
+      let divides : (i : ℕ) → i < length tasks → periodOf tasks i ∣ h = hyperperiod-divides tasks in
+      record {
+        readable = kept;
+        h-is = refl;
+        h-pos = some;
+        h-few = few-ticks;
+        jobs-are = refl;
+        jobs-few = rw planned-length few-jobs;
+        in-order = planned-in-order tasks h readable-periodic;
+        period-divides = divides;
+        period-le = λ i k. le-of-dvd some (divides i k);
+        has-job = λ i k. quotient-pos h (periodOf tasks i) some (divides i k);
+        release-below = job-release-below h some divides;
+        due-below = job-due-below h some divides;
+      }
+
+-- what a cycle keeps; a refusal has a number
+abbrev pub Kept : Cycle → Type 0
+Kept (cycle tasks pairs h jobs) = WithinLimits tasks pairs h jobs
+Kept (noCycle number) = 0 < number
+
+pub cycle-kept : (bytes : List ℕ) → Kept (cycleOf bytes)
+unfolding cycleOf
+cycle-kept bytes = first (reading bytes) refl
+  where
+    second : (tasks : List Task) (pairs : List Pair) → Readable tasks pairs
+        → (s t : Bool) → ltb 10000 (hyperperiod tasks) ≡ s → ltb 128 (length (allJobs tasks (hyperperiod tasks))) ≡ t
+        → Kept (pick s (noCycle 7) (pick t (noCycle 8) (cycle tasks pairs (hyperperiod tasks) (planned tasks (hyperperiod tasks)))))
+    second tasks pairs kept true t p q = omega arith
+    second tasks pairs kept false true p q = omega arith
+    second tasks pairs kept false false p q = within-limits tasks pairs kept (ltb-false _ _ p) (ltb-false _ _ q)
+
+    first : (r : Reading) → reading bytes ≡ r → Kept (inCycle r)
+    first (readable tasks pairs) e =
+        second tasks pairs (readable-kept bytes tasks pairs e) (ltb 10000 (hyperperiod tasks)) (ltb 128 (length (allJobs tasks (hyperperiod tasks)))) refl refl
+    first (unreadable number) e = unreadable-number bytes number e
+
+pub cycle-within : (bytes : List ℕ) (tasks : List Task) (pairs : List Pair) (h : ℕ) (jobs : List Job)
+    → cycleOf bytes ≡ cycle tasks pairs h jobs → WithinLimits tasks pairs h jobs
+cycle-within bytes tasks pairs h jobs e = subst Kept e (cycle-kept bytes)
+
+pub no-cycle-number : (bytes : List ℕ) (number : ℕ) → cycleOf bytes ≡ noCycle number → 0 < number
+no-cycle-number bytes number e = subst Kept e (cycle-kept bytes)
