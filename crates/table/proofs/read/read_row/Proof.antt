@@ -1,0 +1,111 @@
+-- The loop keeps that the entries left, behind those in the places, are what the row has.
+use borrow.Author.Needs.{needs}
+use Prim.Native.Nat.{_≤_, _-_}
+use mathlib.Core.Path.{sym, _∙_}
+use native.Mathlib.Omega.{arith}
+use borrow.Author.Tests.{lt-leb, le-leb}
+use Rattle.cursor.specs.FieldLaws.{byte-taken, byte-missing}
+use Rattle.table.specs.Table.{rowFrom}
+use Rattle.table.specs.ReadLaws.{EntriesSoFar, entries-start, entries-more, entries-refused, entries-row}
+use Rattle.table.proofs.read.read_row.Statement.{statement}
+use Rattle.table.proofs.read.read_row.Tie as tie
+
+abbrev Inv-loop : tie.InvT-loop
+Inv-loop s tasks₀ jobs₀ count n low₀ at₀ i₀ tasks jobs low at i = (i ≤ n) × (n ≤ 16) × EntriesSoFar s n at₀ tasks jobs low at i
+
+abbrev μ-loop : tie.MeasureT-loop
+μ-loop s tasks₀ jobs₀ count n low₀ at₀ i₀ tasks jobs low at i = n - i
+
+byte-requires : tie.Need-byte-requires Inv-loop μ-loop
+byte-requires c κs = tt
+
+enum-known-count : tie.Need-enum-known-count Inv-loop μ-loop
+enum-known-count c = c .match .keys1
+
+enum-told : tie.Need-enum-told Inv-loop μ-loop
+enum-told c = c .match .keys2
+
+returns : tie.Need-returns Inv-loop μ-loop
+unfolding rowFrom
+returns c = rw (byte-missing 12 _ _ (sym (c .before .before .byte .ensures) ∙ c .enum-told .given .1) .0)
+
+returns-2 : tie.Need-returns-2 Inv-loop μ-loop
+unfolding rowFrom
+returns-2 c =
+    let one = byte-taken 12 _ _ _ _ (sym (c .before .before .before .before .byte .ensures) ∙ c .before .before .count .given .1) in
+    rw (one .field, lt-leb _ _ (c .if1 .taken))
+
+cast-n : tie.Need-cast-n Inv-loop μ-loop
+cast-n c = omega arith
+
+loop-holds : tie.Need-loop-holds Inv-loop μ-loop
+loop-holds c = (search needs, c .if1 .left, rw (c .before .before .before .before .before .before .pre .0, c .before .before .before .before .before .before .pre .1) (entries-start _ _ _))
+
+read-entry-requires : tie.Need-read-entry-requires Inv-loop μ-loop
+read-entry-requires c κs = tt
+
+enum-known-task : tie.Need-enum-known-task Inv-loop μ-loop
+enum-known-task c = c .match2 .keys1
+
+enum-told-2 : tie.Need-enum-told-2 Inv-loop μ-loop
+enum-told-2 c = c .match2 .keys2
+
+returns-3 : tie.Need-returns-3 Inv-loop μ-loop
+unfolding rowFrom
+returns-3 c =
+    let one = byte-taken 12 _ _ _ _ (sym (c .before .before .before .before .before .before .before .before .before .byte .ensures) ∙ c .before .before .before .before .before .before .before .count .given .1) in
+    let none = rw (c .enum-told2 .given .1) at (c .before .before .read-entry .ensures) in
+    rw (one .field, le-leb _ _ (c .before .before .before .before .before .if1 .left)) (entries-refused _ _ _ _ _ _ _ _ (c .before .before .before .before .loop .inv .2) (c .before .before .before .loop-test .taken) none)
+
+element-write-tasks : tie.Need-element-write-tasks Inv-loop μ-loop
+element-write-tasks c = omega arith
+
+element-write-jobs : tie.Need-element-write-jobs Inv-loop μ-loop
+element-write-jobs c = omega arith
+
+add-low : tie.Need-add-low Inv-loop μ-loop
+add-low c =
+    let entry = rw (c .before .task .given .1) at (c .before .before .before .read-entry .ensures) in
+    omega (arith, entry .1)
+
+add-i : tie.Need-add-i Inv-loop μ-loop
+add-i c = omega arith
+
+loop-less : tie.Need-loop-less Inv-loop μ-loop
+loop-less c = omega arith
+
+loop-again : tie.Need-loop-again Inv-loop μ-loop
+loop-again c =
+    let entry = rw (c .before .task .given .1) at (c .before .before .before .read-entry .ensures) in
+    (search needs, c .before .before .before .before .before .loop .inv .1, entries-more _ _ _ _ _ _ _ _ (c .before .before .before .before .before .loop .inv .2) _ _ _ (c .before .before .before .before .loop-test .taken) entry)
+
+returns-4 : tie.Need-returns-4 Inv-loop μ-loop
+returns-4 c =
+    let one = byte-taken 12 _ _ _ _ (sym (c .before .before .before .before .before .before .byte .ensures) ∙ c .before .before .before .before .count .given .1) in
+    let so = c .before .loop .inv in
+    entries-row _ _ _ _ _ _ _ _ (so .2) _ (c .loop-test .left) (so .0) (so .1) (one .field)
+
+pub read-row-spec : {M : Type 1} → statement M
+read-row-spec =
+    tie.close
+    (tie.spec
+    Inv-loop
+    μ-loop
+    byte-requires
+    enum-known-count
+    enum-told
+    returns
+    returns-2
+    cast-n
+    loop-holds
+    read-entry-requires
+    enum-known-task
+    enum-told-2
+    returns-3
+    element-write-tasks
+    element-write-jobs
+    add-low
+    add-i
+    loop-less
+    loop-again
+    returns-4)

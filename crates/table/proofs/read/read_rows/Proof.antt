@@ -1,0 +1,132 @@
+-- The loop keeps that the rows left, behind those that were read, are what the section has, and the row k once it is read.
+use borrow.Author.Needs.{needs}
+use native.Mathlib.Omega.{arith}
+use Prim.Native.Nat.{_≤_, _-_}
+use mathlib.Core.Path.{refl, sym, _∙_}
+use mathlib.Core.Logic.{⊎-elim}
+use borrow.Author.Tests.{not-true, not-false}
+use Rattle.cursor.specs.FieldLaws.{word-taken, word-missing}
+use Rattle.table.specs.Table.{rowsFrom}
+use Rattle.table.specs.Answers.{tableRead, sizesOf, rowAnswer}
+use Rattle.table.specs.ReadLaws.{RowsSoFar, rows-start, rows-kept, rows-passed, rows-refused, rows-tail, rows-end}
+use Rattle.table.proofs.read.read_rows.Statement.{statement}
+use Rattle.table.proofs.read.read_rows.Tie as tie
+
+abbrev Inv-loop : tie.InvT-loop
+Inv-loop s f h k height kept₀ at₀ i₀ kept at i = (i ≤ height) × RowsSoFar s (record { f = f; h = h }) height at₀ k kept at i
+
+abbrev μ-loop : tie.MeasureT-loop
+μ-loop s f h k height kept₀ at₀ i₀ kept at i = height - i
+
+word-requires : tie.Need-word-requires Inv-loop μ-loop
+word-requires c κs = tt
+
+enum-known-height : tie.Need-enum-known-height Inv-loop μ-loop
+enum-known-height c = c .match .keys1
+
+enum-told : tie.Need-enum-told Inv-loop μ-loop
+enum-told c = c .match .keys2
+
+no-table-requires : tie.Need-no-table-requires Inv-loop μ-loop
+no-table-requires c κs = tt
+
+returns : tie.Need-returns Inv-loop μ-loop
+unfolding rowsFrom tableRead sizesOf rowAnswer
+returns c = c .no-table .ensures ∙ rw (word-missing 12 _ _ (sym (c .before .before .before .word .ensures) ∙ c .before .enum-told .given .1))
+
+height-fits-requires : tie.Need-height-fits-requires Inv-loop μ-loop
+height-fits-requires c κs = tt
+
+no-table-requires-2 : tie.Need-no-table-requires-2 Inv-loop μ-loop
+no-table-requires-2 c κs = tt
+
+returns-2 : tie.Need-returns-2 Inv-loop μ-loop
+unfolding rowsFrom tableRead sizesOf rowAnswer
+returns-2 c =
+    let one = word-taken 12 _ _ _ _ (sym (c .before .before .before .before .before .before .word .ensures) ∙ c .before .before .before .before .height .given .1) in
+    c .no-table2 .ensures ∙ rw (one .field, sym (c .before .before .height-fits .ensures) ∙ not-true _ (c .before .if1 .taken))
+
+refused-row-requires : tie.Need-refused-row-requires Inv-loop μ-loop
+refused-row-requires c κs = tt
+
+loop-holds : tie.Need-loop-holds Inv-loop μ-loop
+loop-holds c = (search needs, rw (c .refused-row .ensures) (rows-start _ _ _ _ _))
+
+read-row-requires : tie.Need-read-row-requires Inv-loop μ-loop
+read-row-requires c κs = (refl, refl)
+
+enum-known-count : tie.Need-enum-known-count Inv-loop μ-loop
+enum-known-count c = c .match2 .keys1
+
+enum-told-2 : tie.Need-enum-told-2 Inv-loop μ-loop
+enum-told-2 c = c .match2 .keys2
+
+no-table-requires-3 : tie.Need-no-table-requires-3 Inv-loop μ-loop
+no-table-requires-3 c κs = tt
+
+returns-3 : tie.Need-returns-3 Inv-loop μ-loop
+unfolding tableRead sizesOf rowAnswer
+returns-3 c =
+    let one = word-taken 12 _ _ _ _ (sym (c .before .before .before .before .before .before .before .before .before .before .before .before .before .before .word .ensures) ∙ c .before .before .before .before .before .before .before .before .before .before .before .before .height .given .1) in
+    let none = rw (c .before .enum-told2 .given .1) at (c .before .before .before .read-row .ensures) in
+    c .no-table3 .ensures ∙ rw (rows-refused _ _ _ _ _ _ _ _ (c .before .before .before .before .before .before .before .loop .inv .1) (one .field) (sym (c .before .before .before .before .before .before .before .before .before .before .height-fits .ensures) ∙ not-false _ (c .before .before .before .before .before .before .before .before .before .if1 .left)) (c .before .before .before .before .before .before .loop-test .taken) none)
+
+add-i : tie.Need-add-i Inv-loop μ-loop
+add-i c = omega arith
+
+loop-less : tie.Need-loop-less Inv-loop μ-loop
+loop-less c = omega arith
+
+loop-again : tie.Need-loop-again Inv-loop μ-loop
+loop-again c =
+    let here = rw (c .before .before .count .given .1) at (c .before .before .before .before .read-row .ensures) in
+    let more = c .before .before .before .before .before .before .before .loop-test .taken in
+    let so = c .before .before .before .before .before .before .before .before .loop .inv .1 in (
+      search needs,
+      ⊎-elim
+          (λ w. rw (w .1) (rows-kept _ _ _ _ _ _ _ _ so _ _ _ _ more here (w .0 .taken)))
+          (λ w. rw (w .1) (rows-passed _ _ _ _ _ _ _ _ so _ _ _ _ more here (w .0 .left)))
+          (c .if2 .came),
+    )
+
+no-table-requires-4 : tie.Need-no-table-requires-4 Inv-loop μ-loop
+no-table-requires-4 c κs = tt
+
+returns-4 : tie.Need-returns-4 Inv-loop μ-loop
+unfolding tableRead sizesOf rowAnswer
+returns-4 c =
+    let one = word-taken 12 _ _ _ _ (sym (c .before .before .before .before .before .before .before .before .before .before .word .ensures) ∙ c .before .before .before .before .before .before .before .before .height .given .1) in
+    c .no-table4 .ensures ∙ rw (rows-tail _ _ _ _ _ _ _ _ (c .before .before .before .loop .inv .1) (one .field) (sym (c .before .before .before .before .before .before .height-fits .ensures) ∙ not-false _ (c .before .before .before .before .before .if1 .left)) (c .before .before .loop-test .left) (c .before .if3 .taken))
+
+returns-5 : tie.Need-returns-5 Inv-loop μ-loop
+returns-5 c =
+    let one = word-taken 12 _ _ _ _ (sym (c .before .before .before .before .before .before .before .before .before .word .ensures) ∙ c .before .before .before .before .before .before .before .height .given .1) in
+    sym (rows-end _ _ _ _ _ _ _ _ (c .before .before .loop .inv .1) (one .field) (sym (c .before .before .before .before .before .height-fits .ensures) ∙ not-false _ (c .before .before .before .before .if1 .left)) (c .before .loop-test .left) (c .before .before .loop .inv .0) (c .if3 .left))
+
+pub read-rows-spec : {M : Type 1} → statement M
+read-rows-spec =
+    tie.close
+    (tie.spec
+    Inv-loop
+    μ-loop
+    word-requires
+    enum-known-height
+    enum-told
+    no-table-requires
+    returns
+    height-fits-requires
+    no-table-requires-2
+    returns-2
+    refused-row-requires
+    loop-holds
+    read-row-requires
+    enum-known-count
+    enum-told-2
+    no-table-requires-3
+    returns-3
+    add-i
+    loop-less
+    loop-again
+    no-table-requires-4
+    returns-4
+    returns-5)

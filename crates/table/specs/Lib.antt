@@ -1,0 +1,12 @@
+pub mod Table
+pub mod WellFormed
+pub mod Answers
+pub mod Layout
+pub mod Steps
+pub mod Left
+pub mod Readings
+pub mod Inverse
+pub mod ReadLaws
+pub mod AnswerLaws
+pub mod WriteLaws
+pub mod LayoutLaws
