@@ -1,0 +1,218 @@
+-- The choice is right: it is a plan exactly if there is one, and then the first; 10 and 9 tell whether some length is plausible.
+-- Lengths are tried by rising F, so as long as none has been chosen, no plan has fewer than F rows. The search at F rows finds the first plan
+-- with that length, or shows that there is none; and a length that is not tried has none, since plausible is necessary.
+use mathlib.Core.Path.{_≡_, refl, sym, ap, subst, _∙_}
+use mathlib.Core.Bool.{Bool, true, false}
+use mathlib.Core.Logic.{_⊎_, inl, inr, ⊎-elim, _↔_}
+use mathlib.Core.List.{List, []}
+use Prim.Native.Nat.{ℕ, zero, suc, _+_, _/_, _%_, _≤_, _<_, _∣_}
+use native.Mathlib.Nat.{eq-or-lt-of-le, div-mul-cancel, mod-eq-zero-of-dvd, dvd-of-mod-eq-zero, dvd-mul-right, div-eq-of-eq-mul-right, le-div-iff-mul-le, mul-le-mul-right}
+use native.Mathlib.Omega.{arith}
+use lib.ListN.{take, getD}
+use lib.Seq.{getD-take}
+use lib.Dec.{eqb}
+use borrow.Author.Tests.{eq-eqb, eqb-true}
+use Rattle.cursor.specs.Choice.{pick}
+use Rattle.cursor.specs.ParsedLaws.{never, both-true}
+use Rattle.arith.specs.Residue.{quotient-pos}
+use Rattle.search.specs.Search.{Found, none, at}
+use Rattle.search.specs.Best.{Earlier}
+use Rattle.search.specs.Placing.{plan}
+use Rattle.search.specs.Plans.{IsPlacing, Right, right}
+use Rattle.model.specs.Plan.{Instance, rowsAt, IsPlan}
+use Rattle.model.specs.Plausible.{plausible}
+use Rattle.model.specs.Chosen.{problemAt, Choice, chosen, noPlan, noPlausible, isTried, foundOr, chooseFrom, choose, IsChosen, NoPlan, RightChoice}
+use Rattle.model.specs.Good.{Good}
+use Rattle.model.specs.PlausibleLaws.{IsPlausible, plausible-says, plausible-needed}
+use Rattle.model.specs.ProblemLaws.{lt-or-ge, placing-is-plan, plan-is-placing, problem-proper}
+
+-- the choice, a length at a time
+module _ (x : Instance) where
+  pub choose-end : (rows : ℕ) (some : Bool) → chooseFrom x 0 rows some ≡ pick some noPlan noPlausible
+  unfolding chooseFrom
+  choose-end rows some = refl
+
+  pub choose-skipped : (n rows : ℕ) (some : Bool) → isTried x rows ≡ false → chooseFrom x (suc n) rows some ≡ chooseFrom x n (rows + 1) some
+  unfolding chooseFrom
+  choose-skipped n rows some e = rw e
+
+  pub choose-tried : (n rows : ℕ) (some : Bool) → isTried x rows ≡ true
+      → chooseFrom x (suc n) rows some ≡ foundOr (x .h / rows) (plan (problemAt x (x .h / rows)) []) (chooseFrom x n (rows + 1) true)
+  unfolding chooseFrom
+  choose-tried n rows some e = rw e
+
+-- a length is known by its rows
+other-way : (h f rows : ℕ) → 0 < h → f ∣ h → h / f ≡ rows → h / rows ≡ f
+other-way h f rows pos d e =
+    div-eq-of-eq-mul-right (omega (arith, quotient-pos h f pos d)) (rw e at (sym (div-mul-cancel f d)))
+
+rows-divide : (h f : ℕ) → f ∣ h → h % (h / f) ≡ 0
+rows-divide h f d = mod-eq-zero-of-dvd (h / f) (rw (div-mul-cancel f d) at (dvd-mul-right (h / f) f))
+
+module _ (x : Instance) (g : Good x) where
+  tried-says : (rows : ℕ) → isTried x rows ≡ true → (x .h % rows ≡ 0) × (plausible x (x .h / rows) ≡ true)
+  unfolding isTried
+  tried-says rows e =
+      let b = both-true (eqb (x .h % rows) 0) _ e in
+      (eqb-true (x .h % rows) 0 (b .0), b .1)
+
+  -- every plausible length is tried
+  plausible-tried : (f : ℕ) → plausible x f ≡ true → isTried x (rowsAt x f) ≡ true
+  unfolding isTried
+  plausible-tried f e =
+      let p : IsPlausible x f = plausible-says x f e in
+      rw (eq-eqb (x .h % rowsAt x f) 0 (rows-divide (x .h) f (p .divides)), other-way (x .h) f (rowsAt x f) (g .some-time) (p .divides) refl) e
+
+  -- so far: no plan has fewer rows, and no plausible length either, unless `some` says so
+  record Passed (rows : ℕ) (some : Bool) : Type 0 where
+    plans : (f : ℕ) (frames : List ℕ) → IsPlan x f frames → rows ≤ rowsAt x f
+    lengths : some ≡ false → (f : ℕ) → plausible x f ≡ true → rows ≤ rowsAt x f
+    known : some ≡ true → (f : ℕ) × (plausible x f ≡ true)
+
+  choice-ends : (rows : ℕ) (some : Bool) → 256 < rows → Passed rows some → RightChoice x (pick some noPlan noPlausible)
+  unfolding RightChoice
+  choice-ends rows some h v = go some refl
+    where
+      no-plan : NoPlan x
+      no-plan f frames p = omega (arith, v .plans f frames p, p .few-rows)
+
+      go : (b : Bool) → some ≡ b → RightChoice x (pick b noPlan noPlausible)
+      go true e = (no-plan, v .known e)
+      go false e = (no-plan, λ f p. omega (arith, v .lengths e f p, plausible-says x f p .few-rows))
+
+  -- a length is passed over
+  skipped : (rows : ℕ) (some : Bool) → isTried x rows ≡ false → Passed rows some → Passed (rows + 1) some
+  skipped rows some e v = record {
+    plans = λ f frames p. more f (v .plans f frames p) (plausible-needed x g f frames p);
+    lengths = λ q f p. more f (v .lengths q f p) p;
+    known = v .known;
+  }
+    where
+      more : (f : ℕ) → rows ≤ rowsAt x f → plausible x f ≡ true → rows + 1 ≤ rowsAt x f
+      more f h p =
+          ⊎-elim (λ q. absurd (never (let t = plausible-tried f p in let u : isTried x (rowsAt x f) ≡ false = rw q at e in cc))) (λ k. omega arith) (eq-or-lt-of-le h)
+
+  -- a length is tried: what it finds is the choice, and if it finds none, there is none with that length
+  module _ (rows : ℕ) (some : Bool) (e : isTried x rows ≡ true) (v : Passed rows some) where
+    abbrev f : ℕ
+    f = x .h / rows
+
+    can : IsPlausible x f
+    can = plausible-says x f (tried-says rows e .1)
+
+    -- the plans with this length are those with this many rows
+    rows-of : rowsAt x f ≡ rows
+    rows-of = other-way (x .h) rows f (g .some-time) (dvd-of-mod-eq-zero rows (tried-says rows e .0)) refl
+
+    found : (frames : List ℕ) → IsPlacing (problemAt x f) frames → ((q : List ℕ) → IsPlacing (problemAt x f) q → (frames ≡ q) ⊎ Earlier frames q) → IsChosen x f frames
+    found frames placing first = record {
+      is-plan = placing-is-plan x g f (can .some) (can .divides) (can .few-rows) frames placing;
+      first = λ f' frames' p. go f' frames' p (eq-or-lt-of-le (smaller f' frames' p));
+    }
+      where
+        smaller : (f' : ℕ) (frames' : List ℕ) → IsPlan x f' frames' → f' ≤ f
+        smaller f' frames' p =
+            let some-row : 0 < rows = rw rows-of at (quotient-pos (x .h) f (g .some-time) (can .divides)) in
+            le-div-iff-mul-le some-row .1 (omega (arith, mul-le-mul-right f' (v .plans f' frames' p), div-mul-cancel f' (p .divides)))
+
+        go : (f' : ℕ) (frames' : List ℕ) → IsPlan x f' frames' → (f' ≡ f) ⊎ (f' < f) → (f' < f) ⊎ ((f' ≡ f) × ((frames ≡ frames') ⊎ Earlier frames frames'))
+        go f' frames' p (inl q) = inr (q, first frames' (plan-is-placing x g f frames' (subst (λ k. IsPlan x k frames') q p)))
+        go f' frames' p (inr h) = inl h
+
+    not-found : ((q : List ℕ) → IsPlacing (problemAt x f) q → ⊥) → Passed (rows + 1) true
+    not-found never-placed = record {
+      plans = λ f' frames p. ⊎-elim (λ q. absurd (never-placed frames (plan-is-placing x g f frames (subst (λ k. IsPlan x k frames) (same f' frames p q) p)))) (λ k. omega arith) (eq-or-lt-of-le (v .plans f' frames p));
+      lengths = λ q. absurd (never (cc));
+      known = λ q. (f, tried-says rows e .1);
+    }
+      where
+        same : (f' : ℕ) (frames : List ℕ) → IsPlan x f' frames → rows ≡ rowsAt x f' → f' ≡ f
+        same f' frames p q = sym (other-way (x .h) f' rows (g .some-time) (p .divides) (sym q))
+
+  choice-right : (n rows : ℕ) (some : Bool) → rows + n ≡ 257 → Passed rows some → RightChoice x (chooseFrom x n rows some)
+  unfolding foundOr Right RightChoice
+  choice-right zero rows some size v = rw (choose-end x rows some) (choice-ends rows some (omega arith) v)
+  choice-right (suc n) rows some size v = go (isTried x rows) refl (choice-right n (rows + 1))
+    where
+      found-or : (o : Found) → isTried x rows ≡ true → Right (problemAt x (x .h / rows)) o
+          → ((some' : Bool) → rows + 1 + n ≡ 257 → Passed (rows + 1) some' → RightChoice x (chooseFrom x n (rows + 1) some'))
+          → RightChoice x (foundOr (x .h / rows) o (chooseFrom x n (rows + 1) true))
+      found-or none e r rest = rest true (omega arith) (not-found rows some e v r)
+      found-or (at frames) e r rest = found rows some e v frames (r .0) (r .1)
+
+      go : (b : Bool) → isTried x rows ≡ b
+          → ((some' : Bool) → rows + 1 + n ≡ 257 → Passed (rows + 1) some' → RightChoice x (chooseFrom x n (rows + 1) some'))
+          → RightChoice x (chooseFrom x (suc n) rows some)
+      go true e rest =
+          rw (choose-tried x n rows some e)
+          (found-or (plan (problemAt x (x .h / rows)) []) e (right (problemAt x (x .h / rows)) (problem-proper x g (x .h / rows) (tried-says rows e .1))) rest)
+      go false e rest = rw (choose-skipped x n rows some e) (rest some (omega arith) (skipped rows some e v))
+
+-- THE THEOREM: the choice is right.
+pub choose-right : (x : Instance) → Good x → RightChoice x (choose x)
+unfolding choose
+choose-right x g =
+    choice-right x g 256 1 false (omega arith) (record {
+      plans = λ f frames p. quotient-pos (x .h) f (g .some-time) (p .divides);
+      lengths = λ q f p. quotient-pos (x .h) f (g .some-time) (plausible-says x f p .divides);
+      known = λ q. absurd (never (cc));
+    })
+
+-- Two lists are not each earlier than the other.
+not-both-earlier : (a b : List ℕ) → Earlier a b → Earlier b a → ⊥
+not-both-earlier a b p q = go (lt-or-ge (p .place) (q .place)) (lt-or-ge (q .place) (p .place))
+  where
+    agree : (c d : List ℕ) (n i : ℕ) → take n c ≡ take n d → i < n → getD c i 0 ≡ getD d i 0
+    agree c d n i e h = sym (getD-take n c i 0 h) ∙ ap (λ l. getD l i 0) e ∙ getD-take n d i 0 h
+
+    go : (p .place < q .place) ⊎ (q .place ≤ p .place) → (q .place < p .place) ⊎ (p .place ≤ q .place) → ⊥
+    go (inl h) t = omega (arith, p .less, agree b a (q .place) (p .place) (q .same) h)
+    go (inr s) (inl h) = omega (arith, q .less, agree a b (p .place) (q .place) (p .same) h)
+    go (inr s) (inr t) =
+        let e : p .place ≡ q .place = omega arith in
+        let less : getD a (q .place) 0 < getD b (q .place) 0 = rw e at (p .less) in
+        omega (arith, q .less)
+
+-- There is one chosen plan at most.
+chosen-once : (x : Instance) (f f' : ℕ) (frames frames' : List ℕ) → IsChosen x f frames → IsChosen x f' frames' → (f ≡ f') × (frames ≡ frames')
+chosen-once x f f' frames frames' c c' = go (c .first f' frames' (c' .is-plan)) (c' .first f frames (c .is-plan))
+  where
+    go : (f' < f) ⊎ ((f' ≡ f) × ((frames ≡ frames') ⊎ Earlier frames frames')) → (f < f') ⊎ ((f ≡ f') × ((frames' ≡ frames) ⊎ Earlier frames' frames))
+        → (f ≡ f') × (frames ≡ frames')
+    go (inl h) (inl k) = absurd (omega arith)
+    go (inl h) (inr (e, r)) = absurd (omega arith)
+    go (inr (e, inl r)) t = (sym e, r)
+    go (inr (e, inr r)) (inl k) = absurd (omega arith)
+    go (inr (e, inr r)) (inr (d, inl s)) = (d, sym s)
+    go (inr (e, inr r)) (inr (d, inr s)) = absurd (not-both-earlier frames frames' r s)
+
+module _ (x : Instance) (g : Good x) where
+  -- A plan is the choice exactly if it is the first of all plans.
+  pub chosen-exactly : (f : ℕ) (frames : List ℕ) → (choose x ≡ chosen f frames) ↔ IsChosen x f frames
+  unfolding RightChoice
+  chosen-exactly f frames = (λ e. subst (RightChoice x) e (choose-right x g), λ c. go c (choose x) refl (choose-right x g))
+    where
+      go : IsChosen x f frames → (c : Choice) → choose x ≡ c → RightChoice x c → choose x ≡ chosen f frames
+      go c (chosen f' frames') e r = let (s, t) = chosen-once x f f' frames frames' c r in rw (e, s, t)
+      go c noPlan e r = absurd (r .0 f frames (c .is-plan))
+      go c noPlausible e r = absurd (r .0 f frames (c .is-plan))
+
+  -- There is a choice exactly if there is a plan.
+  pub some-chosen-exactly : ((f : ℕ) × (frames : List ℕ) × (choose x ≡ chosen f frames)) ↔ ((f : ℕ) × (frames : List ℕ) × IsPlan x f frames)
+  unfolding RightChoice
+  some-chosen-exactly = (λ c. (c .0, c .1, chosen-exactly (c .0) (c .1) .0 (c .2) .is-plan), λ p. go (p .0) (p .1) (p .2) (choose x) refl (choose-right x g))
+    where
+      go : (f : ℕ) (frames : List ℕ) → IsPlan x f frames → (c : Choice) → choose x ≡ c → RightChoice x c → (f : ℕ) × (frames : List ℕ) × (choose x ≡ chosen f frames)
+      go f frames p (chosen f' frames') e r = (f', frames', e)
+      go f frames p noPlan e r = absurd (r .0 f frames p)
+      go f frames p noPlausible e r = absurd (r .0 f frames p)
+
+  -- 9 is answered exactly if no length is plausible.
+  pub no-plausible-exactly : (choose x ≡ noPlausible) ↔ ((f : ℕ) → plausible x f ≡ true → ⊥)
+  unfolding RightChoice
+  no-plausible-exactly = (λ e. subst (RightChoice x) e (choose-right x g) .1, λ never-so. go never-so (choose x) refl (choose-right x g))
+    where
+      go : ((f : ℕ) → plausible x f ≡ true → ⊥) → (c : Choice) → choose x ≡ c → RightChoice x c → choose x ≡ noPlausible
+      go never-so (chosen f frames) e r = absurd (never-so f (plausible-needed x g f frames (r .is-plan)))
+      go never-so noPlan e r = absurd (never-so (r .1 .0) (r .1 .1))
+      go never-so noPlausible e r = e

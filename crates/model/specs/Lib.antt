@@ -1,0 +1,22 @@
+-- The rules of a plan, the chosen plan, and that it is the first of all plans.
+pub mod Plan
+pub mod Plausible
+pub mod Window
+pub mod Phase
+pub mod Disjoint
+pub mod Good
+pub mod Answers
+pub mod PlanLaws
+pub mod PlausibleLaws
+pub mod RuleLaws
+pub mod RowLaws
+pub mod Links
+pub mod LinksLaws
+pub mod Chosen
+pub mod ProblemLaws
+pub mod ChosenLaws
+pub mod Examples
+pub mod Described
+pub mod Places
+pub mod PlanTable
+pub mod LayoutPlan

@@ -1,0 +1,66 @@
+-- A plan of a request, in the words of 01's 'A plan'. A plan gives each job of the cycle its frame; jobs are named by their place in
+-- planning order, so the frames of a plan are a list of numbers, the frame of the first job first.
+use mathlib.Core.Path.{_≡_}
+use mathlib.Core.List.{List, map}
+use Prim.Native.Nat.{ℕ, _+_, _*_, _/_, _≤_, _<_, _∣_}
+use lib.ListN.{length, getD}
+use Rattle.request.specs.Request.{noTask, noPair}
+use Rattle.request.specs.declared.Task.{Task}
+use Rattle.request.specs.declared.Pair.{Pair}
+use Rattle.cycle.specs.Planned.{noJob}
+use Rattle.cycle.specs.declared.Job.{Job}
+use Rattle.search.specs.Placing.{row-sum}
+
+-- what is planned: the tasks and pairs of a request, the length H of its cycle, and the cycle's jobs in planning order
+pub record Instance : Type 0 where
+  pub tasks : List Task
+  pub pairs : List Pair
+  pub h : ℕ
+  pub jobs : List Job
+
+abbrev pub taskAt : Instance → ℕ → Task
+taskAt x i = getD (x .tasks) i noTask
+
+abbrev pub pairAt : Instance → ℕ → Pair
+pairAt x u = getD (x .pairs) u noPair
+
+abbrev pub jobAt : Instance → ℕ → Job
+jobAt x y = getD (x .jobs) y noJob
+
+-- "F = H/f", the number of rows
+abbrev pub rowsAt : Instance → ℕ → ℕ
+rowsAt x f = x .h / f
+
+-- "the C of the jobs in a row": the time that a transfer of the task takes in its row
+unfoldable pub slot : Task → ℕ
+slot task = task .c
+
+unfoldable pub costOf : List Task → Job → ℕ
+costOf tasks job = slot (getD tasks (job .task) noTask)
+
+-- that of each job
+unfoldable pub costs : List Task → List Job → List ℕ
+costs tasks jobs = map (costOf tasks) jobs
+
+-- the frame of the job at place y
+abbrev pub frameAt : List ℕ → ℕ → ℕ
+frameAt frames y = getD frames y 0
+
+-- "Order: for a pair a, b the frame of job j of a is at most the frame of job j of b.": y is the place of the one, z of the other
+abbrev pub PairsKept : Instance → List ℕ → Type 0
+PairsKept x frames = (u : ℕ) → u < length (x .pairs) → (y z : ℕ) → y < length (x .jobs) → z < length (x .jobs)
+    → jobAt x y .task ≡ pairAt x u .a → jobAt x z .task ≡ pairAt x u .b → jobAt x y .number ≡ jobAt x z .number
+    → frameAt frames y ≤ frameAt frames z
+
+pub record IsPlan (x : Instance) (f : ℕ) (frames : List ℕ) : Type 0 where
+  -- "A plan has a frame length f that divides H, with F = H/f at most 256 rows."
+  pub divides : f ∣ x .h
+  pub few-rows : rowsAt x f ≤ 256
+  -- "Each job has one frame k, counted from time 0."
+  pub all : length frames ≡ length (x .jobs)
+  -- "Window: k·f ≥ r and (k+1)·f ≤ r + D."
+  pub not-early : (y : ℕ) → y < length (x .jobs) → jobAt x y .release ≤ frameAt frames y * f
+  pub not-late : (y : ℕ) → y < length (x .jobs) → (frameAt frames y + 1) * f ≤ jobAt x y .due
+  -- "Capacity: the C of the jobs in a row, carried ones included, add up to at most f." A job stands in row k mod F.
+  pub capacity : (r : ℕ) → r < rowsAt x f → row-sum (rowsAt x f) (costs (x .tasks) (x .jobs)) frames r ≤ f
+  pub order : PairsKept x frames

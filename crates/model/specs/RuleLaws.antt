@@ -1,0 +1,45 @@
+-- The loop over the tasks that tests the frame rule of each: what is left at task i, and what is left at task i + 1.
+use mathlib.Core.Path.{_≡_, refl, sym, ap, _∙_}
+use mathlib.Core.Bool.{Bool, true, false}
+use mathlib.Core.List.{List}
+use Prim.Native.Nat.{ℕ, _+_, _*_, _≤_, _<_}
+use native.Mathlib.Omega.{arith}
+use lib.ListN.{length, getD, drop}
+use lib.Dec.{leb}
+use borrow.Author.Tests.{le-leb, lt-leb}
+use Rattle.cursor.specs.Choice.{both}
+use Rattle.cursor.specs.Padded.{firsts, firsts-length, getD-firsts}
+use Rattle.arith.specs.Gcd.{gcdOf}
+use Rattle.request.specs.Request.{noTask}
+use Rattle.request.specs.declared.Task.{Task}
+use Rattle.model.specs.Plan.{slot}
+use Rattle.model.specs.Plausible.{frameRule, frameRules}
+use Rattle.model.specs.PlausibleLaws.{rules-end, rules-next}
+
+module _ (f : ℕ) (places : List Task) (n i : ℕ) where
+  abbrev tasks : List Task
+  tasks = firsts n noTask places
+
+  abbrev x : Task
+  x = getD places i noTask
+
+  turn : i < n → frameRules f (drop i tasks) ≡ both (frameRule f x) (frameRules f (drop (i + 1) tasks))
+  turn l = rules-next f tasks i (omega (arith, firsts-length noTask places n)) ∙ rw (getD-firsts noTask places n i l)
+
+  -- the slot is longer than the frame
+  pub slot-too-long : i < n → f < x .c → false ≡ frameRules f (drop i tasks)
+  unfolding frameRule slot
+  slot-too-long l h = sym (turn l ∙ rw (lt-leb (x .c) f h))
+
+  -- a window may hold no whole frame
+  pub window-too-short : i < n → x .c ≤ f → (g : ℕ) → g ≡ gcdOf f (x .t) → x .d + g < 2 * f → false ≡ frameRules f (drop i tasks)
+  unfolding frameRule slot
+  window-too-short l s g e h = sym (turn l ∙ rw (le-leb (x .c) f s, lt-leb (2 * f) (x .d + gcdOf f (x .t)) (rw e at h)))
+
+  -- the task keeps the rule
+  pub rule-kept : i < n → x .c ≤ f → (g : ℕ) → g ≡ gcdOf f (x .t) → 2 * f ≤ x .d + g → frameRules f (drop (i + 1) tasks) ≡ frameRules f (drop i tasks)
+  unfolding frameRule slot
+  rule-kept l s g e h = sym (turn l ∙ rw (le-leb (x .c) f s, le-leb (2 * f) (x .d + gcdOf f (x .t)) (rw e at h)))
+
+  pub all-kept : n ≤ i → true ≡ frameRules f (drop i tasks)
+  all-kept l = sym (rules-end f tasks i (omega (arith, firsts-length noTask places n)))

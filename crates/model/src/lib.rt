@@ -1,0 +1,54 @@
+// The plausible frame lengths of a request.
+use cycle::Cycle;
+use request::Task;
+ghost use mathlib.Core.Path.{_≡_};
+ghost use Prim.Native.Nat.{_≤_, min};
+ghost use Rattle.cursor.specs.Padded.{firsts};
+ghost use Rattle.request.specs.Request.{noTask};
+ghost use Rattle.model.specs.Plausible.{frameRules, plausible};
+ghost use Rattle.model.specs.Answers.{instanceOf};
+
+// The smaller of the two.
+pub fn at_most(n: usize, limit: usize) -> usize
+    ensures { λ r. ⌜ r ≡ min n limit ⌝ }
+{
+    if n < limit { n } else { limit }
+}
+
+// f ≥ C and 2f − gcd(f, T) ≤ D for the first n tasks.
+fn frame_rules(tasks: [Task; 16], n: usize, f: u16) -> bool
+    requires { ⌜ n ≤ 16 ⌝ }
+    ensures { λ r. ⌜ r ≡ frameRules f (firsts n noTask tasks) ⌝ }
+{
+    let mut i: usize = 0;
+    while i < n {
+        let x = tasks[i];
+        if f < x.c {
+            return false;
+        }
+        let g = arith::gcd(f, x.t);
+        if (x.d as u32) + (g as u32) < 2 * (f as u32) {
+            return false;
+        }
+        i += 1;
+    }
+    true
+}
+
+// Whether f divides the cycle into at most 256 rows and keeps the frame rule of every task.
+pub fn plausible(cycle: Cycle, f: u16) -> bool
+    ensures { λ r. ⌜ r ≡ plausible (instanceOf cycle) f ⌝ }
+{
+    if f < 1 {
+        return false;
+    }
+    if cycle.h % f != 0 {
+        return false;
+    }
+    if 256 < cycle.h / f {
+        return false;
+    }
+    let tasks = cycle.tasks;
+    let n = at_most(cycle.n, 16);
+    frame_rules(tasks, n, f)
+}
