@@ -1,0 +1,27 @@
+-- A task behind the first n is none.
+use Rattle.problem.specs.JobLaws.{cost-unknown, cost-known}
+use borrow.Author.Needs.{needs}
+use Rattle.problem.proofs.cost.Statement.{statement}
+use Rattle.problem.proofs.cost.Tie as tie
+
+cast-i : tie.Need-cast-i
+cast-i c = search needs
+
+returns : tie.Need-returns
+returns c =
+    let s = c .before .before in
+    cost-unknown (s .args .t1) _ (s .args .job) (c .if1 .taken)
+
+mul-x : tie.Need-mul-x
+mul-x c = search needs
+
+array-copy-out-x : tie.Need-array-copy-out-x
+array-copy-out-x c = search needs
+
+returns-2 : tie.Need-returns-2
+returns-2 c =
+    let s = c .before .before .before in
+    cost-known (s .args .t1) _ (s .args .job) (c .before .if1 .left)
+
+pub cost-spec : {M : Type 1} → statement M
+cost-spec = tie.close (tie.spec cast-i returns mul-x array-copy-out-x returns-2)
