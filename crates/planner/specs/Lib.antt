@@ -1,0 +1,6 @@
+pub mod Outcome
+pub mod Choices
+pub mod LengthLaws
+pub mod ChoiceLaws
+pub mod PlanLaws
+pub mod Handed
