@@ -1,0 +1,4 @@
+pub mod Dispatch
+pub mod FrameLaws
+pub mod ReportLaws
+pub mod StepLaws

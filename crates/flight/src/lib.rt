@@ -1,0 +1,1 @@
+// The flight of an accepted table: definitions and laws alone, in specs/.
