@@ -15,7 +15,6 @@ pub mod LinksLaws
 pub mod Chosen
 pub mod ProblemLaws
 pub mod ChosenLaws
-pub mod Examples
 pub mod Described
 pub mod Places
 pub mod PlanTable

@@ -1,0 +1,330 @@
+-- The check accepts exactly the tables that describe a plan, of any frame length.
+-- An accepted table describes the plan read from it: a job's entry is the one its walk stops at, and every entry is such a one. A table that
+-- describes a plan has for each job the plan's entry only, so the walk stops there; and an entry gives its frame, since that is below 2F.
+use Prim.Native.Nat.{ℕ, _+_, _*_, _-_, _%_, _≤_, _<_}
+use mathlib.Core.Path.{_≡_, refl, sym, ap, subst, _∙_}
+use mathlib.Core.Bool.{Bool, true, false}
+use mathlib.Core.List.{List}
+use mathlib.Core.Logic.{_↔_}
+use native.Mathlib.Nat.{mod-eq-of-lt, mod-eq-sub-mod, eq-of-mul-eq-mul-right, div-mul-cancel}
+use native.Mathlib.Omega.{arith}
+use lib.ListN.{length, getD, length-map}
+use lib.Seq.{ext-getD}
+use lib.Dec.{leb, eqb}
+use borrow.Author.Tests.{le-leb, lt-leb, leb-true, leb-false, eq-eqb, eqb-true}
+use Rattle.cursor.specs.Choice.{pick, both}
+use Rattle.cursor.specs.ParsedLaws.{never, both-true}
+use Rattle.request.specs.declared.Task.{Task}
+use Rattle.request.specs.declared.Pair.{Pair}
+use Rattle.cycle.specs.Cycle.{cycle, cycleOf}
+use Rattle.cycle.specs.Planned.{noJob}
+use Rattle.cycle.specs.LimitLaws.{cycle-within}
+use Rattle.cycle.specs.declared.Job.{Job}
+use Rattle.table.specs.Table.{Entry, Table, table, decode, rowOf}
+use Rattle.table.specs.WellFormed.{WellFormed}
+use Rattle.table.specs.Inverse.{decode-wellformed}
+use Rattle.search.specs.Placing.{row-sum}
+use Rattle.model.specs.Plan.{Instance, jobAt, pairAt, rowsAt, frameAt, costs, PairsKept, IsPlan}
+use Rattle.model.specs.Plausible.{plausible}
+use Rattle.model.specs.Good.{Good, same-place}
+use Rattle.model.specs.Answers.{instance, instance-good}
+use Rattle.model.specs.PlanLaws.{map-at}
+use Rattle.model.specs.PlausibleLaws.{IsPlausible, plausible-says, plausible-needed}
+use Rattle.model.specs.RowLaws.{frame-small}
+use Rattle.model.specs.Described.{Among, rowFor, entryFor, StandsIn, Describes, planTable}
+use Rattle.model.specs.PlanTable.{described-height, plan-table-describes}
+use Rattle.model.specs.Chosen.{choose, chosen, IsChosen, RightChoice}
+use Rattle.model.specs.ChosenLaws.{choose-right}
+use Rattle.checker.specs.Checked.{every, isJob, placeIn, frameFor, isFound, frameAtPlace, frameIn, framesIn, isPlaced, isThere, inWindow, windowKept, otherKept, oneKept, pairKept, entryKept, rowsKept, capacityKept, entriesRight, windowsRight, capacityRight, orderRight, rulesRight, Verdict, plan, refusal, planOf, judged, checked}
+use Rattle.checker.specs.EveryLaws.{every-says, says-every, some-says, says-some}
+use Rattle.checker.specs.PlaceLaws.{IsJob, job-says, says-job, entryWith, RightIn, place-right, rows-say, say-rows}
+use Rattle.checker.specs.declared.Place.{Place}
+use Rattle.checker.specs.declared.Place.the-variants.{At, Nowhere}
+
+-- a frame below 2F, its row and its carry
+module _ (rows : ℕ) where
+  frame-row : (r : ℕ) (carried : Bool) → r < rows → frameFor rows r carried % rows ≡ r
+  unfolding frameFor
+  frame-row r true h =
+      let back : r + rows - rows ≡ r = omega arith in
+      mod-eq-sub-mod (omega arith) ∙ rw back (mod-eq-of-lt h)
+  frame-row r false h = let same : r + 0 ≡ r = omega arith in rw same (mod-eq-of-lt h)
+
+  frame-carried : (r : ℕ) (carried : Bool) → r < rows → leb rows (frameFor rows r carried) ≡ carried
+  unfolding frameFor
+  frame-carried r true h = le-leb rows (r + rows) (omega arith)
+  frame-carried r false h = lt-leb rows (r + 0) (omega arith)
+
+  frame-is : (k : ℕ) → k < 2 * rows → frameFor rows (k % rows) (leb rows k) ≡ k
+  unfolding frameFor
+  frame-is k h = go (leb rows k) refl
+    where
+      go : (b : Bool) → leb rows k ≡ b → k % rows + pick b rows 0 ≡ k
+      go true q =
+          let far : rows ≤ k = leb-true rows k q in
+          let less : k % rows ≡ k - rows = mod-eq-sub-mod far ∙ mod-eq-of-lt (omega arith) in
+          omega arith
+      go false q =
+          let less : k % rows ≡ k = mod-eq-of-lt (leb-false rows k q) in
+          omega arith
+
+-- the rules of a plan, and their tests
+
+module _ (jobs : List Job) (frames : List ℕ) (y : ℕ) where
+  there-says : (task number k : ℕ) → isThere jobs frames task number k y ≡ true → IsJob task number (getD jobs y noJob) × (frameAt frames y ≡ k)
+  unfolding isThere
+  there-says task number k e =
+      let b = both-true (isJob task number (getD jobs y noJob)) (eqb (frameAt frames y) k) e in
+      (job-says task number (getD jobs y noJob) (b .0), eqb-true (frameAt frames y) k (b .1))
+
+  says-there : (task number k : ℕ) → IsJob task number (getD jobs y noJob) → frameAt frames y ≡ k → isThere jobs frames task number k y ≡ true
+  unfolding isThere
+  says-there task number k v e = rw (says-job task number (getD jobs y noJob) v, eq-eqb (frameAt frames y) k e)
+
+module _ (x : Instance) (frames : List ℕ) where
+  windows-say : (f : ℕ) → windowsRight x f frames ≡ true → (y : ℕ) → y < length (x .jobs) → (jobAt x y .release ≤ frameAt frames y * f) × ((frameAt frames y + 1) * f ≤ jobAt x y .due)
+  unfolding windowsRight windowKept inWindow
+  windows-say f e y h =
+      let b = both-true (leb (jobAt x y .release) (frameAt frames y * f)) _ (every-says (windowKept (x .jobs) frames f) (length (x .jobs)) e y h) in
+      (leb-true (jobAt x y .release) (frameAt frames y * f) (b .0), leb-true ((frameAt frames y + 1) * f) (jobAt x y .due) (b .1))
+
+  say-windows : (f : ℕ) → ((y : ℕ) → y < length (x .jobs) → (jobAt x y .release ≤ frameAt frames y * f) × ((frameAt frames y + 1) * f ≤ jobAt x y .due)) → windowsRight x f frames ≡ true
+  unfolding windowsRight windowKept inWindow
+  say-windows f h =
+      says-every (windowKept (x .jobs) frames f) (length (x .jobs))
+      (λ y high. rw (le-leb _ _ (h y high .0), le-leb _ _ (h y high .1)))
+
+  capacity-says : (rows f : ℕ) → capacityRight x rows f frames ≡ true → (r : ℕ) → r < rows → row-sum rows (costs (x .tasks) (x .jobs)) frames r ≤ f
+  unfolding capacityRight capacityKept
+  capacity-says rows f e r h = leb-true _ f (every-says (capacityKept rows (costs (x .tasks) (x .jobs)) frames f) rows e r h)
+
+  says-capacity : (rows f : ℕ) → ((r : ℕ) → r < rows → row-sum rows (costs (x .tasks) (x .jobs)) frames r ≤ f) → capacityRight x rows f frames ≡ true
+  unfolding capacityRight capacityKept
+  says-capacity rows f h = says-every (capacityKept rows (costs (x .tasks) (x .jobs)) frames f) rows (λ r high. le-leb _ f (h r high))
+
+  order-says : orderRight x frames ≡ true → PairsKept x frames
+  unfolding orderRight pairKept oneKept otherKept
+  order-says e u hu y z hy hz ty tz num =
+      let n = length (x .jobs) in
+      let pair = every-says (pairKept (x .jobs) frames n (x .pairs)) (length (x .pairs)) e u hu in
+      let one = every-says (oneKept (x .jobs) frames n (pairAt x u .a) (pairAt x u .b)) n pair y hy in
+      let others = rw (eq-eqb (jobAt x y .task) (pairAt x u .a) ty) at one in
+      let other = every-says (otherKept (x .jobs) frames (pairAt x u .b) (jobAt x y .number) (frameAt frames y)) n others z hz in
+      leb-true (frameAt frames y) (frameAt frames z) (rw (says-job (pairAt x u .b) (jobAt x y .number) (jobAt x z) (record { task-is = tz; number-is = sym num })) at other)
+
+  says-order : PairsKept x frames → orderRight x frames ≡ true
+  unfolding orderRight pairKept oneKept otherKept
+  says-order kept =
+      says-every (pairKept (x .jobs) frames (length (x .jobs)) (x .pairs)) (length (x .pairs))
+      (λ u hu. says-every (oneKept (x .jobs) frames (length (x .jobs)) (pairAt x u .a) (pairAt x u .b)) (length (x .jobs)) (λ y hy. one u hu y hy (eqb (jobAt x y .task) (pairAt x u .a)) refl))
+    where
+      other : (u : ℕ) → u < length (x .pairs) → (y : ℕ) → y < length (x .jobs) → jobAt x y .task ≡ pairAt x u .a → (z : ℕ) → z < length (x .jobs)
+          → (b : Bool) → isJob (pairAt x u .b) (jobAt x y .number) (jobAt x z) ≡ b → pick b (leb (frameAt frames y) (frameAt frames z)) true ≡ true
+      other u hu y hy ty z hz true q =
+          let v = job-says (pairAt x u .b) (jobAt x y .number) (jobAt x z) q in
+          le-leb _ _ (kept u hu y z hy hz ty (v .task-is) (sym (v .number-is)))
+      other u hu y hy ty z hz false q = refl
+
+      one : (u : ℕ) → u < length (x .pairs) → (y : ℕ) → y < length (x .jobs) → (b : Bool) → eqb (jobAt x y .task) (pairAt x u .a) ≡ b
+          → pick b (every (length (x .jobs)) (otherKept (x .jobs) frames (pairAt x u .b) (jobAt x y .number) (frameAt frames y))) true ≡ true
+      one u hu y hy true q =
+          says-every (otherKept (x .jobs) frames (pairAt x u .b) (jobAt x y .number) (frameAt frames y)) (length (x .jobs))
+          (λ z hz. other u hu y hy (eqb-true (jobAt x y .task) (pairAt x u .a) q) z hz (isJob (pairAt x u .b) (jobAt x y .number) (jobAt x z)) refl)
+      one u hu y hy false q = refl
+
+-- what was picked, if it is a plan
+picked : (b : Bool) (v : Verdict) (number f : ℕ) (frames : List ℕ) → pick b v (refusal number) ≡ plan f frames → (b ≡ true) × (v ≡ plan f frames)
+picked true v number f frames e = (refl, e)
+picked false v number f frames e = absurd (never (cc))
+
+-- An accepted table describes the plan read from it.
+module _ (x : Instance) (t : Table) (form : WellFormed t) (same-h : t .h ≡ x .h) (can : IsPlausible x (t .f)) where
+  height : length (t .rows) ≡ rowsAt x (t .f)
+  height =
+      eq-of-mul-eq-mul-right (t .f) (can .some) (length (t .rows)) (rowsAt x (t .f))
+      (omega (arith, form .whole, same-h, div-mul-cancel (t .f) (can .divides)))
+
+  abbrev frames : List ℕ
+  frames = framesIn (t .rows) (x .jobs)
+
+  frame-read : (y : ℕ) → y < length (x .jobs) → frameAt frames y ≡ frameIn (t .rows) (jobAt x y)
+  unfolding framesIn
+  frame-read y h = map-at (frameIn (t .rows)) (x .jobs) y h
+
+  -- the entry of a job that the rows give a frame
+  record Placed (y : ℕ) : Type 0 where
+    row : ℕ
+    carried : Bool
+    below : row < length (t .rows)
+    frame : frameAt frames y ≡ frameFor (length (t .rows)) row carried
+    there : Among (entryWith (jobAt x y) carried) (rowOf t row)
+
+  placed : (y : ℕ) → y < length (x .jobs) → isPlaced (t .rows) (x .jobs) y ≡ true → Placed y
+  unfolding isPlaced frameIn
+  placed y h e = go (placeIn (jobAt x y) 0 (t .rows)) (place-right (jobAt x y) 0 (t .rows)) e (frame-read y h)
+    where
+      go : (p : Place) → RightIn (jobAt x y) 0 (t .rows) p → isFound p ≡ true → frameAt frames y ≡ frameAtPlace (length (t .rows)) p → Placed y
+      go (At r carried) right found frame =
+          let (j, is, low, m) = right in
+          let same : r ≡ j = omega arith in
+          record { row = j; carried = carried; below = low; frame = rw same at frame; there = m }
+      go Nowhere right found frame = absurd (never (cc))
+
+  describes : entriesRight x (t .rows) frames ≡ true → Describes x (t .f) frames t
+  unfolding entriesRight entryFor rowFor entryKept
+  describes e =
+      record {
+        form = form;
+        same-f = refl;
+        same-h = same-h;
+        each = λ y h. each y (placed y h (every-says (isPlaced (t .rows) (x .jobs)) (length (x .jobs)) (tests .0) y h));
+        only = λ r h a m. only r h a (rows-say (x .jobs) frames (length (x .jobs)) (length (t .rows)) 0 (t .rows) (tests .1) r h a m);
+      }
+    where
+      tests : (every (length (x .jobs)) (isPlaced (t .rows) (x .jobs)) ≡ true) × (rowsKept (x .jobs) frames (length (x .jobs)) (length (t .rows)) 0 (t .rows) ≡ true)
+      tests = both-true (every (length (x .jobs)) (isPlaced (t .rows) (x .jobs))) (rowsKept (x .jobs) frames (length (x .jobs)) (length (t .rows)) 0 (t .rows)) e
+
+      each : (y : ℕ) → Placed y → Among (entryFor x (t .f) frames y) (rowOf t (rowFor x (t .f) frames y))
+      each y p =
+          rw (← height, p .frame, frame-row (length (t .rows)) (p .row) (p .carried) (p .below), frame-carried (length (t .rows)) (p .row) (p .carried) (p .below)) (p .there)
+
+      only : (r : ℕ) → r < length (t .rows) → (a : Entry) → entryKept (x .jobs) frames (length (x .jobs)) (length (t .rows)) (0 + r) a ≡ true → (y : ℕ) × StandsIn x (t .f) frames r a y
+      only r h a q =
+          let same : 0 + r ≡ r = omega arith in
+          let (y, within, there) = some-says (isThere (x .jobs) frames (a .task) (a .number) (frameFor (length (t .rows)) r (a .carried))) (length (x .jobs)) (rw same at q) in
+          let (job, frame) = there-says (x .jobs) frames y (a .task) (a .number) (frameFor (length (t .rows)) r (a .carried)) there in
+          let row-is : frameAt frames y % rowsAt x (t .f) ≡ r = rw (← height, frame) (frame-row (length (t .rows)) r (a .carried) h) in
+          let carry-is : leb (rowsAt x (t .f)) (frameAt frames y) ≡ a .carried = rw (← height, frame) (frame-carried (length (t .rows)) r (a .carried) h) in
+          (y, record { within = within; in-row = row-is; is-entry = λ i. record { task = sym (job .task-is) i; number = sym (job .number-is) i; carried = sym carry-is i } })
+
+  is-plan : rulesRight x (length (t .rows)) (t .f) frames ≡ true → IsPlan x (t .f) frames
+  unfolding rulesRight framesIn
+  is-plan e =
+      let b = both-true (windowsRight x (t .f) frames) _ e in
+      let c = both-true (capacityRight x (length (t .rows)) (t .f) frames) (orderRight x frames) (b .1) in
+      record {
+        divides = can .divides;
+        few-rows = can .few-rows;
+        all = length-map (x .jobs) (frameIn (t .rows));
+        not-early = λ y h. windows-say x frames (t .f) (b .0) y h .0;
+        not-late = λ y h. windows-say x frames (t .f) (b .0) y h .1;
+        capacity = rw (← height) (capacity-says x frames (length (t .rows)) (t .f) (c .0));
+        order = order-says x frames (c .1);
+      }
+
+judged-plan : (x : Instance) (t : Table) → WellFormed t → (f : ℕ) (frames : List ℕ) → judged x t ≡ plan f frames → IsPlan x f frames × Describes x f frames t
+unfolding judged planOf
+judged-plan x t form f frames e =
+    let one = picked (both (eqb (t .h) (x .h)) (plausible x (t .f))) (planOf x (t .f) (t .rows)) 13 f frames e in
+    let tests = both-true (eqb (t .h) (x .h)) (plausible x (t .f)) (one .0) in
+    let read = framesIn (t .rows) (x .jobs) in
+    let two = picked (both (entriesRight x (t .rows) read) (rulesRight x (length (t .rows)) (t .f) read)) (plan (t .f) read) 14 f frames (one .1) in
+    let rules = both-true (entriesRight x (t .rows) read) (rulesRight x (length (t .rows)) (t .f) read) (two .0) in
+    let same-f : t .f ≡ f = cc in
+    let same-frames : read ≡ frames = cc in
+    let same-h : t .h ≡ x .h = eqb-true (t .h) (x .h) (tests .0) in
+    let can : IsPlausible x (t .f) = plausible-says x (t .f) (tests .1) in
+    rw (← same-f, ← same-frames) (is-plan x t form same-h can (rules .1), describes x t form same-h can (rules .0))
+
+-- A table that describes a plan is accepted, and the plan is read from it.
+module _ (x : Instance) (g : Good x) (t : Table) (frames : List ℕ) (v : IsPlan x (t .f) frames) (d : Describes x (t .f) frames t) where
+  high : length (t .rows) ≡ rowsAt x (t .f)
+  high = described-height x g (t .f) frames v t d
+
+  -- an entry of row r that names the job at place y gives its frame
+  entry-frame : (y r : ℕ) (e : Entry) → y < length (x .jobs) → r < length (t .rows) → Among e (rowOf t r) → IsJob (e .task) (e .number) (jobAt x y)
+      → frameFor (length (t .rows)) r (e .carried) ≡ frameAt frames y
+  unfolding rowFor entryFor
+  entry-frame y r e hy h m names = let (z, stands) = d .only r h e m in go z stands
+    where
+      go : (z : ℕ) → StandsIn x (t .f) frames r e z → frameFor (length (t .rows)) r (e .carried) ≡ frameAt frames y
+      go z s =
+          let task : e .task ≡ jobAt x z .task = ap (λ a. a .task) (s .is-entry) in
+          let number : e .number ≡ jobAt x z .number = ap (λ a. a .number) (s .is-entry) in
+          let carried : e .carried ≡ leb (rowsAt x (t .f)) (frameAt frames z) = ap (λ a. a .carried) (s .is-entry) in
+          let here : y ≡ z = same-place x g y z hy (s .within) (names .task-is ∙ task) (names .number-is ∙ number) in
+          rw (high, ← s .in-row, carried, frame-is (rowsAt x (t .f)) (frameAt frames z) (frame-small x g (t .f) frames v z (s .within))) (ap (frameAt frames) (sym here))
+
+  -- the walk for a job stops at its entry
+  walked : (y : ℕ) → y < length (x .jobs) → (isPlaced (t .rows) (x .jobs) y ≡ true) × (frameIn (t .rows) (jobAt x y) ≡ frameAt frames y)
+  unfolding isPlaced frameIn entryFor
+  walked y h = go (placeIn (jobAt x y) 0 (t .rows)) (place-right (jobAt x y) 0 (t .rows))
+    where
+      go : (p : Place) → RightIn (jobAt x y) 0 (t .rows) p → (isFound p ≡ true) × (frameAtPlace (length (t .rows)) p ≡ frameAt frames y)
+      go (At r carried) right =
+          let (j, is, low, m) = right in
+          let same : r ≡ j = omega arith in
+          (refl, rw same (entry-frame y j (entryWith (jobAt x y) carried) h low m (record { task-is = refl; number-is = refl })))
+      go Nowhere right = absurd (right (rowFor x (t .f) frames y) (entryFor x (t .f) frames y) (d .each y h) (record { task-is = refl; number-is = refl }))
+
+  frames-read : framesIn (t .rows) (x .jobs) ≡ frames
+  unfolding framesIn
+  frames-read =
+      let count = length-map (x .jobs) (frameIn (t .rows)) in
+      ext-getD 0 (framesIn (t .rows) (x .jobs)) frames (count ∙ sym (v .all))
+      (λ y h. let low : y < length (x .jobs) = rw count at h in map-at (frameIn (t .rows)) (x .jobs) y low ∙ walked y low .1)
+
+  entries-right : entriesRight x (t .rows) frames ≡ true
+  unfolding entriesRight entryKept entryFor
+  entries-right =
+      rw (says-every (isPlaced (t .rows) (x .jobs)) (length (x .jobs)) (λ y h. walked y h .0))
+      (say-rows (x .jobs) frames (length (x .jobs)) (length (t .rows)) 0 (t .rows) (λ r h e m. let (y, stands) = d .only r h e m in go r h e m y stands))
+    where
+      go : (r : ℕ) → r < length (t .rows) → (e : Entry) → Among e (rowOf t r) → (y : ℕ) → StandsIn x (t .f) frames r e y
+          → entryKept (x .jobs) frames (length (x .jobs)) (length (t .rows)) (0 + r) e ≡ true
+      go r h e m y s =
+          let same : 0 + r ≡ r = omega arith in
+          let names : IsJob (e .task) (e .number) (jobAt x y) = record { task-is = ap (λ a. a .task) (sym (s .is-entry)); number-is = ap (λ a. a .number) (sym (s .is-entry)) } in
+          rw same (says-some (isThere (x .jobs) frames (e .task) (e .number) (frameFor (length (t .rows)) r (e .carried))) (length (x .jobs)) y (s .within)
+          (says-there (x .jobs) frames y (e .task) (e .number) (frameFor (length (t .rows)) r (e .carried)) names (sym (entry-frame y r e (s .within) h m names))))
+
+  rules-right : rulesRight x (length (t .rows)) (t .f) frames ≡ true
+  unfolding rulesRight
+  rules-right =
+      rw (say-windows x frames (t .f) (λ y h. (v .not-early y h, v .not-late y h)), says-capacity x frames (length (t .rows)) (t .f) (rw high (v .capacity)), says-order x frames (v .order))
+
+  plan-judged : judged x t ≡ plan (t .f) frames
+  unfolding judged planOf
+  plan-judged =
+      rw (eq-eqb (t .h) (x .h) (d .same-h), plausible-needed x g (t .f) frames v, frames-read, entries-right, rules-right)
+
+module _ (tasks : List Task) (pairs : List Pair) (h : ℕ) (jobs : List Job) (request bytes : List ℕ) (t : Table)
+    (within : cycleOf request ≡ cycle tasks pairs h jobs) (read : decode bytes ≡ table t) where
+  abbrev x : Instance
+  x = instance tasks pairs h jobs
+
+  good : Good x
+  good = instance-good tasks pairs h jobs (cycle-within request tasks pairs h jobs within)
+
+  checked-is : checked (cycleOf request) (decode bytes) ≡ judged x t
+  unfolding checked
+  checked-is = rw (within, read)
+
+  plan-accepted : (f : ℕ) (frames : List ℕ) → IsPlan x f frames → Describes x f frames t → judged x t ≡ plan f frames
+  plan-accepted f frames v d =
+      let e : t .f ≡ f = d .same-f in
+      plan-judged x good t frames (subst (λ k. IsPlan x k frames) (sym e) v) (subst (λ k. Describes x k frames t) (sym e) d) ∙ ap (λ k. plan k frames) e
+
+  -- THE THEOREM: the check accepts a table, and reads this plan from it, exactly if it is a plan and the table describes it.
+  pub accepts-described : (f : ℕ) (frames : List ℕ) → (checked (cycleOf request) (decode bytes) ≡ plan f frames) ↔ (IsPlan x f frames × Describes x f frames t)
+  accepts-described f frames = (
+    λ e. judged-plan x t (decode-wellformed bytes t read) f frames (sym checked-is ∙ e),
+    λ p. checked-is ∙ plan-accepted f frames (p .0) (p .1),
+  )
+
+  -- 13 comes before 14: it is given for another H or a length that is not plausible, whatever else is broken
+  pub thirteen-first : both (eqb (t .h) h) (plausible x (t .f)) ≡ false → checked (cycleOf request) (decode bytes) ≡ refusal 13
+  unfolding judged
+  thirteen-first e = checked-is ∙ rw e
+
+-- the table of the chosen plan is accepted
+pub chosen-accepted : (tasks : List Task) (pairs : List Pair) (h : ℕ) (jobs : List Job) (request bytes : List ℕ) → cycleOf request ≡ cycle tasks pairs h jobs
+    → (f : ℕ) (frames : List ℕ) → choose (instance tasks pairs h jobs) ≡ chosen f frames → decode bytes ≡ table (planTable (instance tasks pairs h jobs) f frames)
+    → checked (cycleOf request) (decode bytes) ≡ plan f frames
+unfolding RightChoice
+chosen-accepted tasks pairs h jobs request bytes within f frames e read =
+    let x = instance tasks pairs h jobs in
+    let w = cycle-within request tasks pairs h jobs within in
+    let right : IsChosen x f frames = rw e at (choose-right x (instance-good tasks pairs h jobs w)) in
+    accepts-described tasks pairs h jobs request bytes (planTable x f frames) within read f frames .1
+    (right .is-plan, plan-table-describes x (instance-good tasks pairs h jobs w) f frames (right .is-plan) (w .h-few))

@@ -1,0 +1,26 @@
+-- The check reads the plan, and the plan is written; each way out is one of the definition's cases.
+use mathlib.Core.Path.{_≡_, refl, sym, _∙_, ap}
+use Rattle.rewriter.specs.RewriteLaws.{not-read, was-read}
+use borrow.Author.Needs.{needs}
+use Rattle.rewriter.proofs.rewrite.Statement.{statement}
+use Rattle.rewriter.proofs.rewrite.Tie as tie
+
+read-plan-requires : tie.Need-read-plan-requires
+read-plan-requires c κs = search needs
+
+returns : tie.Need-returns
+returns c = not-read _ _ _ (c .before .before .read-plan .ensures) (c .if1 .taken) _
+
+write-requires : tie.Need-write-requires
+write-requires c κs = search needs
+
+same-length : tie.Need-same-length
+same-length c = search needs
+
+returns-2 : tie.Need-returns-2
+returns-2 c =
+    let read = was-read _ _ _ (c .before .before .before .before .before .before .before .read-plan .ensures) (c .before .before .before .before .before .if1 .left) _ in
+    (c .before .before .write .ensures .0 ∙ read .0, c .before .before .write .ensures .1 ∙ read .1)
+
+pub rewrite-spec : {M : Type 1} → statement M
+rewrite-spec = tie.close (tie.spec read-plan-requires returns write-requires same-length returns-2)
