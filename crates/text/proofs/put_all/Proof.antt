@@ -1,0 +1,73 @@
+-- The loop keeps that putting the bytes left, behind those put, gives the answer.
+use borrow.Author.Needs.{needs}
+use Prim.Native.Nat.{_≤_, _-_}
+use mathlib.Core.Path.{_≡_, sym, _∙_}
+use native.Mathlib.Omega.{arith}
+use lib.ListN.{length, drop}
+use Rattle.text.specs.Text.{filledTo, putAllOf}
+use Rattle.text.specs.TextLaws.{put-turn, put-ended}
+use Rattle.text.proofs.put_all.Statement.{statement}
+use Rattle.text.proofs.put_all.Tie as tie
+use Rattle.text.proofs.put_all.Reads as reads
+use Rattle.text.proofs.put_all.Lts as lts
+use Rattle.text.proofs.put.Reads as put-reads
+
+abbrev Inv-loop : tie.InvT-loop
+Inv-loop out₀ at text end₀ i₀ out end i = (i ≤ length text) × (length out ≡ length out₀) × (putAllOf (filledTo end out) (drop i text) ≡ putAllOf (filledTo at out₀) text)
+
+abbrev μ-loop : tie.MeasureT-loop
+μ-loop out₀ at text end₀ i₀ out end i = length text - i
+
+-- src/lib.rt:23:5
+loop-holds : tie.Need-loop-holds Inv-loop μ-loop
+loop-holds c = search needs
+
+-- src/lib.rt:24:29
+shared-slice-read-put : tie.Need-shared-slice-read-put Inv-loop μ-loop
+shared-slice-read-put c = search needs
+
+-- src/lib.rt:24:9
+put-requires : tie.Need-put-requires Inv-loop μ-loop
+put-requires c κs = search needs
+
+-- src/lib.rt:25:9
+add-i : tie.Need-add-i Inv-loop μ-loop
+add-i c = search needs
+
+-- src/lib.rt:23:5
+loop-less : tie.Need-loop-less Inv-loop μ-loop
+loop-less c = search needs
+
+-- src/lib.rt:23:5
+loop-again : tie.Need-loop-again Inv-loop μ-loop
+loop-again c =
+    let s = c .before .before .before .before .before .before .before .before .before in
+    let l = c .before .before .before .before .before .before .loop in
+    let more = c .before .before .before .before .before .loop-test .taken in (
+      omega (arith, more),
+      c .before .before .put .kept .0 ∙ l .inv .1,
+      rw (c .before .before .put .ensures) (put-turn _ _ (l .i) more) ∙ l .inv .2,
+    )
+
+-- src/lib.rt:18:1
+same-length : tie.Need-same-length Inv-loop μ-loop
+same-length c = search needs
+
+-- src/lib.rt:18:1
+returns : tie.Need-returns Inv-loop μ-loop
+returns c = sym (put-ended _ (c .before .before .before .before .args .text .now) (c .before .loop .i) (c .loop-test .left)) ∙ c .before .loop .inv .2
+
+pub put-all-spec : {M : Type 1} → statement M
+put-all-spec =
+    tie.close
+    (tie.spec
+    Inv-loop
+    μ-loop
+    loop-holds
+    shared-slice-read-put
+    put-requires
+    add-i
+    loop-less
+    loop-again
+    same-length
+    returns)
