@@ -47,7 +47,7 @@ not-read request bytes r e ne out = go (cycleOf request) (checker.checked (cycle
     go (noCycle k) (checker.refusal n) q = number n (ap (λ (y : Read). y .refusal) q)
 
 -- a plan that the check reads is one
-read-plan : (request bytes : List ℕ) (tasks : List Task) (pairs : List Pair) (h : ℕ) (jobs : List Job) → cycleOf request ≡ cycle tasks pairs h jobs → (f : ℕ) (frames : List ℕ)
+pub read-plan : (request bytes : List ℕ) (tasks : List Task) (pairs : List Pair) (h : ℕ) (jobs : List Job) → cycleOf request ≡ cycle tasks pairs h jobs → (f : ℕ) (frames : List ℕ)
     → checker.checked (cycleOf request) (decode bytes) ≡ checker.plan f frames → IsPlan (instance tasks pairs h jobs) f frames
 unfolding checker.checked
 read-plan request bytes tasks pairs h jobs within f frames e = go (decode bytes) refl (rw within at e)

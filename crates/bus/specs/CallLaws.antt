@@ -1,0 +1,177 @@
+-- Each way out of a call, as its definition has it; and that the lengths and numbers of entries are small.
+use Prim.Native.Nat.{ℕ, _+_, _*_, _≤_, _<_}
+use mathlib.Core.Path.{_≡_, refl, sym, ap, _∙_}
+use mathlib.Core.Bool.{Bool, true, false}
+use mathlib.Core.List.{List, _++_}
+use native.Mathlib.Omega.{arith}
+use lib.IntN.{ℤ, pos}
+use lib.ListN.{length, drop}
+use lib.Dec.{ltb}
+use borrow.Author.Tests.{lt-ltb, le-ltb}
+use Rattle.cursor.specs.Choice.{pick, both}
+use Rattle.request.specs.Request.{reading}
+use Rattle.cycle.specs.Cycle.{Cycle, cycle, noCycle, cycleOf}
+use Rattle.cycle.specs.LimitLaws.{cycle-within}
+use Rattle.table.specs.Table.{Table, Decoded, table, malformed, decode, encode, rowOf}
+use Rattle.table.specs.Layout as layout
+use Rattle.table.specs.Inverse.{rising-few, decode-wellformed}
+use Rattle.table.specs.Answers.{rowGiven}
+use Rattle.table.specs.AnswerLaws.{row-rises}
+use Rattle.table.specs.declared.Written.{Written}
+use Rattle.model.specs.Plan.{Instance}
+use Rattle.model.specs.Good.{Good}
+use Rattle.model.specs.Answers.{instance, instance-good}
+use Rattle.model.specs.Chosen.{Choice, chosen, noPlan, noPlausible, choose, RightChoice}
+use Rattle.model.specs.ChosenLaws.{choose-right}
+use Rattle.model.specs.Described.{planTable}
+use Rattle.model.specs.PlanTable.{plan-table-length}
+use Rattle.planner.specs.Outcome.{Outcome, handed, refusal, outcome, inCycle, byChoice, answer}
+use Rattle.checker.specs.Checked.{checked, numberOf}
+use Rattle.dispatcher.specs.Dispatch.{served, moved, noFrame, shown, nextFrame, freshState, reported}
+use Rattle.dispatcher.specs.FrameLaws.{served-rises}
+use Rattle.dispatcher.specs.declared.State.{State}
+use Rattle.dispatcher.specs.declared.Frame.{Frame}
+use Rattle.dispatcher.specs.declared.Reported.{Reported}
+use Rattle.bus.specs.Reply.{refused, reply, after}
+use Rattle.bus.specs.ReplyLaws.{reply-refused, reply-value, after-refusal, after-value}
+use Rattle.bus.specs.State.{isState, stateOf, stateBytes, pairBytes, zeros}
+use Rattle.bus.specs.Calls.{planReply, checkReply, freshReply, freshBytes, frameOf, canServe, frameReply, frameState, shownBytes, frameEntries, reportOf, reportReply, reportState}
+
+-- bus_plan
+
+pub written-few : (t : Table) (out : List ℕ) → length (encode t) < 65536 → layout.written t out .length < 65536
+unfolding layout.written
+written-few t out h = go (layout.tooShort t out)
+  where
+    go : (b : Bool) → pick {A = Written} b (record { refusal = 11; length = 0 }) (record { refusal = 0; length = length (encode t) }) .length < 65536
+    go true = omega arith
+    go false = h
+
+-- 7 + F + 2·(number of jobs), of at most 256 rows and 128 jobs
+pub plan-few : (request out : List ℕ) → answer (outcome request) out .length < 65536
+unfolding answer outcome RightChoice
+plan-few request out = by-cycle (cycleOf request) refl
+  where
+    by-choice : (x : Instance) → Good x → (o : Choice) → RightChoice x o → answer (byChoice x o) out .length < 65536
+    by-choice x good (chosen f frames) r =
+        written-few (planTable x f frames) out
+        (omega (arith, plan-table-length x good f frames (r .is-plan), r .is-plan .few-rows, good .few-jobs))
+    by-choice x good noPlan r = omega arith
+    by-choice x good noPlausible r = omega arith
+
+    by-cycle : (c : Cycle) → cycleOf request ≡ c → answer (inCycle c) out .length < 65536
+    by-cycle (cycle tasks pairs h jobs) e =
+        let good = instance-good tasks pairs h jobs (cycle-within request tasks pairs h jobs e) in
+        by-choice (instance tasks pairs h jobs) good (choose (instance tasks pairs h jobs)) (choose-right (instance tasks pairs h jobs) good)
+    by-cycle (noCycle number) e = omega arith
+
+module _ (request out : List ℕ) (w : Written) (e : w ≡ answer (outcome request) out) where
+  pub plan-refused : (w .refusal ≡ 0 → ⊥) → refused (w .refusal) ≡ planReply request out
+  unfolding planReply
+  plan-refused h = reply-refused (w .refusal) (w .length) h ∙ ap (λ (x : Written). reply (x .refusal) (x .length)) e
+
+  pub plan-written : w .refusal ≡ 0 → pos (w .length) ≡ planReply request out
+  unfolding planReply
+  plan-written h = reply-value (w .refusal) (w .length) h ∙ ap (λ (x : Written). reply (x .refusal) (x .length)) e
+
+-- bus_check
+
+module _ (request bytes : List ℕ) (number : ℕ) (e : number ≡ numberOf (checked (cycleOf request) (decode bytes))) where
+  pub check-refused : (number ≡ 0 → ⊥) → refused number ≡ checkReply request bytes
+  unfolding checkReply
+  check-refused h = reply-refused number 0 h ∙ ap (λ (n : ℕ). reply n 0) e
+
+  pub check-passed : number ≡ 0 → pos 0 ≡ checkReply request bytes
+  unfolding checkReply
+  check-passed h = reply-value number 0 h ∙ ap (λ (n : ℕ). reply n 0) e
+
+-- bus_fresh
+
+module _ (state : List ℕ) where
+  pub fresh-refused : length state < 64 → (refused 99 ≡ freshReply state) × (state ≡ freshBytes state)
+  unfolding freshReply freshBytes
+  fresh-refused h = let e = lt-ltb (length state) 64 h in (rw e, rw e)
+
+  pub fresh-made : 64 ≤ length state → (pos 0 ≡ freshReply state) × (stateBytes freshState (zeros 64 ++ drop 64 state) ≡ freshBytes state)
+  unfolding freshReply freshBytes
+  fresh-made h = let e = le-ltb (length state) 64 h in (rw e, rw e)
+
+-- bus_next_frame
+
+-- at most 16 entries
+pub frame-few : (bytes : List ℕ) (s : State) → nextFrame (decode bytes) s .count < 65536
+unfolding nextFrame rowGiven
+frame-few bytes s = go (decode bytes) refl
+  where
+    below : (t : Table) → decode bytes ≡ table t → (b : Bool) → pick b (shown (served (s .first) (rowOf t (s .row))) (moved (length (t .rows)) s)) (noFrame 15 s) .count < 65536
+    below t is true =
+        let es = served (s .first) (rowOf t (s .row)) in
+        let rises = served-rises (s .first) (rowOf t (s .row)) (row-rises t (s .row) (decode-wellformed bytes t is)) in
+        omega (arith, rising-few es 0 (omega arith) rises)
+    below t is false = omega arith
+
+    go : (d : Decoded) → decode bytes ≡ d → nextFrame d s .count < 65536
+    go (table t) is = below t is (ltb (s .row) (length (t .rows)))
+    go malformed is = omega arith
+
+module _ (bytes state entries : List ℕ) where
+  abbrev pub Answered : ℤ → List ℕ → List ℕ → Type 0
+  Answered z state′ entries′ = (z ≡ frameReply bytes state entries) × (state′ ≡ frameState bytes state entries) × (entries′ ≡ frameEntries bytes state entries)
+
+  not-served : canServe state entries ≡ false → Answered (refused 99) state entries
+  unfolding frameReply frameState frameEntries
+  not-served e = (rw e, rw e, rw e)
+
+  pub no-state : isState state ≡ false → Answered (refused 99) state entries
+  unfolding canServe
+  no-state e = not-served (rw e)
+
+  pub no-room : isState state ≡ true → length entries < 32 → Answered (refused 99) state entries
+  unfolding canServe
+  no-room e h = not-served (rw (e, lt-ltb (length entries) 32 h))
+
+  module _ (is : isState state ≡ true) (room : 32 ≤ length entries) (frame : Frame) (e : frame ≡ frameOf bytes state) where
+    can : canServe state entries ≡ true
+    unfolding canServe
+    can = rw (is, le-ltb (length entries) 32 room)
+
+    pub frame-refused : (frame .refusal ≡ 0 → ⊥) → Answered (refused (frame .refusal)) state entries
+    unfolding frameReply frameState frameEntries
+    frame-refused h = rw (can, ← e) (
+      reply-refused (frame .refusal) (frame .count) h,
+      after-refusal (frame .refusal) (stateBytes (frame .state) state) state h,
+      after-refusal (frame .refusal) (shownBytes frame entries) entries h,
+    )
+
+    pub frame-made : frame .refusal ≡ 0 → Answered (pos (frame .count)) (stateBytes (frame .state) state) (shownBytes frame entries)
+    unfolding frameReply frameState frameEntries
+    frame-made h = rw (can, ← e) (
+      reply-value (frame .refusal) (frame .count) h,
+      after-value (frame .refusal) (stateBytes (frame .state) state) state h,
+      after-value (frame .refusal) (shownBytes frame entries) entries h,
+    )
+
+-- bus_report
+
+module _ (request : List ℕ) (task ticks : ℕ) (state : List ℕ) where
+  abbrev pub Taken : ℤ → List ℕ → Type 0
+  Taken z state′ = (z ≡ reportReply request task ticks state) × (state′ ≡ reportState request task ticks state)
+
+  pub not-taken : isState state ≡ false → Taken (refused 99) state
+  unfolding reportReply reportState
+  not-taken e = (rw e, rw e)
+
+  module _ (is : isState state ≡ true) (r : Reported) (e : r ≡ reportOf request task ticks state) where
+    pub report-refused : (r .refusal ≡ 0 → ⊥) → Taken (refused (r .refusal)) state
+    unfolding reportReply reportState
+    report-refused h = rw (is, ← e) (
+      reply-refused (r .refusal) 0 h,
+      after-refusal (r .refusal) (stateBytes (r .state) state) state h,
+    )
+
+    pub report-made : r .refusal ≡ 0 → Taken (pos 0) (stateBytes (r .state) state)
+    unfolding reportReply reportState
+    report-made h = rw (is, ← e) (
+      reply-value (r .refusal) 0 h,
+      after-value (r .refusal) (stateBytes (r .state) state) state h,
+    )

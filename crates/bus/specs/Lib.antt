@@ -1,0 +1,7 @@
+pub mod Reply
+pub mod ReplyLaws
+pub mod State
+pub mod StateLaws
+pub mod Calls
+pub mod CallLaws
+pub mod Rewrite

@@ -1,0 +1,16 @@
+-- What C gets: a number from 0 on, or the number of a refusal negated.
+use Prim.Native.Nat.{ℕ}
+use lib.IntN.{ℤ, pos, negℤ}
+use lib.Dec.{eqb}
+use Rattle.cursor.specs.Choice.{pick}
+
+abbrev pub refused : ℕ → ℤ
+refused number = negℤ (pos number)
+
+-- the refusal 0 is none
+unfoldable pub reply : ℕ → ℕ → ℤ
+reply refusal value = pick (eqb refusal 0) (pos value) (refused refusal)
+
+-- a buffer after a call: on a refusal it is as it was
+unfoldable pub after : {A : Type 0} → ℕ → A → A → A
+after refusal new old = pick (eqb refusal 0) new old

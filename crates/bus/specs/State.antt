@@ -1,0 +1,40 @@
+-- The bytes that the caller lends: 64 for the dispatcher's state, of which the first five are used, and 32 for the entries.
+use Prim.Native.Nat.{ℕ, zero, suc, _+_, _*_}
+use mathlib.Core.Bool.{Bool, true, false}
+use mathlib.Core.List.{List, [], _∷_, _++_}
+use lib.ListN.{length, getD, drop, replicate}
+use lib.Dec.{ltb, eqb}
+use Rattle.cursor.specs.Choice.{pick}
+use Rattle.table.specs.Table.{wordBytes}
+use Rattle.dispatcher.specs.declared.State.{State}
+
+-- 64 bytes or more, and a mark that is 0 or 1
+unfoldable pub isState : List ℕ → Bool
+isState bytes = pick (ltb (length bytes) 64) false (ltb (getD bytes 2 0) 2)
+
+-- low byte first
+abbrev pub wordOf : ℕ → ℕ → ℕ
+wordOf low high = low + high * 256
+
+-- bytes 0 and 1 the row, 2 the mark, 3 and 4 the count
+unfoldable pub stateOf : List ℕ → State
+stateOf bytes = record {
+  row = wordOf (getD bytes 0 0) (getD bytes 1 0);
+  first = eqb (getD bytes 2 0) 1;
+  count = wordOf (getD bytes 3 0) (getD bytes 4 0);
+}
+
+abbrev pub markByte : Bool → ℕ
+markByte first = pick first 1 0
+
+-- the state in the first five bytes, and behind it what was there
+unfoldable pub stateBytes : State → List ℕ → List ℕ
+stateBytes s bytes = wordBytes (s .row) ++ (markByte (s .first) ∷ wordBytes (s .count)) ++ drop 5 bytes
+
+-- n pairs of a task byte and a job byte, from place i on
+unfoldable pub pairBytes : List ℕ → List ℕ → ℕ → ℕ → List ℕ
+pairBytes tasks jobs zero i = []
+pairBytes tasks jobs (suc n) i = getD tasks i 0 ∷ getD jobs i 0 ∷ pairBytes tasks jobs n (i + 1)
+
+abbrev pub zeros : ℕ → List ℕ
+zeros n = replicate n 0

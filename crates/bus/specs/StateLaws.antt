@@ -1,0 +1,86 @@
+-- The lent bytes: when 64 are there, and what stores one behind the other come to.
+use Prim.Native.Nat.{ℕ, zero, suc, _+_, _-_, _%_, _/_, _≤_, _<_}
+use mathlib.Core.Path.{_≡_, refl, sym, ap, _∙_}
+use mathlib.Core.Bool.{Bool, true, false, false≢true}
+use mathlib.Core.List.{List, [], _∷_, _++_}
+use native.Mathlib.Omega.{arith}
+use lib.ListN.{length, getD, set, drop, length-replicate}
+use lib.Seq.{sets-eq}
+use lib.Dec.{ltb}
+use borrow.Author.Tests.{ltb-true, ltb-false, lt-ltb, le-ltb}
+use mir.Val.{boolByte}
+use Rattle.cursor.specs.Choice.{pick}
+use Rattle.table.specs.Table.{wordBytes}
+use Rattle.table.specs.Left.{less-one, none-left}
+use Rattle.table.specs.WriteLaws.{PartWay, part-start, part-more, part-end, two-stored}
+use Rattle.dispatcher.specs.declared.State.{State}
+use Rattle.bus.specs.State.{isState, markByte, stateBytes, pairBytes, zeros}
+
+module _ (bytes : List ℕ) where
+  pub short : length bytes < 64 → false ≡ isState bytes
+  unfolding isState
+  short h = rw (lt-ltb (length bytes) 64 h)
+
+  pub long : 64 ≤ length bytes → ltb (getD bytes 2 0) 2 ≡ isState bytes
+  unfolding isState
+  long h = rw (le-ltb (length bytes) 64 h)
+
+  pub state-long : isState bytes ≡ true → 64 ≤ length bytes
+  unfolding isState
+  state-long e = go (ltb (length bytes) 64) refl e
+    where
+      go : (b : Bool) → ltb (length bytes) 64 ≡ b → pick b false (ltb (getD bytes 2 0) 2) ≡ true → 64 ≤ length bytes
+      go true w q = absurd (false≢true q)
+      go false w q = ltb-false (length bytes) 64 w
+
+mark-is : (first : Bool) → boolByte first ≡ markByte first
+mark-is true = refl
+mark-is false = refl
+
+-- five stores
+pub state-stored : (s : State) (bytes : List ℕ) → 64 ≤ length bytes
+    → set (set (set (set (set bytes 0 (s .row % 256)) 1 (s .row / 256)) 2 (boolByte (s .first))) 3 (s .count % 256)) 4 (s .count / 256) ≡ stateBytes s bytes
+unfolding stateBytes wordBytes
+state-stored s bytes h = rw (mark-is (s .first)) (sets-eq (wordBytes (s .row) ++ (markByte (s .first) ∷ wordBytes (s .count))) bytes 0 (omega arith))
+
+-- 64 zeros: i are stored
+
+module _ (old : List ℕ) where
+  pub cleared-start : 64 ≤ length old → PartWay (zeros 64) old old (zeros (64 - 0)) 0
+  cleared-start h = part-start [] (zeros 64) old 0 refl (rw (length-replicate {A = ℕ} 64 0) h)
+
+  module _ (out : List ℕ) (i : ℕ) (so : PartWay (zeros 64) old out (zeros (64 - i)) i) where
+    pub cleared-room : i < 64 → i < length out
+    cleared-room h = let left : length (zeros (64 - i)) ≡ 64 - i = length-replicate {A = ℕ} (64 - i) 0 in omega (arith, so .room, so .long)
+
+    pub cleared-more : i < 64 → PartWay (zeros 64) old (set out i 0) (zeros (64 - (i + 1))) (i + 1)
+    cleared-more h =
+        let left : zeros (64 - i) ≡ (0 ∷ []) ++ zeros (64 - (i + 1)) = rw (less-one 64 i h) in
+        part-more (zeros 64) old out (zeros (64 - i)) i so (0 ∷ []) (zeros (64 - (i + 1))) (set out i 0) left (sets-eq (0 ∷ []) out i (omega (arith, cleared-room h)))
+
+    pub cleared-end : 64 ≤ i → out ≡ zeros 64 ++ drop 64 old
+    cleared-end h = part-end (zeros 64) old out (zeros (64 - i)) i so [] (zeros 64) old refl refl (rw (none-left 64 i h)) .whole
+
+-- 16 pairs: i are stored
+
+module _ (tasks jobs old : List ℕ) where
+  pub pairs-start : 32 ≤ length old → PartWay (pairBytes tasks jobs 16 0) old old (pairBytes tasks jobs (16 - 0) 0) 0
+  unfolding pairBytes
+  pairs-start h = part-start [] (pairBytes tasks jobs 16 0) old 0 refl h
+
+  module _ (out : List ℕ) (at i : ℕ) (so : PartWay (pairBytes tasks jobs 16 0) old out (pairBytes tasks jobs (16 - i) i) at) where
+    left-is : i < 16 → pairBytes tasks jobs (16 - i) i ≡ (getD tasks i 0 ∷ getD jobs i 0 ∷ []) ++ pairBytes tasks jobs (16 - (i + 1)) (i + 1)
+    unfolding pairBytes
+    left-is h = rw (less-one 16 i h)
+
+    pub pairs-room : i < 16 → at + 2 ≤ length out
+    pairs-room h = omega (arith, so .room, so .long, ap length (left-is h))
+
+    pub pairs-more : i < 16 → PartWay (pairBytes tasks jobs 16 0) old (set (set out at (getD tasks i 0)) (at + 1) (getD jobs i 0)) (pairBytes tasks jobs (16 - (i + 1)) (i + 1)) (at + 2)
+    pairs-more h =
+        part-more (pairBytes tasks jobs 16 0) old out (pairBytes tasks jobs (16 - i) i) at so (getD tasks i 0 ∷ getD jobs i 0 ∷ []) (pairBytes tasks jobs (16 - (i + 1)) (i + 1))
+        (set (set out at (getD tasks i 0)) (at + 1) (getD jobs i 0)) (left-is h) (two-stored out at (getD tasks i 0) (getD jobs i 0) (pairs-room h))
+
+    pub pairs-end : 16 ≤ i → out ≡ pairBytes tasks jobs 16 0 ++ drop 32 old
+    unfolding pairBytes
+    pairs-end h = part-end (pairBytes tasks jobs 16 0) old out (pairBytes tasks jobs (16 - i) i) at so [] (pairBytes tasks jobs 16 0) old refl refl (rw (none-left 16 i h)) .whole

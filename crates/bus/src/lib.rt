@@ -1,0 +1,180 @@
+// The calls from C. Each stands on one public call of a crate below; an answer below 0 is a refusal, its number negated. No call asks anything of its
+// caller but that each pointer comes with its length.
+use dispatcher::State;
+ghost use mathlib.Core.Path.{_≡_};
+ghost use Prim.Native.Nat.{_≤_, _<_};
+ghost use mathlib.Core.List.{_++_};
+ghost use lib.ListN.{length, drop};
+ghost use lib.IntN.{pos};
+ghost use Rattle.bus.specs.Reply.{refused};
+ghost use Rattle.bus.specs.State.{isState, wordOf, stateOf, stateBytes, pairBytes, zeros};
+ghost use Rattle.bus.specs.Rewrite.{rewriteReply, rewriteBuffer};
+ghost use Rattle.bus.specs.Calls.{planReply, planBuffer, checkReply, freshReply, freshBytes, frameReply, frameState, frameEntries, reportReply, reportState};
+
+// A number of the paper, or 99, as C gets it.
+fn refusal(number: u8) -> i32
+    ensures { λ r. ⌜ r ≡ refused number ⌝ }
+{
+    0 - (number as i32)
+}
+
+fn value(length: usize) -> i32
+    requires { ⌜ length < 65536 ⌝ }
+    ensures { λ r. ⌜ r ≡ pos length ⌝ }
+{
+    length as i32
+}
+
+// The table of the request's chosen plan, written into `out`: its length, or 1 to 11 negated.
+#[no_mangle]
+pub extern "C" fn bus_plan(request: &[u8], out: &mut [u8]) -> i32
+    ensures { λ r. ⌜ (r ≡ planReply (now (request .entry)) (now (out .entry))) × (now (out .exit) ≡ planBuffer (now (request .entry)) (now (out .entry))) ⌝ }
+{
+    let written = planner::plan(request, out);
+    if written.refusal != 0 {
+        return refusal(written.refusal);
+    }
+    value(written.length)
+}
+
+// Whether the table describes a plan of the request: 0, or 1 to 8 or 12 to 14 negated.
+#[no_mangle]
+pub extern "C" fn bus_check(request: &[u8], table: &[u8]) -> i32
+    ensures { λ r. ⌜ r ≡ checkReply (now (request .entry)) (now (table .entry)) ⌝ }
+{
+    let number = checker::check(request, table);
+    if number != 0 {
+        return refusal(number);
+    }
+    0
+}
+
+// The table of the plan that is read from a table, written into `out`: its length, or 1 to 8, 12 to 14 or 11 negated.
+#[no_mangle]
+pub extern "C" fn bus_rewrite(request: &[u8], table: &[u8], out: &mut [u8]) -> i32
+    ensures { λ r. ⌜ (r ≡ rewriteReply (now (request .entry)) (now (table .entry)) (now (out .entry))) × (now (out .exit) ≡ rewriteBuffer (now (request .entry)) (now (table .entry)) (now (out .entry))) ⌝ }
+{
+    let written = rewriter::rewrite(request, table, out);
+    if written.refusal != 0 {
+        return refusal(written.refusal);
+    }
+    value(written.length)
+}
+
+// 64 bytes or more, with a mark of 0 or 1.
+fn is_state(state: &[u8]) -> bool
+    ensures { λ r. ⌜ r ≡ isState (now (state .entry)) ⌝ }
+{
+    if state.len() < 64 {
+        return false;
+    }
+    state[2] < 2
+}
+
+fn word(low: u8, high: u8) -> u16
+    ensures { λ r. ⌜ r ≡ wordOf low high ⌝ }
+{
+    (low as u16) + (high as u16) * 256
+}
+
+fn read_state(state: &[u8]) -> State
+    requires { ⌜ 64 ≤ length (now state) ⌝ }
+    ensures { λ r. ⌜ r ≡ stateOf (now (state .entry)) ⌝ }
+{
+    State {
+        row: word(state[0], state[1]),
+        first: state[2] == 1,
+        count: word(state[3], state[4]),
+    }
+}
+
+// The first five bytes; those behind them are left alone.
+fn write_state(state: &mut [u8], new: State)
+    requires { ⌜ 64 ≤ length (now state) ⌝ }
+    ensures { λ r. ⌜ now (state .exit) ≡ stateBytes new (now (state .entry)) ⌝ }
+{
+    state[0] = (new.row % 256) as u8;
+    state[1] = (new.row / 256) as u8;
+    state[2] = new.first as u8;
+    state[3] = (new.count % 256) as u8;
+    state[4] = (new.count / 256) as u8;
+}
+
+fn clear(state: &mut [u8])
+    requires { ⌜ 64 ≤ length (now state) ⌝ }
+    ensures { λ r. ⌜ now (state .exit) ≡ zeros 64 ++ drop 64 (now (state .entry)) ⌝ }
+{
+    let mut i: usize = 0;
+    while i < 64 {
+        state[i] = 0;
+        i += 1;
+    }
+}
+
+// The fresh state, and 0 in the 59 bytes behind it: 0, or 99 negated.
+#[no_mangle]
+pub extern "C" fn bus_fresh(state: &mut [u8]) -> i32
+    ensures { λ r. ⌜ (r ≡ freshReply (now (state .entry))) × (now (state .exit) ≡ freshBytes (now (state .entry))) ⌝ }
+{
+    if state.len() < 64 {
+        return refusal(99);
+    }
+    clear(state);
+    write_state(state, dispatcher::fresh());
+    0
+}
+
+// 16 pairs of a task byte and a job byte; the bytes behind them are left alone.
+fn write_pairs(entries: &mut [u8], tasks: [u8; 16], jobs: [u8; 16])
+    requires { ⌜ 32 ≤ length (now entries) ⌝ }
+    ensures { λ r. ⌜ now (entries .exit) ≡ pairBytes tasks jobs 16 0 ++ drop 32 (now (entries .entry)) ⌝ }
+{
+    let mut at: usize = 0;
+    let mut i: usize = 0;
+    while i < 16 {
+        entries[at] = tasks[i];
+        entries[at + 1] = jobs[i];
+        at += 2;
+        i += 1;
+    }
+}
+
+// The entries to serve in the next frame, and the state after it: their number, or 99, 12 or 15 negated and nothing changed.
+#[no_mangle]
+pub extern "C" fn bus_next_frame(table: &[u8], state: &mut [u8], entries: &mut [u8]) -> i32
+    ensures { λ r. ⌜ (r ≡ frameReply (now (table .entry)) (now (state .entry)) (now (entries .entry))) × (now (state .exit) ≡ frameState (now (table .entry)) (now (state .entry)) (now (entries .entry))) × (now (entries .exit) ≡ frameEntries (now (table .entry)) (now (state .entry)) (now (entries .entry))) ⌝ }
+{
+    if !is_state(state) {
+        return refusal(99);
+    }
+    if entries.len() < 32 {
+        return refusal(99);
+    }
+    let old = read_state(state);
+    let frame = dispatcher::next_frame(table, old);
+    if frame.refusal != 0 {
+        return refusal(frame.refusal);
+    }
+    let tasks = frame.tasks;
+    let jobs = frame.jobs;
+    write_pairs(entries, tasks, jobs);
+    write_state(state, frame.state);
+    value(frame.count)
+}
+
+// The ticks that a task used, and the state after the report: 0, or 99, 1 to 6 or 16 negated and nothing changed.
+#[no_mangle]
+pub extern "C" fn bus_report(request: &[u8], task: u8, ticks: u32, state: &mut [u8]) -> i32
+    ensures { λ r. ⌜ (r ≡ reportReply (now (request .entry)) task ticks (now (state .entry))) × (now (state .exit) ≡ reportState (now (request .entry)) task ticks (now (state .entry))) ⌝ }
+{
+    if !is_state(state) {
+        return refusal(99);
+    }
+    let old = read_state(state);
+    let reported = dispatcher::report(request, task, ticks, old);
+    if reported.refusal != 0 {
+        return refusal(reported.refusal);
+    }
+    write_state(state, reported.state);
+    0
+}

@@ -1,0 +1,127 @@
+/*
+ * The bus table library: planning, checking and dispatching a table for the bus controller.
+ *
+ * All times are whole ticks. A u16 in a file or a state is two bytes, low byte first.
+ *
+ * Every call answers an int32_t. From 0 on it is what the call's comment says; below 0 it is a
+ * refusal, its number negated (the numbers stand at the end of this file). A refused call leaves
+ * every buffer as it was.
+ *
+ * A buffer is a pointer and the number of bytes behind it. The pointer is not NULL, also where the
+ * length is 0, and the buffers of one call do not overlap, save two that are only read. Nothing is
+ * kept between calls but what stands in the buffers: there are no globals, no allocation and no
+ * input or output, so calls on different buffers may run at the same time.
+ */
+#ifndef BUS_H
+#define BUS_H
+
+#include <stddef.h>
+#include <stdint.h>
+
+#ifdef __cplusplus
+extern "C" {
+#endif
+
+/* The bytes of a state, and of the entries of a frame. */
+#define BUS_STATE_BYTES 64
+#define BUS_ENTRIES_BYTES 32
+
+/* The longest table: 7 + 256 rows + 2 for each of 128 jobs. */
+#define BUS_TABLE_BYTES 519
+
+/* A state or entries buffer that is too short, or a state whose mark is neither 0 nor 1. */
+#define BUS_NOT_A_STATE 99
+
+/*
+ * Plans a request and writes the table of the chosen plan to the front of `out`. The bytes behind
+ * the table are left as they are.
+ *
+ * Answers the table's length, or refuses with 1 to 11. A buffer of BUS_TABLE_BYTES is never too
+ * short. The time depends on the request: the search may be long where plans are hard to find.
+ */
+int32_t bus_plan(const uint8_t *request, size_t request_len, uint8_t *out, size_t out_len);
+
+/*
+ * Checks whether a table describes a plan of a request, of any frame length and not only of the
+ * chosen one.
+ *
+ * Answers 0 where it does, or refuses with 1 to 8 or 12 to 14.
+ */
+int32_t bus_check(const uint8_t *request, size_t request_len, const uint8_t *table, size_t table_len);
+
+/*
+ * Checks a table like bus_check, and writes the table of the plan that was read to the front of
+ * `out`. The bytes behind it are left as they are.
+ *
+ * Answers the table's length, or refuses with 1 to 8, 12 to 14, or 11.
+ */
+int32_t bus_rewrite(const uint8_t *request, size_t request_len, const uint8_t *table, size_t table_len,
+                    uint8_t *out, size_t out_len);
+
+/*
+ * The dispatcher's state stands in 64 bytes that the caller lends:
+ *
+ *   bytes 0 and 1   the row that is served next
+ *   byte 2          the mark of the first cycle: 1 while it lasts, then 0
+ *   bytes 3 and 4   the number of overruns, at most 65,535
+ *   bytes 5 to 63   kept free; bus_fresh sets them to 0, the other calls neither read nor change them
+ *
+ * Bytes behind the first 64 of a longer buffer are never read or changed.
+ */
+
+/*
+ * Makes a fresh state: row 0, mark set, no overruns.
+ *
+ * Answers 0, or refuses with 99.
+ */
+int32_t bus_fresh(uint8_t *state, size_t state_len);
+
+/*
+ * The entries to serve in the next frame: those of the state's row, in their order, without the
+ * carried ones in the first cycle. The state moves on by one row, and behind the last row to row 0
+ * with the mark cleared.
+ *
+ * `entries` gets 16 pairs of a task byte and a job byte (bits 0 to 6 the job, bit 7 carry), filled
+ * from the first; unused pairs are 0. Bytes behind the first 32 are left as they are.
+ *
+ * Answers the number of entries, 0 to 16, or refuses with 99, then 12, then 15.
+ */
+int32_t bus_next_frame(const uint8_t *table, size_t table_len, uint8_t *state, size_t state_len,
+                       uint8_t *entries, size_t entries_len);
+
+/*
+ * Reports the ticks that a task used. More than the request's C for the task is an overrun, and
+ * the state's number of overruns rises by one, up to 65,535. The row and the mark stay.
+ *
+ * Answers 0, or refuses with 99, then 1 to 6, then 16.
+ */
+int32_t bus_report(const uint8_t *request, size_t request_len, uint8_t task, uint32_t ticks,
+                   uint8_t *state, size_t state_len);
+
+/*
+ * The refusal numbers:
+ *
+ *    1  the request's bytes end inside a section or before its count
+ *    2  no task, or more than 16
+ *    3  a task breaks 1 <= C <= D <= T, P < T
+ *    4  more than 16 pairs
+ *    5  a pair breaks a < b < n, equal T
+ *    6  bytes follow the request's last pair
+ *    7  the cycle is longer than 10,000 ticks
+ *    8  more than 128 jobs
+ *    9  no frame length is plausible
+ *   10  some frame length is plausible, but there is no plan
+ *   11  the buffer is shorter than the table
+ *   12  the bytes are no table
+ *   13  the table's cycle is not the request's, or its frame length is not plausible
+ *   14  the table does not describe a plan
+ *   15  the state's row is not below the table's number of rows
+ *   16  the request has no such task
+ *   99  a state or entries buffer is too short, or the state's mark is neither 0 nor 1
+ */
+
+#ifdef __cplusplus
+}
+#endif
+
+#endif

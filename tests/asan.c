@@ -1,0 +1,500 @@
+/*
+ * Seeded random and mutated bytes at every export of libbus.a.
+ *
+ *     asan COUNT SEED
+ *
+ * Every call is made twice with the same content: once with each buffer on the heap in exactly
+ * the length lent (for the address sanitizer or valgrind), and once with each buffer flush
+ * against a page that must not be touched, behind it or before it (which also catches reads
+ * and writes of code that no sanitizer was compiled into). Both must give the same answer and
+ * the same bytes. A refusal must leave every buffer as it was.
+ */
+#define _GNU_SOURCE
+#include <stdint.h>
+#include <stdio.h>
+#include <stdlib.h>
+#include <string.h>
+#include <sys/mman.h>
+#include <unistd.h>
+
+int32_t bus_plan(const uint8_t *request, size_t request_len, uint8_t *out, size_t out_len);
+int32_t bus_check(const uint8_t *request, size_t request_len, const uint8_t *table,
+                  size_t table_len);
+int32_t bus_rewrite(const uint8_t *request, size_t request_len, const uint8_t *table,
+                    size_t table_len, uint8_t *out, size_t out_len);
+int32_t bus_fresh(uint8_t *state, size_t state_len);
+int32_t bus_next_frame(const uint8_t *table, size_t table_len, uint8_t *state, size_t state_len,
+                       uint8_t *entries, size_t entries_len);
+int32_t bus_report(const uint8_t *request, size_t request_len, uint8_t task, uint32_t ticks,
+                   uint8_t *state, size_t state_len);
+
+/* ---- random numbers (splitmix64) ---- */
+
+static uint64_t seed_now;
+
+static uint64_t draw(void)
+{
+    uint64_t z = (seed_now += 0x9E3779B97F4A7C15u);
+    z = (z ^ (z >> 30)) * 0xBF58476D1CE4E5B9u;
+    z = (z ^ (z >> 27)) * 0x94D049BB133111EBu;
+    return z ^ (z >> 31);
+}
+
+static size_t below(size_t count)
+{
+    return (size_t)(draw() % count);
+}
+
+static int chance(unsigned percent)
+{
+    return draw() % 100 < percent;
+}
+
+/* ---- byte strings ---- */
+
+enum { ROOM = 4000 };
+
+typedef struct {
+    size_t len;
+    uint8_t at[ROOM];
+} bytes;
+
+static void put(bytes *b, unsigned byte)
+{
+    if (b->len < ROOM)
+        b->at[b->len++] = (uint8_t)byte;
+}
+
+static void put_number(bytes *b, unsigned number)
+{
+    put(b, number & 255);
+    put(b, number >> 8);
+}
+
+static void random_bytes(bytes *b, size_t len)
+{
+    b->len = len;
+    for (size_t i = 0; i < len; i++)
+        b->at[i] = (uint8_t)draw();
+}
+
+static void damage(bytes *b)
+{
+    size_t i = b->len ? below(b->len) : 0;
+    switch (below(6)) {
+    case 0:
+        if (b->len)
+            b->at[i] ^= (uint8_t)(1u << below(8));
+        break;
+    case 1:
+        if (b->len)
+            b->at[i] = (uint8_t)draw();
+        break;
+    case 2:
+        b->len = i;
+        break;
+    case 3:
+        put(b, (unsigned)draw());
+        break;
+    case 4:
+        if (b->len) {
+            memmove(b->at + i, b->at + i + 1, b->len - i - 1);
+            b->len--;
+        }
+        break;
+    default:
+        if (b->len < ROOM) {
+            memmove(b->at + i + 1, b->at + i, b->len - i);
+            b->at[i] = (uint8_t)draw();
+            b->len++;
+        }
+    }
+}
+
+/* ---- requests ---- */
+
+static void make_request(bytes *b)
+{
+    static const unsigned cycles[] = {12, 24, 60, 120, 128, 240, 256, 640, 1024, 8128, 10000};
+    unsigned h = cycles[below(sizeof cycles / sizeof *cycles)];
+    unsigned n = chance(20) ? 16 : 1 + (unsigned)below(6);
+    unsigned period[16];
+    b->len = 0;
+    put(b, n);
+    for (unsigned i = 0; i < n; i++) {
+        unsigned t = i && chance(50) ? period[0] : h / (1 + (unsigned)below(12));
+        while (h % t)
+            t++;
+        unsigned c = 1 + (unsigned)below(1 + t / (n + 2));
+        unsigned d = chance(60) ? t : c + (unsigned)below(t - c + 1);
+        unsigned p = chance(50) ? 0 : (unsigned)below(t);
+        period[i] = t;
+        put_number(b, c);
+        put_number(b, t);
+        put_number(b, d);
+        put_number(b, p);
+    }
+    unsigned pairs = n > 1 && chance(60) ? (unsigned)below(17) : 0;
+    size_t count_at = b->len;
+    put(b, 0);
+    for (unsigned i = 0; i < pairs; i++) {
+        unsigned second = 1 + (unsigned)below(n - 1), first = (unsigned)below(second);
+        if (period[first] != period[second])
+            continue;
+        put(b, first);
+        put(b, second);
+        b->at[count_at]++;
+    }
+}
+
+/* ---- whether planning is short enough to be tried ---- */
+
+typedef struct {
+    unsigned task, number, release, cost, due;
+} job;
+
+typedef struct {
+    unsigned n, pairs, h, count, f, rows;
+    unsigned c[16], t[16], d[16], p[16], first[16], second[16];
+    job jobs[128];
+    unsigned place[128];
+    unsigned load[256];
+    long tries;
+} search;
+
+static unsigned number_at(const bytes *b, size_t i)
+{
+    return b->at[i] + 256u * b->at[i + 1];
+}
+
+static unsigned gcd(unsigned a, unsigned b)
+{
+    return b ? gcd(b, a % b) : a;
+}
+
+static int by_release(const void *x, const void *y)
+{
+    const job *a = x, *b = y;
+    if (a->release != b->release)
+        return a->release < b->release ? -1 : 1;
+    return (int)a->task - (int)b->task;
+}
+
+/* 0 if the request is refused before the search. */
+static int read_request(const bytes *b, search *s)
+{
+    if (b->len < 1 || b->at[0] == 0 || b->at[0] > 16)
+        return 0;
+    s->n = b->at[0];
+    size_t pairs_at = 1 + 8 * (size_t)s->n;
+    if (b->len <= pairs_at || b->at[pairs_at] > 16)
+        return 0;
+    s->pairs = b->at[pairs_at];
+    if (b->len != pairs_at + 1 + 2 * (size_t)s->pairs)
+        return 0;
+    s->h = 1;
+    for (unsigned i = 0; i < s->n; i++) {
+        size_t at = 1 + 8 * (size_t)i;
+        s->c[i] = number_at(b, at);
+        s->t[i] = number_at(b, at + 2);
+        s->d[i] = number_at(b, at + 4);
+        s->p[i] = number_at(b, at + 6);
+        if (!s->c[i] || s->c[i] > s->d[i] || s->d[i] > s->t[i] || s->p[i] >= s->t[i])
+            return 0;
+        s->h = s->h / gcd(s->h, s->t[i]) * s->t[i];
+        if (s->h > 10000)
+            return 0;
+    }
+    for (unsigned i = 0; i < s->pairs; i++) {
+        s->first[i] = b->at[pairs_at + 1 + 2 * i];
+        s->second[i] = b->at[pairs_at + 2 + 2 * i];
+    }
+    s->count = 0;
+    for (unsigned i = 0; i < s->n; i++) {
+        for (unsigned j = 0; j < s->h / s->t[i]; j++) {
+            if (s->count == 128)
+                return 0;
+            unsigned r = s->p[i] + j * s->t[i];
+            s->jobs[s->count++] = (job){i, j, r, s->c[i], r + s->d[i]};
+        }
+    }
+    qsort(s->jobs, s->count, sizeof(job), by_release);
+    return 1;
+}
+
+static int in_order(const search *s, unsigned i, unsigned k)
+{
+    for (unsigned x = 0; x < i; x++) {
+        if (s->jobs[x].number != s->jobs[i].number)
+            continue;
+        for (unsigned q = 0; q < s->pairs; q++) {
+            unsigned a = s->first[q], b = s->second[q];
+            if (s->jobs[x].task == a && s->jobs[i].task == b && s->place[x] > k)
+                return 0;
+            if (s->jobs[x].task == b && s->jobs[i].task == a && s->place[x] < k)
+                return 0;
+        }
+    }
+    return 1;
+}
+
+/* 1 placed, 0 no plan, -1 too many tries. */
+static int place_job(search *s, unsigned i)
+{
+    if (i == s->count)
+        return 1;
+    const job *x = &s->jobs[i];
+    for (unsigned k = (x->release + s->f - 1) / s->f; (k + 1) * s->f <= x->due; k++) {
+        if (--s->tries < 0)
+            return -1;
+        unsigned row = k % s->rows;
+        if (s->load[row] + x->cost > s->f || !in_order(s, i, k))
+            continue;
+        s->load[row] += x->cost;
+        s->place[i] = k;
+        int found = place_job(s, i + 1);
+        if (found)
+            return found;
+        s->load[row] -= x->cost;
+    }
+    return 0;
+}
+
+static int plausible(const search *s)
+{
+    if (s->h % s->f || s->h / s->f > 256)
+        return 0;
+    for (unsigned i = 0; i < s->n; i++)
+        if (s->f < s->c[i] || 2 * s->f - gcd(s->f, s->t[i]) > s->d[i])
+            return 0;
+    return 1;
+}
+
+static int short_search(const bytes *request)
+{
+    static search s;
+    if (!read_request(request, &s))
+        return 1;
+    s.tries = 200000;
+    for (s.f = s.h; s.f > 0; s.f--) {
+        if (!plausible(&s))
+            continue;
+        s.rows = s.h / s.f;
+        memset(s.load, 0, sizeof s.load);
+        int found = place_job(&s, 0);
+        if (found)
+            return found > 0;
+    }
+    return 1;
+}
+
+/* ---- lent buffers ---- */
+
+enum { BUFFERS = 3, PAGES = 2 };
+
+static uint8_t *arena[BUFFERS];
+static size_t page, arena_len;
+
+static void make_arenas(void)
+{
+    page = (size_t)sysconf(_SC_PAGESIZE);
+    arena_len = PAGES * page;
+    for (int i = 0; i < BUFFERS; i++) {
+        uint8_t *whole = mmap(NULL, arena_len + 2 * page, PROT_NONE,
+                              MAP_PRIVATE | MAP_ANONYMOUS, -1, 0);
+        if (whole == MAP_FAILED || mprotect(whole + page, arena_len, PROT_READ | PROT_WRITE)) {
+            perror("mmap");
+            exit(2);
+        }
+        arena[i] = whole + page;
+    }
+}
+
+/* Where a buffer is lent: 0 on the heap, 1 before a closed page, 2 behind one. */
+static uint8_t *lend(int where, int which, const bytes *content)
+{
+    uint8_t *at;
+    if (where == 0)
+        at = malloc(content->len);
+    else if (where == 1)
+        at = arena[which] + arena_len - content->len;
+    else
+        at = arena[which];
+    if (content->len)
+        memcpy(at, content->at, content->len);
+    return at;
+}
+
+static void take_back(int where, uint8_t *at, bytes *content)
+{
+    if (content->len)
+        memcpy(content->at, at, content->len);
+    if (where == 0)
+        free(at);
+}
+
+/* ---- calls ---- */
+
+typedef struct {
+    int which;
+    bytes a, b, c;
+    uint8_t task;
+    uint32_t ticks;
+} call;
+
+static int32_t answer_of(const call *x, uint8_t *a, uint8_t *b, uint8_t *c)
+{
+    switch (x->which) {
+    case 0:
+        return bus_plan(a, x->a.len, c, x->c.len);
+    case 1:
+        return bus_check(a, x->a.len, b, x->b.len);
+    case 2:
+        return bus_rewrite(a, x->a.len, b, x->b.len, c, x->c.len);
+    case 3:
+        return bus_fresh(b, x->b.len);
+    case 4:
+        return bus_next_frame(a, x->a.len, b, x->b.len, c, x->c.len);
+    default:
+        return bus_report(a, x->a.len, x->task, x->ticks, b, x->b.len);
+    }
+}
+
+static int32_t made(call *x, int where)
+{
+    uint8_t *a = lend(where, 0, &x->a);
+    uint8_t *b = lend(where, 1, &x->b);
+    uint8_t *c = lend(where, 2, &x->c);
+    int32_t answer = answer_of(x, a, b, c);
+    take_back(where, a, &x->a);
+    take_back(where, b, &x->b);
+    take_back(where, c, &x->c);
+    return answer;
+}
+
+static long calls, refused;
+
+static void fault(const char *text, const call *x)
+{
+    fprintf(stderr, "call %ld of kind %d: %s\nfirst bytes:", calls, x->which, text);
+    for (size_t i = 0; i < x->a.len; i++)
+        fprintf(stderr, " %02X", x->a.at[i]);
+    fprintf(stderr, "\n");
+    exit(1);
+}
+
+static int same(const bytes *x, const bytes *y)
+{
+    return x->len == y->len && memcmp(x->at, y->at, x->len) == 0;
+}
+
+static int all_same(const call *x, const call *y)
+{
+    return same(&x->a, &y->a) && same(&x->b, &y->b) && same(&x->c, &y->c);
+}
+
+/* Makes the call on the heap and at a closed page; what the buffers hold is left in x. */
+static int32_t both(call *x)
+{
+    static call before, second;
+    before = *x;
+    second = *x;
+    int32_t answer = made(x, 0);
+    int32_t again = made(&second, 1 + (int)below(2));
+    calls++;
+    refused += answer < 0;
+    if (answer != again || !all_same(x, &second))
+        fault("two runs differ", &before);
+    if (answer < 0 && !all_same(x, &before))
+        fault("a refusal changed a buffer", &before);
+    if (!same(&x->a, &before.a))
+        fault("an input was changed", &before);
+    return answer;
+}
+
+static void make_state(bytes *b, int usual)
+{
+    static const size_t lengths[] = {64, 64, 64, 64, 64, 64, 70, 63, 5, 0};
+    random_bytes(b, usual ? 64 : lengths[below(10)]);
+    if (b->len > 5 && chance(90)) {
+        b->at[0] = (uint8_t)below(12);
+        b->at[1] = 0;
+        b->at[2] = (uint8_t)below(2);
+    }
+}
+
+/* One request, its table if it has one, and calls about both. */
+static void turn(void)
+{
+    static call x;
+    static bytes request, table;
+    if (chance(10))
+        random_bytes(&request, below(300));
+    else
+        make_request(&request);
+    while (chance(25))
+        damage(&request);
+    random_bytes(&table, below(40));
+    if (short_search(&request)) {
+        x.which = 0;
+        x.a = request;
+        x.b.len = 0;
+        random_bytes(&x.c, below(5) ? 600 : below(200));
+        int32_t length = both(&x);
+        if (length > 0) {
+            table.len = (size_t)length;
+            memcpy(table.at, x.c.at, table.len);
+            random_bytes(&x.c, table.len);
+            if (both(&x) != length)
+                fault("the exact room does not do", &x);
+            random_bytes(&x.c, table.len - 1);
+            if (both(&x) != -11)
+                fault("one byte too few does", &x);
+        }
+    }
+    for (int i = 0; i < 6; i++) {
+        x.a = request;
+        x.b = table;
+        if (i % 2)
+            damage(&x.b);
+        x.which = 1 + i % 3 % 2;
+        random_bytes(&x.c, chance(70) ? x.b.len : below(300));
+        both(&x);
+    }
+    x.which = 3;
+    make_state(&x.b, 0);
+    x.a.len = x.c.len = 0;
+    both(&x);
+    for (int i = 0; i < 8; i++) {
+        x.which = 4;
+        x.a = table;
+        if (i % 3 == 2)
+            damage(&x.a);
+        make_state(&x.b, chance(80));
+        random_bytes(&x.c, chance(90) ? 32 : below(40));
+        both(&x);
+        x.which = 5;
+        x.a = request;
+        x.c.len = 0;
+        make_state(&x.b, chance(80));
+        x.task = chance(80) ? (uint8_t)below(6) : (uint8_t)draw();
+        x.ticks = chance(70) ? (uint32_t)below(60) : (uint32_t)draw();
+        both(&x);
+    }
+}
+
+int main(int count, char **words)
+{
+    if (count != 3) {
+        fprintf(stderr, "usage: asan COUNT SEED\n");
+        return 2;
+    }
+    long turns = atol(words[1]);
+    seed_now = strtoull(words[2], NULL, 10);
+    make_arenas();
+    for (long i = 0; i < turns; i++)
+        turn();
+    printf("%ld turns, %ld calls, each on the heap and at a closed page, %ld refused, no fault\n",
+           turns, calls, refused);
+    return 0;
+}

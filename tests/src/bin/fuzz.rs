@@ -1,0 +1,238 @@
+//! Random and mutated bytes at every export, with guard bytes around every lent buffer, each
+//! answer compared with the reference.
+//!
+//! fuzz SECONDS SEED
+
+use std::collections::VecDeque;
+use std::env;
+use std::process::exit;
+use std::time::{Duration, Instant};
+
+use bus_tests::bus::{ENTRIES_LEN, STATE_LEN};
+use bus_tests::call::{compare, Call};
+use bus_tests::generate;
+use bus_tests::library::Library;
+use bus_tests::random::Random;
+use bus_tests::reference::request;
+use bus_tests::reference::table::encode;
+use bus_tests::reference::{planned, read_cycle, tries_within};
+use bus_tests::rounds::{Tally, MOST_TRIES};
+
+/// Requests and tables seen lately, from which new ones are made.
+struct Corpus {
+    requests: VecDeque<Vec<u8>>,
+    tables: VecDeque<Vec<u8>>,
+}
+
+const KEPT: usize = 200;
+
+fn keep(kept: &mut VecDeque<Vec<u8>>, bytes: Vec<u8>) {
+    kept.push_back(bytes);
+    if kept.len() > KEPT {
+        kept.pop_front();
+    }
+}
+
+fn some(rng: &mut Random, kept: &VecDeque<Vec<u8>>) -> Vec<u8> {
+    kept[rng.below(kept.len())].clone()
+}
+
+/// The front of one and the back of another.
+fn crossed(rng: &mut Random, first: &[u8], second: &[u8]) -> Vec<u8> {
+    let cut = rng.below(first.len() + 1);
+    let from = rng.below(second.len() + 1);
+    [&first[..cut], &second[from..]].concat()
+}
+
+fn mutated(rng: &mut Random, kept: &VecDeque<Vec<u8>>) -> Vec<u8> {
+    let mut bytes = some(rng, kept);
+    match rng.below(20) {
+        0..=4 => generate::damage(rng, &mut bytes),
+        5 => {
+            let other = some(rng, kept);
+            bytes = crossed(rng, &bytes, &other);
+        }
+        6 => bytes = generate::noise(rng),
+        7 => {
+            let length = bytes.len() + rng.below(3_000);
+            bytes.resize(length, rng.byte());
+        }
+        _ => {}
+    }
+    bytes
+}
+
+impl Corpus {
+    fn begin(rng: &mut Random) -> Corpus {
+        let mut corpus = Corpus {
+            requests: VecDeque::new(),
+            tables: VecDeque::new(),
+        };
+        for _ in 0..KEPT {
+            corpus.learn(rng);
+        }
+        corpus
+    }
+
+    /// Adds a new request, and its table if it has one.
+    fn learn(&mut self, rng: &mut Random) {
+        let request = request::write(&generate::valid_request(rng));
+        if tries_within(&request, MOST_TRIES).is_none() {
+            return;
+        }
+        if let Ok(table) = planned(&request) {
+            let mut disturbed = table.clone();
+            generate::disturb(rng, &mut disturbed);
+            keep(&mut self.tables, encode(&table));
+            keep(&mut self.tables, encode(&disturbed));
+        }
+        keep(&mut self.requests, request);
+        if self.tables.is_empty() {
+            keep(&mut self.tables, vec![2]);
+        }
+    }
+
+    /// A request and a table that may belong together.
+    fn matched(&self, rng: &mut Random) -> (Vec<u8>, Vec<u8>) {
+        let request = some(rng, &self.requests);
+        let table = match read_cycle(&request) {
+            Ok(cycle) => generate::some_plan(rng, &cycle, MOST_TRIES),
+            Err(_) => None,
+        };
+        match table {
+            Some(mut table) => {
+                if rng.chance(50) {
+                    generate::disturb(rng, &mut table);
+                }
+                (request, encode(&table))
+            }
+            None => (request, mutated(rng, &self.tables)),
+        }
+    }
+}
+
+/// Mostly the usual length, now and then longer, shorter or none.
+fn length(rng: &mut Random, usual: usize) -> usize {
+    if rng.chance(90) {
+        usual
+    } else {
+        rng.pick(&[usual + 1, 2 * usual, usual - 1, 3, 0])
+    }
+}
+
+fn state(rng: &mut Random) -> Vec<u8> {
+    let length = length(rng, STATE_LEN);
+    let mut bytes = rng.bytes(length);
+    if length > 5 && rng.chance(95) {
+        bytes[1] = rng.pick(&[0, 0, 0, 0, 1, 255]);
+        bytes[2] = rng.pick(&[0, 1]);
+        if rng.chance(70) {
+            bytes[0] = rng.pick(&[0, 0, 0, 0, 1, 1, 2, 3, 9, 200]);
+        }
+        if rng.chance(20) {
+            bytes[3..5].fill(255);
+        }
+    }
+    bytes
+}
+
+fn room(rng: &mut Random) -> Vec<u8> {
+    let length = match rng.below(4) {
+        0 => rng.below(10),
+        1 => rng.below(60),
+        _ => rng.below(700),
+    };
+    rng.bytes(length)
+}
+
+fn some_call(rng: &mut Random, corpus: &Corpus) -> Call {
+    match rng.below(12) {
+        0..=2 => Call::Plan {
+            request: mutated(rng, &corpus.requests),
+            out: room(rng),
+        },
+        3 | 4 => {
+            let (request, table) = corpus.matched(rng);
+            Call::Check { request, table }
+        }
+        5 => Call::Check {
+            request: mutated(rng, &corpus.requests),
+            table: mutated(rng, &corpus.tables),
+        },
+        6 => {
+            let (request, table) = corpus.matched(rng);
+            let out = room(rng);
+            Call::Rewrite {
+                request,
+                table,
+                out,
+            }
+        }
+        7 => Call::Rewrite {
+            request: mutated(rng, &corpus.requests),
+            table: mutated(rng, &corpus.tables),
+            out: room(rng),
+        },
+        8 => Call::Fresh { state: state(rng) },
+        9 | 10 => {
+            let length = length(rng, ENTRIES_LEN);
+            Call::NextFrame {
+                table: mutated(rng, &corpus.tables),
+                state: state(rng),
+                entries: rng.bytes(length),
+            }
+        }
+        _ => Call::Report {
+            request: mutated(rng, &corpus.requests),
+            task: rng.pick(&[0, 1, 2, 3, 15, 16, 255]),
+            ticks: rng.pick(&[0, 1, 2, 3, 8, 100, 65_535, 65_536, u32::MAX]),
+            state: state(rng),
+        },
+    }
+}
+
+/// Whether the call may be made: no search that takes too long.
+fn bounded(call: &Call) -> bool {
+    match call {
+        Call::Plan { request, .. } => tries_within(request, MOST_TRIES).is_some(),
+        _ => true,
+    }
+}
+
+fn argument(place: usize, name: &str) -> u64 {
+    match env::args().nth(place).and_then(|word| word.parse().ok()) {
+        Some(number) => number,
+        None => {
+            eprintln!("usage: fuzz SECONDS SEED ({name} is missing)");
+            exit(2);
+        }
+    }
+}
+
+fn main() {
+    let seconds = argument(1, "SECONDS");
+    let seed = argument(2, "SEED");
+    let mut rng = Random::new(seed);
+    let mut corpus = Corpus::begin(&mut rng);
+    let mut tally = Tally::default();
+    let end = Instant::now() + Duration::from_secs(seconds);
+    while Instant::now() < end {
+        if rng.chance(2) {
+            corpus.learn(&mut rng);
+            tally.requests += 1;
+        }
+        let call = some_call(&mut rng, &corpus);
+        if !bounded(&call) {
+            tally.left_out += 1;
+            continue;
+        }
+        match compare(&Library, &call) {
+            Ok(outcome) => tally.note(&call, &outcome),
+            Err(fault) => {
+                eprintln!("seed {seed}, call {}: {fault}", tally.calls);
+                exit(1);
+            }
+        }
+    }
+    println!("seed {seed}, no fault: {}", tally.summary());
+}

@@ -1,0 +1,24 @@
+//! The six calls of the library, as every implementation here offers them.
+
+/// Bytes of dispatcher state that a caller lends.
+pub const STATE_LEN: usize = 64;
+/// Bytes of the 16 places for served entries.
+pub const ENTRIES_LEN: usize = 32;
+/// Refusal of a state or entries buffer that is too short, or of a mark that is not 0 or 1.
+pub const NOT_A_STATE: i32 = 99;
+
+/// An answer below 0 is a refusal, its number negated.
+pub trait Bus {
+    /// The length of the table written to the front of `out`.
+    fn plan(&self, request: &[u8], out: &mut [u8]) -> i32;
+    /// 0 if the table describes a plan of the request.
+    fn check(&self, request: &[u8], table: &[u8]) -> i32;
+    /// The length of the table written to the front of `out`.
+    fn rewrite(&self, request: &[u8], table: &[u8], out: &mut [u8]) -> i32;
+    /// 0, with a fresh state in the first 64 bytes.
+    fn fresh(&self, state: &mut [u8]) -> i32;
+    /// The number of entries served; `entries` gets 16 places of a task and a job byte.
+    fn next_frame(&self, table: &[u8], state: &mut [u8], entries: &mut [u8]) -> i32;
+    /// 0, with the overrun counted in the state.
+    fn report(&self, request: &[u8], task: u8, ticks: u32, state: &mut [u8]) -> i32;
+}

@@ -1,0 +1,275 @@
+//! One call with everything it is lent, run with guard bytes around every buffer.
+
+use crate::bus::Bus;
+use crate::reference::Reference;
+
+/// A call and the content of its buffers before it.
+#[derive(Clone, Debug, PartialEq, Eq)]
+pub enum Call {
+    Plan {
+        request: Vec<u8>,
+        out: Vec<u8>,
+    },
+    Check {
+        request: Vec<u8>,
+        table: Vec<u8>,
+    },
+    Rewrite {
+        request: Vec<u8>,
+        table: Vec<u8>,
+        out: Vec<u8>,
+    },
+    Fresh {
+        state: Vec<u8>,
+    },
+    NextFrame {
+        table: Vec<u8>,
+        state: Vec<u8>,
+        entries: Vec<u8>,
+    },
+    Report {
+        request: Vec<u8>,
+        task: u8,
+        ticks: u32,
+        state: Vec<u8>,
+    },
+}
+
+/// The answer, and the content of the buffers that the call may write.
+#[derive(Clone, Debug, PartialEq, Eq)]
+pub struct Outcome {
+    pub answer: i32,
+    pub buffers: Vec<Vec<u8>>,
+}
+
+impl Call {
+    pub fn name(&self) -> &'static str {
+        match self {
+            Call::Plan { .. } => "plan",
+            Call::Check { .. } => "check",
+            Call::Rewrite { .. } => "rewrite",
+            Call::Fresh { .. } => "fresh",
+            Call::NextFrame { .. } => "next_frame",
+            Call::Report { .. } => "report",
+        }
+    }
+
+    /// The buffers that the call may write, as they are before it.
+    fn writable(&self) -> Vec<&Vec<u8>> {
+        match self {
+            Call::Check { .. } => vec![],
+            Call::Plan { out, .. } | Call::Rewrite { out, .. } => vec![out],
+            Call::Fresh { state } | Call::Report { state, .. } => vec![state],
+            Call::NextFrame { state, entries, .. } => vec![state, entries],
+        }
+    }
+
+    /// The call in one line, bytes in hexadecimal.
+    pub fn describe(&self) -> String {
+        match self {
+            Call::Plan { request, out } => {
+                format!("plan request [{}] room {}", hex(request), out.len())
+            }
+            Call::Check { request, table } => {
+                format!("check request [{}] table [{}]", hex(request), hex(table))
+            }
+            Call::Rewrite {
+                request,
+                table,
+                out,
+            } => format!(
+                "rewrite request [{}] table [{}] room {}",
+                hex(request),
+                hex(table),
+                out.len()
+            ),
+            Call::Fresh { state } => format!("fresh state of {} bytes", state.len()),
+            Call::NextFrame {
+                table,
+                state,
+                entries,
+            } => format!(
+                "next_frame table [{}] state [{}] entries of {} bytes",
+                hex(table),
+                hex(state),
+                entries.len()
+            ),
+            Call::Report {
+                request,
+                task,
+                ticks,
+                state,
+            } => format!(
+                "report request [{}] task {task} ticks {ticks} state [{}]",
+                hex(request),
+                hex(state)
+            ),
+        }
+    }
+}
+
+pub fn hex(bytes: &[u8]) -> String {
+    let words: Vec<String> = bytes.iter().map(|byte| format!("{byte:02X}")).collect();
+    words.join(" ")
+}
+
+const GUARD: usize = 40;
+
+/// A buffer with guard bytes on both sides.
+struct Lent {
+    all: Vec<u8>,
+}
+
+fn guard_byte(place: usize) -> u8 {
+    (place * 37 + 11) as u8
+}
+
+impl Lent {
+    fn of(content: &[u8]) -> Lent {
+        let mut all: Vec<u8> = (0..GUARD).map(guard_byte).collect();
+        all.extend_from_slice(content);
+        all.extend((0..GUARD).map(guard_byte));
+        Lent { all }
+    }
+
+    fn end(&self) -> usize {
+        self.all.len() - GUARD
+    }
+
+    fn bytes(&self) -> &[u8] {
+        &self.all[GUARD..self.end()]
+    }
+
+    fn bytes_mut(&mut self) -> &mut [u8] {
+        let end = self.end();
+        &mut self.all[GUARD..end]
+    }
+
+    fn guarded(&self) -> bool {
+        let before = &self.all[..GUARD];
+        let behind = &self.all[self.end()..];
+        (0..GUARD).all(|place| before[place] == guard_byte(place) && before[place] == behind[place])
+    }
+
+    fn unchanged(&self, content: &[u8]) -> bool {
+        self.guarded() && self.bytes() == content
+    }
+}
+
+fn outcome(answer: i32, read: &[(&Lent, &[u8])], written: &[&Lent]) -> Result<Outcome, String> {
+    if !read.iter().all(|(lent, before)| lent.unchanged(before)) {
+        return Err("an input, or a byte beside it, was changed".to_string());
+    }
+    if !written.iter().all(|lent| lent.guarded()) {
+        return Err("a byte outside a lent buffer was changed".to_string());
+    }
+    Ok(Outcome {
+        answer,
+        buffers: written.iter().map(|lent| lent.bytes().to_vec()).collect(),
+    })
+}
+
+/// Runs the call; an error if anything outside the buffers it may write was changed.
+pub fn run(bus: &dyn Bus, call: &Call) -> Result<Outcome, String> {
+    match call {
+        Call::Plan { request, out } => {
+            let (input, mut buffer) = (Lent::of(request), Lent::of(out));
+            let answer = bus.plan(input.bytes(), buffer.bytes_mut());
+            outcome(answer, &[(&input, request)], &[&buffer])
+        }
+        Call::Check { request, table } => {
+            let (first, second) = (Lent::of(request), Lent::of(table));
+            let answer = bus.check(first.bytes(), second.bytes());
+            outcome(answer, &[(&first, request), (&second, table)], &[])
+        }
+        Call::Rewrite {
+            request,
+            table,
+            out,
+        } => {
+            let (first, second) = (Lent::of(request), Lent::of(table));
+            let mut buffer = Lent::of(out);
+            let answer = bus.rewrite(first.bytes(), second.bytes(), buffer.bytes_mut());
+            outcome(answer, &[(&first, request), (&second, table)], &[&buffer])
+        }
+        Call::Fresh { state } => {
+            let mut buffer = Lent::of(state);
+            let answer = bus.fresh(buffer.bytes_mut());
+            outcome(answer, &[], &[&buffer])
+        }
+        Call::NextFrame {
+            table,
+            state,
+            entries,
+        } => {
+            let input = Lent::of(table);
+            let (mut first, mut second) = (Lent::of(state), Lent::of(entries));
+            let answer = bus.next_frame(input.bytes(), first.bytes_mut(), second.bytes_mut());
+            outcome(answer, &[(&input, table)], &[&first, &second])
+        }
+        Call::Report {
+            request,
+            task,
+            ticks,
+            state,
+        } => {
+            let (input, mut buffer) = (Lent::of(request), Lent::of(state));
+            let answer = bus.report(input.bytes(), *task, *ticks, buffer.bytes_mut());
+            outcome(answer, &[(&input, request)], &[&buffer])
+        }
+    }
+}
+
+/// How many bytes at the front of each writable buffer an answered call may change.
+fn may_write(call: &Call, answer: i32) -> Vec<usize> {
+    match call {
+        Call::Plan { .. } | Call::Rewrite { .. } => vec![answer as usize],
+        Call::Check { .. } => vec![],
+        Call::Fresh { .. } => vec![64],
+        Call::NextFrame { .. } => vec![5, 32],
+        Call::Report { .. } => vec![5],
+    }
+}
+
+/// A refusal changes nothing; an answer leaves what lies behind its own bytes.
+fn keeps_the_rest(call: &Call, outcome: &Outcome) -> Result<(), String> {
+    let before = call.writable();
+    if outcome.answer < 0 {
+        let same = before
+            .iter()
+            .zip(&outcome.buffers)
+            .all(|(old, new)| *old == new);
+        return same
+            .then_some(())
+            .ok_or_else(|| "a refusal changed a buffer".to_string());
+    }
+    let lengths = may_write(call, outcome.answer);
+    for ((old, new), length) in before.iter().zip(&outcome.buffers).zip(lengths) {
+        if length > new.len() {
+            return Err("the answer is longer than the buffer".to_string());
+        }
+        if old[length..] != new[length..] {
+            return Err("bytes behind the answer were changed".to_string());
+        }
+    }
+    Ok(())
+}
+
+/// Runs the call on the subject and on the reference: the same outcome, or a description.
+pub fn compare(subject: &dyn Bus, call: &Call) -> Result<Outcome, String> {
+    let told = |fault: String| format!("{fault}: {}", call.describe());
+    let expected = run(&Reference, call).map_err(told)?;
+    keeps_the_rest(call, &expected).map_err(told)?;
+    let actual = run(subject, call).map_err(told)?;
+    keeps_the_rest(call, &actual).map_err(told)?;
+    if actual == expected {
+        return Ok(actual);
+    }
+    Err(told(format!(
+        "answer {} expected {}, buffers {:?} expected {:?}",
+        actual.answer,
+        expected.answer,
+        actual.buffers.iter().map(|b| hex(b)).collect::<Vec<_>>(),
+        expected.buffers.iter().map(|b| hex(b)).collect::<Vec<_>>()
+    )))
+}

@@ -1,0 +1,407 @@
+//! Seeded requests and tables, valid and damaged.
+
+use crate::random::Random;
+use crate::reference::cycle::Cycle;
+use crate::reference::model::{gcd, plausible_lengths};
+use crate::reference::request::{self, Request, Task};
+use crate::reference::search::{plan_of_length, Direction, Effort, Found};
+use crate::reference::table::{self, Entry, Table};
+
+const CYCLES: [i64; 40] = [
+    6, 8, 10, 12, 16, 18, 20, 24, 28, 30, 32, 36, 40, 42, 45, 48, 54, 56, 60, 64, 70, 72, 80, 84,
+    90, 96, 100, 108, 120, 128, 140, 144, 150, 160, 168, 180, 200, 210, 240, 360,
+];
+
+const LONG_CYCLES: [i64; 12] = [
+    720, 840, 1000, 1024, 1260, 2048, 2520, 4096, 5040, 8192, 9240, 10_000,
+];
+
+fn divisors(h: i64) -> Vec<i64> {
+    (1..=h).filter(|d| h % d == 0).collect()
+}
+
+/// A few periods that divide h and let a frame of length f be plausible.
+fn periods(rng: &mut Random, h: i64, f: i64) -> Vec<i64> {
+    let fitting: Vec<i64> = divisors(h)
+        .into_iter()
+        .filter(|t| 2 * f - gcd(f, *t) <= *t && h / t <= 64)
+        .collect();
+    let count = rng.between(1, 3);
+    (0..count).map(|_| rng.pick(&fitting)).collect()
+}
+
+fn deadline(rng: &mut Random, c: i64, t: i64, f: i64) -> i64 {
+    let least = (2 * f - gcd(f, t)).max(c).min(t);
+    match rng.below(8) {
+        0..=2 => t,
+        3 | 4 => least,
+        5 | 6 => rng.between(least, t),
+        _ => rng.between(c, t),
+    }
+}
+
+fn phase(rng: &mut Random, t: i64, f: i64) -> i64 {
+    match rng.below(6) {
+        0 | 1 => 0,
+        2 => {
+            let step = gcd(f, t);
+            step * rng.between(0, t / step - 1)
+        }
+        3 => t - 1,
+        _ => rng.between(0, t - 1),
+    }
+}
+
+/// Some pairs of tasks with equal periods, now and then one of them twice.
+fn pairs(rng: &mut Random, tasks: &[Task]) -> Vec<(usize, usize)> {
+    let mut possible = Vec::new();
+    for b in 0..tasks.len() {
+        for a in 0..b {
+            if tasks[a].t == tasks[b].t {
+                possible.push((a, b));
+            }
+        }
+    }
+    if possible.is_empty() || rng.chance(20) {
+        return Vec::new();
+    }
+    let count = if rng.chance(10) {
+        16
+    } else {
+        rng.between(1, 5)
+    };
+    (0..count).map(|_| rng.pick(&possible)).collect()
+}
+
+/// Tasks made for a frame length f that divides h, so that f is often plausible.
+fn framed(rng: &mut Random, h: i64) -> Request {
+    let lengths: Vec<i64> = divisors(h).into_iter().filter(|f| h / f <= 256).collect();
+    let f = rng.pick(&lengths);
+    let palette = periods(rng, h, f);
+    let most = if rng.chance(15) { 16 } else { 6 };
+    let wanted = rng.between(1, most);
+    // Of each row's f ticks, this share (in hundredths) shall be asked for.
+    let share = rng.between(30, 115);
+    let mut tasks: Vec<Task> = Vec::new();
+    let mut jobs = 0;
+    let mut asked = 0;
+    while (tasks.len() as i64) < wanted {
+        let t = rng.pick(&palette);
+        let left = (share * h / 100 - asked) * t / h;
+        let roof = f.min(t).min(left.max(1));
+        let c = rng.between(1, roof.max(1));
+        jobs += h / t;
+        asked += c * (h / t);
+        if jobs > 128 && !tasks.is_empty() && !rng.chance(3) {
+            break;
+        }
+        let d = deadline(rng, c, t, f);
+        let p = phase(rng, t, f);
+        tasks.push(Task { c, t, d, p });
+    }
+    let pairs = pairs(rng, &tasks);
+    Request { tasks, pairs }
+}
+
+/// Small tasks with no thought of a frame length; the cycle may be too long.
+fn loose(rng: &mut Random) -> Request {
+    let count = rng.between(1, 6);
+    let longest = rng.pick(&[4, 8, 12, 30, 400]);
+    let mut tasks: Vec<Task> = Vec::new();
+    for _ in 0..count {
+        let t = if !tasks.is_empty() && rng.chance(40) {
+            tasks[0].t
+        } else {
+            rng.between(1, longest)
+        };
+        let c = rng.between(1, (t / 3).max(1));
+        let d = rng.between(c, t);
+        let p = rng.between(0, t - 1);
+        tasks.push(Task { c, t, d, p });
+    }
+    let pairs = pairs(rng, &tasks);
+    Request { tasks, pairs }
+}
+
+fn plain_task(c: i64, t: i64, d: i64, p: i64) -> Task {
+    Task { c, t, d, p }
+}
+
+/// 64 + 32 + 16 + 8 + 4 + 2 + 1 + 1 = 128 jobs in a cycle of 640.
+fn halving(rng: &mut Random) -> Vec<Task> {
+    let shift = rng.chance(50);
+    [10, 20, 40, 80, 160, 320, 640, 640]
+        .iter()
+        .map(|&t| {
+            let p = if shift { rng.between(0, t - 1) } else { 0 };
+            plain_task(rng.between(1, 4), t, t, p)
+        })
+        .collect()
+}
+
+/// 15 tasks with 8 jobs and one with a single job.
+fn many_pairs(rng: &mut Random) -> Vec<Task> {
+    let t = rng.pick(&[16, 24, 60]);
+    let mut tasks: Vec<Task> = (0..15)
+        .map(|_| {
+            let p = rng.pick(&[0, 0, t / 4, t / 2]);
+            plain_task(1, t, t, p)
+        })
+        .collect();
+    tasks.push(plain_task(1, 8 * t, 8 * t, rng.between(0, 8 * t - 1)));
+    tasks
+}
+
+/// Requests at the limits: 128 and 129 jobs, 256 and 257 rows, cycles about 10,000.
+fn at_a_limit(rng: &mut Random) -> Request {
+    let tasks = match rng.below(8) {
+        0 => halving(rng),
+        1 => vec![plain_task(1, 1, 1, 0), plain_task(1, 128, 128, 0)],
+        2 => vec![
+            plain_task(rng.between(1, 40), 64, 64, 0),
+            plain_task(rng.between(1, 40), 8_128, 8_128, rng.between(0, 8_127)),
+        ],
+        3 => {
+            let t = rng.pick(&[255, 256, 257, 512]);
+            vec![plain_task(1, t, rng.between(1, 3), 0)]
+        }
+        4 => vec![
+            plain_task(1, 10_000, rng.between(1, 10_000), rng.between(0, 9_999)),
+            plain_task(rng.between(1, 90), 100, 100, rng.between(0, 99)),
+        ],
+        5 => vec![plain_task(1, 10_000 + rng.between(0, 1), 10_000, 0)],
+        6 => {
+            let t = rng.pick(&[127, 125, 128, 100]);
+            vec![plain_task(1, t, t, 0), plain_task(1, 80, 80, 0)]
+        }
+        _ => many_pairs(rng),
+    };
+    let pairs = pairs(rng, &tasks);
+    Request { tasks, pairs }
+}
+
+/// A request that can be read; it may be refused by 7, 8, 9 or 10.
+pub fn valid_request(rng: &mut Random) -> Request {
+    match rng.below(20) {
+        0..=12 => {
+            let h = rng.pick(&CYCLES);
+            framed(rng, h)
+        }
+        13 | 14 => {
+            let h = rng.pick(&LONG_CYCLES);
+            framed(rng, h)
+        }
+        15..=18 => loose(rng),
+        _ => at_a_limit(rng),
+    }
+}
+
+/// Bytes of any content, now and then beginning like a request or a table.
+pub fn noise(rng: &mut Random) -> Vec<u8> {
+    let longest = rng.pick(&[3, 12, 40, 170, 400]);
+    let count = rng.below(longest);
+    let mut bytes = rng.bytes(count);
+    if let Some(first) = bytes.first_mut() {
+        if rng.chance(60) {
+            *first = rng.pick(&[0, 1, 2, 3, 16, 17]);
+        }
+    }
+    bytes
+}
+
+fn put_number(bytes: &mut [u8], at: usize, number: i64) {
+    if at + 2 <= bytes.len() {
+        bytes[at..at + 2].copy_from_slice(&(number as u16).to_le_bytes());
+    }
+}
+
+fn damage_once(rng: &mut Random, bytes: &mut Vec<u8>) {
+    let length = bytes.len();
+    if length == 0 {
+        bytes.push(rng.byte());
+        return;
+    }
+    let at = rng.below(length);
+    match rng.below(9) {
+        0 => bytes[at] ^= 1 << rng.below(8),
+        1 => bytes[at] = rng.byte(),
+        2 => bytes.truncate(at),
+        3 => bytes.insert(at, rng.byte()),
+        4 => {
+            bytes.remove(at);
+        }
+        5 => {
+            let more = 1 + rng.below(4);
+            let tail = rng.bytes(more);
+            bytes.extend(tail);
+        }
+        6 => bytes[at] = bytes[at].wrapping_add(rng.pick(&[1, 255])),
+        7 => bytes[0] = rng.pick(&[0, 1, 2, 15, 16, 17, 255]),
+        _ => {
+            let number = rng.pick(&[0, 1, 2, 255, 256, 9_999, 10_000, 10_001, 32_768, 65_535]);
+            put_number(bytes, at, number);
+        }
+    }
+}
+
+/// One to three damages anywhere in the bytes.
+pub fn damage(rng: &mut Random, bytes: &mut Vec<u8>) {
+    for _ in 0..1 + rng.below(3) {
+        damage_once(rng, bytes);
+    }
+}
+
+/// A request with one field, count or pair made wrong, and all else kept.
+fn damage_a_field(rng: &mut Random, bytes: &mut Vec<u8>) {
+    let n = usize::from(bytes[0]);
+    let pair_count_at = 1 + 8 * n;
+    match rng.below(6) {
+        0 => bytes[0] = rng.pick(&[0, 17, n as u8 + 1, n as u8 - 1]),
+        1 => bytes[pair_count_at] = rng.pick(&[17, 255, bytes[pair_count_at] + 1]),
+        2 | 3 => {
+            let at = 1 + 8 * rng.below(n) + 2 * rng.below(4);
+            let old = i64::from(bytes[at]) + 256 * i64::from(bytes[at + 1]);
+            let number = rng.pick(&[0, old + 1, (old - 1).max(0), 2 * old, 65_535]);
+            put_number(bytes, at, number);
+        }
+        4 => bytes.push(rng.byte()),
+        _ => {
+            bytes[pair_count_at] = bytes[pair_count_at].wrapping_add(1);
+            let pair = [rng.below(n + 1) as u8, rng.below(n + 1) as u8];
+            bytes.extend(pair);
+        }
+    }
+}
+
+/// Bytes to be read as a request: mostly valid, some damaged, some noise.
+pub fn request_bytes(rng: &mut Random) -> Vec<u8> {
+    if rng.chance(6) {
+        return noise(rng);
+    }
+    let mut bytes = request::write(&valid_request(rng));
+    if rng.chance(12) {
+        damage_a_field(rng, &mut bytes);
+    } else if rng.chance(12) {
+        damage(rng, &mut bytes);
+    }
+    bytes
+}
+
+/// Some plan of the cycle: any plausible length, either direction.
+pub fn some_plan(rng: &mut Random, cycle: &Cycle, tries: u64) -> Option<Table> {
+    let lengths = plausible_lengths(cycle);
+    if lengths.is_empty() {
+        return None;
+    }
+    let f = rng.pick(&lengths);
+    let direction = rng.pick(&[Direction::LatestFirst, Direction::EarliestFirst]);
+    match plan_of_length(cycle, f, direction, &mut Effort::up_to(tries)) {
+        Found::Plan(frames) => Some(table::of_plan(cycle, f, &frames)),
+        Found::NoPlan | Found::TooHard => None,
+    }
+}
+
+/// A table of the right form that puts each job into a random row.
+pub fn careless_table(rng: &mut Random, cycle: &Cycle) -> Table {
+    let lengths: Vec<i64> = divisors(cycle.h)
+        .into_iter()
+        .filter(|f| cycle.h / f <= 256)
+        .collect();
+    let f = rng.pick(&lengths);
+    let rows = cycle.h / f;
+    let frames: Vec<i64> = cycle
+        .jobs
+        .iter()
+        .map(|job| {
+            let near = (job.release + f - 1) / f + rng.between(0, 1);
+            near.min(2 * rows - 1)
+        })
+        .collect();
+    let mut table = table::of_plan(cycle, f, &frames);
+    for row in &mut table.rows {
+        row.dedup_by_key(|entry| entry.task);
+    }
+    table
+}
+
+fn put_in_row(table: &mut Table, row: usize, entry: Entry) {
+    let entries = &mut table.rows[row];
+    if entries.iter().all(|other| other.task != entry.task) {
+        entries.push(entry);
+        entries.sort();
+    }
+}
+
+/// A random entry: its row and its place there.
+fn some_entry(rng: &mut Random, table: &Table) -> Option<(usize, usize)> {
+    let filled: Vec<usize> = (0..table.rows.len())
+        .filter(|row| !table.rows[*row].is_empty())
+        .collect();
+    if filled.is_empty() {
+        return None;
+    }
+    let row = rng.pick(&filled);
+    Some((row, rng.below(table.rows[row].len())))
+}
+
+fn disturb_entry(rng: &mut Random, table: &mut Table) {
+    let Some((row, place)) = some_entry(rng, table) else {
+        return;
+    };
+    let other = match rng.below(3) {
+        0 => (row + 1) % table.rows.len(),
+        1 => (row + table.rows.len() - 1) % table.rows.len(),
+        _ => rng.below(table.rows.len()),
+    };
+    let entry = table.rows[row][place];
+    match rng.below(7) {
+        0 => table.rows[row][place].carry ^= true,
+        1 => {
+            table.rows[row].remove(place);
+        }
+        2 | 3 => {
+            table.rows[row].remove(place);
+            put_in_row(table, other, entry);
+        }
+        4 => put_in_row(table, other, entry),
+        5 => table.rows[row][place].job = rng.pick(&[0, 1, 127, (entry.job + 1) % 128]),
+        _ => {
+            table.rows[row].remove(place);
+            let task = rng.between(0, 15);
+            put_in_row(table, row, Entry { task, ..entry });
+        }
+    }
+}
+
+fn repeat(table: &mut Table) {
+    let again = table.rows.clone();
+    table.rows.extend(again);
+    table.h *= 2;
+}
+
+/// A change to a table that mostly keeps its form.
+pub fn disturb(rng: &mut Random, table: &mut Table) {
+    match rng.below(12) {
+        0 => repeat(table),
+        1 => {
+            table.f *= 2;
+            table.h *= 2;
+        }
+        2 => table.rows.push(Vec::new()),
+        3 => {
+            let (a, b) = (rng.below(table.rows.len()), rng.below(table.rows.len()));
+            table.rows.swap(a, b);
+        }
+        4 => {
+            if let Some((row, place)) = some_entry(rng, table) {
+                let entry = table.rows[row][place];
+                table.rows[row].insert(place, entry);
+            }
+        }
+        5 => {
+            let row = rng.below(table.rows.len());
+            table.rows[row].reverse();
+        }
+        _ => disturb_entry(rng, table),
+    }
+}

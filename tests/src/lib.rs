@@ -1,0 +1,15 @@
+//! Tests of the bus library from outside: a second planner, a generator of requests, tables
+//! and call lists, and the comparison of any implementation with the reference.
+
+pub mod bus;
+pub mod call;
+pub mod clock;
+pub mod generate;
+#[cfg(feature = "linked")]
+pub mod library;
+pub mod plain;
+pub mod random;
+pub mod reference;
+pub mod rounds;
+pub mod sheet;
+pub mod simulate;

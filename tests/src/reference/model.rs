@@ -1,0 +1,94 @@
+//! What a plan is, said of a whole placing at once.
+
+use super::cycle::{Cycle, Job};
+
+pub const MOST_ROWS: i64 = 256;
+
+/// The largest number that divides both.
+pub fn gcd(a: i64, b: i64) -> i64 {
+    (1..=a.min(b))
+        .rev()
+        .find(|g| a % g == 0 && b % g == 0)
+        .expect("both numbers are at least 1")
+}
+
+/// Whether f is plausible for the request.
+pub fn plausible(cycle: &Cycle, f: i64) -> bool {
+    f >= 1
+        && cycle.h % f == 0
+        && cycle.h / f <= MOST_ROWS
+        && cycle.request.tasks.iter().all(|task| f >= task.c)
+        && cycle
+            .request
+            .tasks
+            .iter()
+            .all(|task| 2 * f - gcd(f, task.t) <= task.d)
+}
+
+/// All plausible frame lengths, from the largest down.
+pub fn plausible_lengths(cycle: &Cycle) -> Vec<i64> {
+    (1..=cycle.h)
+        .rev()
+        .filter(|f| plausible(cycle, *f))
+        .collect()
+}
+
+fn in_window(job: &Job, f: i64, k: i64) -> bool {
+    k * f >= job.release && (k + 1) * f <= job.due
+}
+
+/// The frames of a job's window, from the earliest.
+pub fn window(job: &Job, f: i64, rows: i64) -> Vec<i64> {
+    (0..2 * rows).filter(|k| in_window(job, f, *k)).collect()
+}
+
+fn windows_hold(cycle: &Cycle, f: i64, frames: &[i64]) -> bool {
+    cycle
+        .jobs
+        .iter()
+        .zip(frames)
+        .all(|(job, k)| in_window(job, f, *k))
+}
+
+fn rows_hold(cycle: &Cycle, f: i64, frames: &[i64]) -> bool {
+    let rows = cycle.h / f;
+    (0..rows).all(|row| busy(cycle, rows, frames, row) <= f)
+}
+
+/// The sum of C of the jobs in a row.
+pub fn busy(cycle: &Cycle, rows: i64, frames: &[i64], row: i64) -> i64 {
+    cycle
+        .jobs
+        .iter()
+        .zip(frames)
+        .filter(|(_, k)| **k % rows == row)
+        .map(|(job, _)| job.cost)
+        .sum()
+}
+
+fn frame_of(cycle: &Cycle, frames: &[i64], task: usize, number: i64) -> i64 {
+    let place = cycle
+        .jobs
+        .iter()
+        .position(|job| job.task == task && job.number == number)
+        .expect("the job exists");
+    frames[place]
+}
+
+fn order_holds(cycle: &Cycle, frames: &[i64]) -> bool {
+    cycle.request.pairs.iter().all(|&(a, b)| {
+        let count = cycle.h / cycle.request.tasks[a].t;
+        (0..count).all(|j| frame_of(cycle, frames, a, j) <= frame_of(cycle, frames, b, j))
+    })
+}
+
+/// Whether the frames, one for each job in planning order, are a plan with length f.
+pub fn is_plan(cycle: &Cycle, f: i64, frames: &[i64]) -> bool {
+    f >= 1
+        && cycle.h % f == 0
+        && cycle.h / f <= MOST_ROWS
+        && frames.len() == cycle.jobs.len()
+        && windows_hold(cycle, f, frames)
+        && rows_hold(cycle, f, frames)
+        && order_holds(cycle, frames)
+}

@@ -1,0 +1,301 @@
+//! One round of comparison: a request, and the calls that can be made about it.
+
+use std::collections::BTreeMap;
+
+use crate::bus::{Bus, ENTRIES_LEN, STATE_LEN};
+use crate::call::{compare, Call, Outcome};
+use crate::generate;
+use crate::random::Random;
+use crate::reference::cycle::Cycle;
+use crate::reference::table::{encode, Table};
+use crate::reference::{planned, read_cycle, tries_within};
+
+/// Requests that need more tries than this are left out: both sides would take too long.
+pub const MOST_TRIES: u64 = 30_000;
+
+/// How often each call gave each answer (answers from 0 up count as 0).
+#[derive(Clone, Debug, Default)]
+pub struct Tally {
+    counts: BTreeMap<(&'static str, i32), u64>,
+    pub requests: u64,
+    pub left_out: u64,
+    pub calls: u64,
+}
+
+impl Tally {
+    pub fn count(&self, name: &'static str, answer: i32) -> u64 {
+        self.counts.get(&(name, answer)).copied().unwrap_or(0)
+    }
+
+    pub fn note(&mut self, call: &Call, outcome: &Outcome) {
+        self.calls += 1;
+        let answer = outcome.answer.min(0);
+        *self.counts.entry((call.name(), answer)).or_default() += 1;
+    }
+
+    /// One line for each call: its answers and how often each was given.
+    pub fn summary(&self) -> String {
+        let mut text = format!(
+            "{} requests, {} left out, {} calls\n",
+            self.requests, self.left_out, self.calls
+        );
+        for name in ["plan", "check", "rewrite", "fresh", "next_frame", "report"] {
+            text.push_str(&format!("{name:10}"));
+            for ((called, answer), count) in self.counts.iter().rev() {
+                if *called == name {
+                    text.push_str(&format!("  {answer}: {count}"));
+                }
+            }
+            text.push('\n');
+        }
+        text
+    }
+}
+
+/// The subject, the random numbers and the tally of a comparison.
+pub struct Comparison<'a> {
+    pub subject: &'a dyn Bus,
+    pub rng: Random,
+    pub tally: Tally,
+}
+
+impl<'a> Comparison<'a> {
+    pub fn new(subject: &'a dyn Bus, seed: u64) -> Comparison<'a> {
+        Comparison {
+            subject,
+            rng: Random::new(seed),
+            tally: Tally::default(),
+        }
+    }
+
+    fn same(&mut self, call: &Call) -> Result<Outcome, String> {
+        let outcome = compare(self.subject, call)?;
+        self.tally.note(call, &outcome);
+        Ok(outcome)
+    }
+
+    /// Rounds until so many requests have been compared.
+    pub fn rounds(&mut self, requests: u64) -> Result<(), String> {
+        while self.tally.requests < requests {
+            self.round()?;
+        }
+        Ok(())
+    }
+
+    pub fn round(&mut self) -> Result<(), String> {
+        let request = generate::request_bytes(&mut self.rng);
+        if tries_within(&request, MOST_TRIES).is_none() {
+            self.tally.left_out += 1;
+            return Ok(());
+        }
+        self.tally.requests += 1;
+        let chosen = planned(&request).ok();
+        self.plans(&request, chosen.as_ref())?;
+        let pool = self.tables(&request, chosen.as_ref());
+        self.checks(&request, &pool)?;
+        self.call_list(&request, &pool)
+    }
+
+    fn buffer(&mut self, length: usize) -> Vec<u8> {
+        self.rng.bytes(length)
+    }
+
+    /// Lengths about the length of a table: short by one, exact, longer, and any.
+    fn rooms(&mut self, length: usize) -> Vec<usize> {
+        let longer = length + 1 + self.rng.below(60);
+        let any = self.rng.below(600);
+        vec![length.saturating_sub(1), length, longer, any]
+    }
+
+    fn plans(&mut self, request: &[u8], chosen: Option<&Table>) -> Result<(), String> {
+        let length = chosen.map_or(0, |table| encode(table).len());
+        for room in self.rooms(length) {
+            let call = Call::Plan {
+                request: request.to_vec(),
+                out: self.buffer(room),
+            };
+            self.same(&call)?;
+        }
+        Ok(())
+    }
+
+    /// Tables for a request: its own, other plans, disturbed ones and noise.
+    fn tables(&mut self, request: &[u8], chosen: Option<&Table>) -> Vec<Vec<u8>> {
+        let mut tables: Vec<Table> = chosen.cloned().into_iter().collect();
+        if let Ok(cycle) = read_cycle(request) {
+            self.more_tables(&cycle, &mut tables);
+        }
+        let mut pool: Vec<Vec<u8>> = tables.iter().map(encode).collect();
+        if let Some(first) = pool.first() {
+            let mut damaged = first.clone();
+            generate::damage(&mut self.rng, &mut damaged);
+            pool.push(damaged);
+        }
+        pool.push(generate::noise(&mut self.rng));
+        pool
+    }
+
+    fn more_tables(&mut self, cycle: &Cycle, tables: &mut Vec<Table>) {
+        tables.extend(generate::some_plan(&mut self.rng, cycle, MOST_TRIES));
+        tables.push(generate::careless_table(&mut self.rng, cycle));
+        for place in 0..tables.len() {
+            let mut disturbed = tables[place].clone();
+            generate::disturb(&mut self.rng, &mut disturbed);
+            tables.push(disturbed);
+        }
+    }
+
+    fn checks(&mut self, request: &[u8], pool: &[Vec<u8>]) -> Result<(), String> {
+        for table in pool {
+            let call = Call::Check {
+                request: request.to_vec(),
+                table: table.clone(),
+            };
+            self.same(&call)?;
+            let room = *self.rng.pick(&[&table.len(), &(table.len() + 9)]);
+            self.rewrite(request, table, room)?;
+        }
+        let table = self.rng.pick(pool);
+        let short = table.len().saturating_sub(1);
+        self.rewrite(request, &table, short)
+    }
+
+    fn rewrite(&mut self, request: &[u8], table: &[u8], room: usize) -> Result<(), String> {
+        let call = Call::Rewrite {
+            request: request.to_vec(),
+            table: table.to_vec(),
+            out: self.buffer(room),
+        };
+        self.same(&call).map(|_| ())
+    }
+
+    /// A list of next-frame and report calls, each with the state that the last one left.
+    fn call_list(&mut self, request: &[u8], pool: &[Vec<u8>]) -> Result<(), String> {
+        let table = pool[0].clone();
+        let mut state = self.fresh()?;
+        for _ in 0..self.rng.between(8, 40) {
+            if self.rng.chance(4) {
+                self.touch_state(&mut state);
+            }
+            state = if self.rng.chance(70) {
+                let used = self.usual_or(&table, pool);
+                self.next_frame(used, state)?
+            } else {
+                self.report(request, state)?
+            };
+        }
+        Ok(())
+    }
+
+    fn fresh(&mut self) -> Result<Vec<u8>, String> {
+        let length = self.rng.pick(&[STATE_LEN, STATE_LEN, STATE_LEN + 7]);
+        let call = Call::Fresh {
+            state: self.buffer(length),
+        };
+        let outcome = self.same(&call)?;
+        let short = self.rng.below(STATE_LEN);
+        let call = Call::Fresh {
+            state: self.buffer(short),
+        };
+        self.same(&call)?;
+        Ok(outcome.buffers[0].clone())
+    }
+
+    /// Now and then another state than the last call left: any row, mark, count or length.
+    fn touch_state(&mut self, state: &mut [u8]) {
+        match self.rng.below(5) {
+            0 => state[0..2].copy_from_slice(&(self.rng.below(300) as u16).to_le_bytes()),
+            1 => state[3..5].copy_from_slice(&(65_533 + self.rng.below(3) as u16).to_le_bytes()),
+            2 => state[2] = self.rng.pick(&[0, 1, 0, 1, 2, 255]),
+            3 => state[5..].fill(self.rng.byte()),
+            _ => {
+                state[0..2].fill(255);
+                state[2] = 0;
+            }
+        }
+    }
+
+    fn usual_or(&mut self, usual: &[u8], others: &[Vec<u8>]) -> Vec<u8> {
+        if self.rng.chance(93) {
+            usual.to_vec()
+        } else {
+            self.rng.pick(others)
+        }
+    }
+
+    /// The same state in a buffer that is too short, in 3 of 100 cases.
+    fn lent_state(&mut self, state: &[u8]) -> Vec<u8> {
+        let mut lent = state.to_vec();
+        if self.rng.chance(3) {
+            lent.truncate(self.rng.below(STATE_LEN));
+        }
+        lent
+    }
+
+    fn next_frame(&mut self, table: Vec<u8>, state: Vec<u8>) -> Result<Vec<u8>, String> {
+        let length = match self.rng.below(30) {
+            0 => self.rng.below(ENTRIES_LEN),
+            1 => ENTRIES_LEN + 5,
+            _ => ENTRIES_LEN,
+        };
+        let call = Call::NextFrame {
+            table,
+            state: self.lent_state(&state),
+            entries: self.buffer(length),
+        };
+        let outcome = self.same(&call)?;
+        Ok(after(state, &outcome))
+    }
+
+    fn report(&mut self, request: &[u8], state: Vec<u8>) -> Result<Vec<u8>, String> {
+        let mut bytes = request.to_vec();
+        match self.rng.below(10) {
+            0 => generate::damage(&mut self.rng, &mut bytes),
+            1 => bytes = generate::noise(&mut self.rng),
+            2 => bytes = generate::request_bytes(&mut self.rng),
+            _ => {}
+        }
+        let task = if self.rng.chance(85) {
+            self.rng
+                .below(usize::from(bytes.first().map_or(1, |n| (*n).clamp(1, 16))))
+                as u8
+        } else {
+            self.rng.byte()
+        };
+        let call = Call::Report {
+            ticks: self.ticks(&bytes, task),
+            request: bytes,
+            task,
+            state: self.lent_state(&state),
+        };
+        let outcome = self.same(&call)?;
+        Ok(after(state, &outcome))
+    }
+
+    /// Ticks about the C that the bytes give the task, or far above.
+    fn ticks(&mut self, request: &[u8], task: u8) -> u32 {
+        let at = 1 + 8 * usize::from(task);
+        let c = match request.get(at..at + 2) {
+            Some(two) => u32::from(two[0]) + 256 * u32::from(two[1]),
+            None => 5,
+        };
+        match self.rng.below(8) {
+            0 => u32::MAX,
+            1 => self.rng.draw() as u32,
+            2 => c + 65_536,
+            3 => c.saturating_sub(1),
+            4 => 0,
+            5 => c,
+            _ => c + 1,
+        }
+    }
+}
+
+/// The state that the list goes on with: what the call left, if it was lent whole.
+fn after(state: Vec<u8>, outcome: &Outcome) -> Vec<u8> {
+    if outcome.buffers[0].len() == state.len() {
+        outcome.buffers[0].clone()
+    } else {
+        state
+    }
+}

@@ -1,0 +1,63 @@
+//! Requests in short form: tasks as (C, T, D, P), and the bench sheet.
+
+use crate::reference::request::{write, Request, Task};
+
+pub type Short = (i64, i64, i64, i64);
+
+/// The bytes of a request with these tasks and pairs.
+pub fn request(tasks: &[Short], pairs: &[(usize, usize)]) -> Vec<u8> {
+    write(&Request {
+        tasks: tasks
+            .iter()
+            .map(|&(c, t, d, p)| Task { c, t, d, p })
+            .collect(),
+        pairs: pairs.to_vec(),
+    })
+}
+
+pub fn p1() -> Vec<u8> {
+    request(&[(5, 20, 20, 0), (5, 20, 20, 0), (10, 40, 40, 0)], &[])
+}
+
+pub fn p2() -> Vec<u8> {
+    request(&[(2, 6, 6, 0), (2, 8, 8, 0), (8, 24, 24, 0)], &[])
+}
+
+pub fn p3() -> Vec<u8> {
+    request(
+        &[(2, 6, 6, 0), (2, 8, 8, 0), (4, 24, 24, 0), (4, 24, 24, 0)],
+        &[(2, 3)],
+    )
+}
+
+pub fn p5() -> Vec<u8> {
+    request(&[(5, 20, 20, 0), (10, 20, 20, 0), (10, 40, 40, 0)], &[])
+}
+
+pub fn p6() -> Vec<u8> {
+    request(&[(14, 60, 40, 10), (15, 60, 45, 15), (5, 20, 20, 0)], &[])
+}
+
+pub fn p7() -> Vec<u8> {
+    request(&[(2, 10, 9, 6)], &[])
+}
+
+pub fn p8() -> Vec<u8> {
+    request(&[(1, 10, 5, 2)], &[])
+}
+
+pub fn p9() -> Vec<u8> {
+    request(&[(1, 256, 1, 0)], &[])
+}
+
+pub fn p10() -> Vec<u8> {
+    request(&[(1, 257, 1, 0)], &[])
+}
+
+pub fn p11() -> Vec<u8> {
+    request(&[(1, 1, 1, 0), (1, 128, 128, 0)], &[])
+}
+
+pub fn p12() -> Vec<u8> {
+    request(&[(1, 10_000, 10_000, 0)], &[])
+}

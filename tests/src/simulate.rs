@@ -1,0 +1,333 @@
+//! A flight: a table served frame by frame with random actual times and reports, beside the
+//! plain dispatcher that keeps only the frames served and the overruns.
+
+use std::collections::BTreeMap;
+
+use crate::bus::{Bus, ENTRIES_LEN, STATE_LEN};
+use crate::call::{hex, run, Call};
+use crate::generate;
+use crate::random::Random;
+use crate::reference::cycle::{Cycle, Job};
+use crate::reference::table::{decode, Entry, Table};
+use crate::reference::{read_cycle, request};
+
+/// A job of one cycle: task, job number, cycle.
+type Instance = (i64, i64, i64);
+
+/// The dispatcher that is fed calls without a state.
+#[derive(Clone, Debug)]
+struct PlainDispatcher {
+    frames: i64,
+    overruns: i64,
+}
+
+impl PlainDispatcher {
+    fn next_frame(&mut self, table: &Table) -> Vec<Entry> {
+        let count = table.rows.len() as i64;
+        let row = &table.rows[(self.frames % count) as usize];
+        let first_cycle = self.frames < count;
+        self.frames += 1;
+        row.iter()
+            .filter(|entry| !(first_cycle && entry.carry))
+            .copied()
+            .collect()
+    }
+
+    fn report(&mut self, bytes: &[u8], task: u8, ticks: u32) -> i32 {
+        let read = match request::read(bytes) {
+            Ok(read) => read,
+            Err(number) => return -number,
+        };
+        let Some(task) = read.tasks.get(usize::from(task)) else {
+            return -16;
+        };
+        if i64::from(ticks) > task.c && self.overruns < 65_535 {
+            self.overruns += 1;
+        }
+        0
+    }
+}
+
+/// Start and end of every run of every instance.
+type Log = BTreeMap<Instance, Vec<(i64, i64)>>;
+
+pub struct Flight<'a> {
+    bus: &'a dyn Bus,
+    cycle: Cycle,
+    request: Vec<u8>,
+    table_bytes: Vec<u8>,
+    table: Table,
+    plain: PlainDispatcher,
+    state: Vec<u8>,
+    log: Log,
+}
+
+impl<'a> Flight<'a> {
+    /// A flight from the fresh state, with a table that the check accepts.
+    pub fn start(
+        bus: &'a dyn Bus,
+        request: &[u8],
+        table_bytes: &[u8],
+    ) -> Result<Flight<'a>, String> {
+        let cycle = read_cycle(request).map_err(|number| format!("request refused {number}"))?;
+        let table = decode(table_bytes).ok_or("the table has not the form")?;
+        if bus.check(request, table_bytes) != 0 {
+            return Err(format!("table not accepted: {}", hex(table_bytes)));
+        }
+        let mut state = vec![0xEE; STATE_LEN];
+        if bus.fresh(&mut state) != 0 {
+            return Err("fresh refused".to_string());
+        }
+        Ok(Flight {
+            bus,
+            cycle,
+            request: request.to_vec(),
+            table_bytes: table_bytes.to_vec(),
+            table,
+            plain: PlainDispatcher {
+                frames: 0,
+                overruns: 0,
+            },
+            state,
+            log: Log::new(),
+        })
+    }
+
+    /// Serves so many frames with reports between them, then judges the whole list.
+    pub fn fly(&mut self, rng: &mut Random, frames: i64) -> Result<(), String> {
+        for _ in 0..frames {
+            self.serve(rng)?;
+            while rng.chance(40) {
+                self.report(rng)?;
+            }
+        }
+        self.judge_state()?;
+        self.judge_log()
+            .map_err(|fault| format!("{fault}: {}", self.described()))
+    }
+
+    fn described(&self) -> String {
+        format!(
+            "request [{}] table [{}] frames {}",
+            hex(&self.request),
+            hex(&self.table_bytes),
+            self.plain.frames
+        )
+    }
+
+    fn serve(&mut self, rng: &mut Random) -> Result<(), String> {
+        let m = self.plain.frames;
+        let call = Call::NextFrame {
+            table: self.table_bytes.clone(),
+            state: self.state.clone(),
+            entries: rng.bytes(ENTRIES_LEN),
+        };
+        let outcome = run(self.bus, &call)?;
+        let expected = self.plain.next_frame(&self.table);
+        let served = &outcome.buffers[1];
+        if outcome.answer != expected.len() as i32 || *served != places(&expected) {
+            return Err(format!(
+                "frame {m} served {} [{}]: {}",
+                outcome.answer,
+                hex(served),
+                self.described()
+            ));
+        }
+        self.state = outcome.buffers[0].clone();
+        let count = outcome.answer as usize;
+        let entries = served[..2 * count].to_vec();
+        self.log_frame(rng, m, &entries)
+    }
+
+    /// Lets the served entries run one after the other from the start of frame m.
+    fn log_frame(&mut self, rng: &mut Random, m: i64, served: &[u8]) -> Result<(), String> {
+        let cycle_now = m / self.table.rows.len() as i64;
+        let mut now = m * self.table.f;
+        for entry in served.chunks(2) {
+            let carried = entry[1] >= 128;
+            let q = if carried { cycle_now - 1 } else { cycle_now };
+            if q < 0 {
+                return Err(format!("a carried entry was served in frame {m}"));
+            }
+            let c = self.cycle.request.tasks[usize::from(entry[0])].c;
+            let actual = if rng.chance(40) { c } else { rng.between(0, c) };
+            let instance = (i64::from(entry[0]), i64::from(entry[1] % 128), q);
+            let runs = self.log.entry(instance).or_default();
+            runs.push((now, now + actual));
+            now += actual;
+        }
+        Ok(())
+    }
+
+    fn report(&mut self, rng: &mut Random) -> Result<(), String> {
+        let mut bytes = self.request.clone();
+        if rng.chance(15) {
+            generate::damage(rng, &mut bytes);
+        }
+        let task = rng.below(self.cycle.request.tasks.len() + 2) as u8;
+        let ticks = rng.pick(&[0, 1, 2, 5, 50, 65_536, u32::MAX]);
+        let call = Call::Report {
+            request: bytes.clone(),
+            task,
+            ticks,
+            state: self.state.clone(),
+        };
+        let outcome = run(self.bus, &call)?;
+        let expected = self.plain.report(&bytes, task, ticks);
+        if outcome.answer != expected {
+            return Err(format!(
+                "report gave {} for {expected}: {}",
+                outcome.answer,
+                call.describe()
+            ));
+        }
+        self.state = outcome.buffers[0].clone();
+        Ok(())
+    }
+
+    /// Row m mod F, mark exactly while m < F, count v, and the free bytes as fresh set them.
+    fn judge_state(&self) -> Result<(), String> {
+        let count = self.table.rows.len() as i64;
+        let mut expected = vec![0; STATE_LEN];
+        let row = (self.plain.frames % count) as u16;
+        expected[0..2].copy_from_slice(&row.to_le_bytes());
+        expected[2] = u8::from(self.plain.frames < count);
+        expected[3..5].copy_from_slice(&(self.plain.overruns as u16).to_le_bytes());
+        if self.state == expected {
+            return Ok(());
+        }
+        Err(format!(
+            "state [{}] expected [{}]: {}",
+            hex(&self.state),
+            hex(&expected),
+            self.described()
+        ))
+    }
+
+    fn judge_log(&self) -> Result<(), String> {
+        for (instance, runs) in &self.log {
+            self.judge_runs(instance, runs)?;
+        }
+        self.judge_due_jobs()?;
+        self.judge_pairs()
+    }
+
+    fn job(&self, task: i64, number: i64) -> Option<&Job> {
+        self.cycle
+            .jobs
+            .iter()
+            .find(|job| job.task as i64 == task && job.number == number)
+    }
+
+    /// Once, not before the release, and ended by the due time.
+    fn judge_runs(&self, instance: &Instance, runs: &[(i64, i64)]) -> Result<(), String> {
+        let (task, number, q) = *instance;
+        let job = self.job(task, number).ok_or("a served job is unknown")?;
+        if runs.len() != 1 {
+            return Err(format!("{instance:?} ran {} times", runs.len()));
+        }
+        let (start, end) = runs[0];
+        if start < job.release + q * self.cycle.h {
+            return Err(format!("{instance:?} started at {start}, before release"));
+        }
+        if end > job.due + q * self.cycle.h {
+            return Err(format!("{instance:?} ended at {end}, after its due time"));
+        }
+        Ok(())
+    }
+
+    /// Every job due by the end of the last frame served has run.
+    fn judge_due_jobs(&self) -> Result<(), String> {
+        let end = self.plain.frames * self.table.f;
+        for q in 0..=end / self.cycle.h {
+            for job in &self.cycle.jobs {
+                let due = job.due + q * self.cycle.h;
+                let instance = (job.task as i64, job.number, q);
+                if due <= end && !self.log.contains_key(&instance) {
+                    return Err(format!("{instance:?} was due at {due} and has not run"));
+                }
+            }
+        }
+        Ok(())
+    }
+
+    /// Whenever job j of b has started, job j of a in the same cycle had ended by then.
+    fn judge_pairs(&self) -> Result<(), String> {
+        for &(a, b) in &self.cycle.request.pairs {
+            for ((task, number, q), runs) in &self.log {
+                if *task != b as i64 {
+                    continue;
+                }
+                let before = (a as i64, *number, *q);
+                let ended = self.log.get(&before).map(|runs| runs[0].1);
+                if ended.is_none_or(|end| end > runs[0].0) {
+                    return Err(format!("pair {a}, {b}: {before:?} had not ended"));
+                }
+            }
+        }
+        Ok(())
+    }
+}
+
+fn places(entries: &[Entry]) -> Vec<u8> {
+    let mut bytes = vec![0; ENTRIES_LEN];
+    for (place, entry) in entries.iter().enumerate() {
+        bytes[2 * place] = entry.task as u8;
+        bytes[2 * place + 1] = entry.job_byte();
+    }
+    bytes
+}
+
+/// What a number of flights covered.
+#[derive(Clone, Copy, Debug, Default)]
+pub struct Flights {
+    pub flights: u64,
+    pub frames: u64,
+    pub with_carry: u64,
+    pub with_pairs: u64,
+}
+
+/// Plans random requests and flies each table, and another plan of the same request.
+pub fn fly_many(bus: &dyn Bus, seed: u64, flights: u64) -> Result<Flights, String> {
+    let mut rng = Random::new(seed);
+    let mut done = Flights::default();
+    while done.flights < flights {
+        let request = request::write(&generate::valid_request(&mut rng));
+        if crate::reference::tries_within(&request, crate::rounds::MOST_TRIES).is_none() {
+            continue;
+        }
+        let mut out = vec![0; 1024];
+        let answer = bus.plan(&request, &mut out);
+        if answer < 0 {
+            continue;
+        }
+        out.truncate(answer as usize);
+        fly_one(bus, &mut rng, &request, &out, &mut done)?;
+        let cycle = read_cycle(&request).map_err(|number| format!("planned, yet {number}"))?;
+        let other = generate::some_plan(&mut rng, &cycle, crate::rounds::MOST_TRIES);
+        if let Some(table) = other {
+            let bytes = crate::reference::table::encode(&table);
+            fly_one(bus, &mut rng, &request, &bytes, &mut done)?;
+        }
+    }
+    Ok(done)
+}
+
+fn fly_one(
+    bus: &dyn Bus,
+    rng: &mut Random,
+    request: &[u8],
+    table: &[u8],
+    done: &mut Flights,
+) -> Result<(), String> {
+    let mut flight = Flight::start(bus, request, table)?;
+    let rows = flight.table.rows.len() as i64;
+    let frames = rng.between(0, (4 * rows).min(600));
+    flight.fly(rng, frames)?;
+    done.flights += 1;
+    done.frames += frames as u64;
+    let carries = flight.table.rows.iter().flatten().any(|entry| entry.carry);
+    done.with_carry += u64::from(carries);
+    done.with_pairs += u64::from(!flight.cycle.request.pairs.is_empty());
+    Ok(())
+}

@@ -1,0 +1,94 @@
+//! What several test files share.
+#![allow(dead_code)]
+
+use bus_tests::bus::Bus;
+use bus_tests::reference::table::{encode, Entry, Table};
+use bus_tests::reference::Reference;
+
+type Subject = (&'static str, &'static dyn Bus);
+
+#[cfg(feature = "linked")]
+fn linked() -> Option<Subject> {
+    Some(("library", &bus_tests::library::Library))
+}
+
+#[cfg(not(feature = "linked"))]
+fn linked() -> Option<Subject> {
+    None
+}
+
+/// The reference and, when it is linked, the library.
+pub fn subjects() -> Vec<Subject> {
+    let reference: Subject = ("reference", &Reference);
+    [reference].into_iter().chain(linked()).collect()
+}
+
+/// What the comparisons judge: the library when it is linked, else the reference itself.
+pub fn subject() -> &'static dyn Bus {
+    subjects().last().expect("there is one").1
+}
+
+fn entry(word: &str) -> Entry {
+    let (name, carry) = match word.strip_suffix('+') {
+        Some(name) => (name, true),
+        None => (word, false),
+    };
+    let (task, job) = name.split_once('.').expect("task.job");
+    Entry {
+        task: task.parse().expect("a task number"),
+        job: job.parse().expect("a job number"),
+        carry,
+    }
+}
+
+/// Table bytes from rows written like `0.0 1.0 / 2.0+ / `.
+pub fn table(f: i64, h: i64, rows: &str) -> Vec<u8> {
+    encode(&Table {
+        f,
+        h,
+        rows: rows
+            .split('/')
+            .map(|row| row.split_whitespace().map(entry).collect())
+            .collect(),
+    })
+}
+
+/// The table that a plan call gives, with the bytes behind it tested, or the refusal.
+pub fn plan(bus: &dyn Bus, request: &[u8]) -> Result<Vec<u8>, i32> {
+    let mut out = vec![0xC3; 700];
+    let answer = bus.plan(request, &mut out);
+    let length = answer.max(0) as usize;
+    assert!(out[length..].iter().all(|byte| *byte == 0xC3));
+    if answer < 0 {
+        return Err(-answer);
+    }
+    out.truncate(length);
+    Ok(out)
+}
+
+/// The request is planned as this table, and check and rewrite agree with it.
+pub fn plans_as(request: &[u8], f: i64, h: i64, rows: &str) {
+    let expected = table(f, h, rows);
+    for (name, bus) in subjects() {
+        assert_eq!(plan(bus, request), Ok(expected.clone()), "{name}");
+        assert_eq!(bus.check(request, &expected), 0, "{name}");
+        let mut out = vec![0; expected.len()];
+        let length = bus.rewrite(request, &expected, &mut out);
+        assert_eq!(length as usize, expected.len(), "{name}");
+        assert_eq!(out, expected, "{name}");
+    }
+}
+
+pub fn refused(request: &[u8], number: i32) {
+    for (name, bus) in subjects() {
+        assert_eq!(plan(bus, request), Err(number), "{name}");
+        // A refusal by the planner does not look at the room.
+        assert_eq!(bus.plan(request, &mut []), -number, "{name}");
+    }
+}
+
+pub fn checks_as(request: &[u8], table: &[u8], answer: i32) {
+    for (name, bus) in subjects() {
+        assert_eq!(bus.check(request, table), answer, "{name}");
+    }
+}

@@ -1,0 +1,149 @@
+//! Small worlds tried whole: every request of one or two short tasks, and every value of every
+//! byte of a request and of a table.
+
+mod common;
+
+use bus_tests::bus::{ENTRIES_LEN, STATE_LEN};
+use bus_tests::call::{compare, Call};
+use bus_tests::reference::{planned, table::encode, tries_within};
+use bus_tests::rounds::MOST_TRIES;
+use bus_tests::sheet::{self, request, Short};
+use common::subject;
+
+fn same(call: &Call) -> i32 {
+    match compare(subject(), call) {
+        Ok(outcome) => outcome.answer,
+        Err(fault) => panic!("{fault}"),
+    }
+}
+
+/// Plans with room enough, and checks the table if there is one.
+fn plans_alike(request: Vec<u8>) -> i32 {
+    if tries_within(&request, MOST_TRIES).is_none() {
+        return -10;
+    }
+    let answer = same(&Call::Plan {
+        request: request.clone(),
+        out: vec![0x3C; 80],
+    });
+    if let Ok(table) = planned(&request) {
+        let table = encode(&table);
+        assert_eq!(same(&Call::Check { request, table }), 0);
+    }
+    answer
+}
+
+/// Every (C, T, D, P) with this T.
+fn tasks_of_period(t: i64) -> Vec<Short> {
+    let mut tasks = Vec::new();
+    for d in 1..=t {
+        for c in 1..=d {
+            for p in 0..t {
+                tasks.push((c, t, d, p));
+            }
+        }
+    }
+    tasks
+}
+
+#[test]
+fn every_request_of_one_short_task() {
+    let mut planned = 0;
+    for t in 1..=14 {
+        for task in tasks_of_period(t) {
+            planned += u32::from(plans_alike(request(&[task], &[])) > 0);
+        }
+    }
+    assert!(planned > 1_000, "{planned}");
+}
+
+#[test]
+fn every_request_of_two_short_tasks() {
+    let tasks: Vec<Short> = [2, 3, 4, 6].into_iter().flat_map(tasks_of_period).collect();
+    let mut planned = 0;
+    for first in &tasks {
+        for second in &tasks {
+            let two = [*first, *second];
+            planned += u32::from(plans_alike(request(&two, &[])) > 0);
+            if first.1 == second.1 {
+                planned += u32::from(plans_alike(request(&two, &[(0, 1)])) > 0);
+            }
+        }
+    }
+    assert!(planned > 10_000, "{planned}");
+}
+
+/// The bytes with every value at every place.
+fn every_byte(bytes: &[u8]) -> impl Iterator<Item = Vec<u8>> + '_ {
+    (0..bytes.len()).flat_map(move |place| {
+        (0..=255).map(move |value| {
+            let mut changed = bytes.to_vec();
+            changed[place] = value;
+            changed
+        })
+    })
+}
+
+#[test]
+fn every_byte_of_a_request() {
+    for bytes in [sheet::p3(), sheet::p6(), sheet::p7()] {
+        for changed in every_byte(&bytes) {
+            plans_alike(changed.clone());
+            same(&Call::Report {
+                request: changed,
+                task: 0,
+                ticks: 3,
+                state: fresh(),
+            });
+        }
+    }
+}
+
+fn fresh() -> Vec<u8> {
+    let mut state = vec![0; STATE_LEN];
+    assert_eq!(subject().fresh(&mut state), 0);
+    state
+}
+
+#[test]
+fn every_byte_of_a_table() {
+    for request in [sheet::p1(), sheet::p3(), sheet::p6(), sheet::p7()] {
+        let table = encode(&planned(&request).expect("it has a table"));
+        for changed in every_byte(&table) {
+            same(&Call::Check {
+                request: request.clone(),
+                table: changed.clone(),
+            });
+            same(&Call::Rewrite {
+                request: request.clone(),
+                table: changed.clone(),
+                out: vec![0x3C; table.len()],
+            });
+            let mut state = fresh();
+            state[0] = changed[1] % 4;
+            same(&Call::NextFrame {
+                table: changed,
+                state,
+                entries: vec![0x3C; ENTRIES_LEN],
+            });
+        }
+    }
+}
+
+#[test]
+fn every_byte_of_a_state() {
+    let table = encode(&planned(&sheet::p3()).expect("it has a table"));
+    for state in every_byte(&fresh()) {
+        same(&Call::NextFrame {
+            table: table.clone(),
+            state: state.clone(),
+            entries: vec![0x3C; ENTRIES_LEN],
+        });
+        same(&Call::Report {
+            request: sheet::p3(),
+            task: 1,
+            ticks: 3,
+            state,
+        });
+    }
+}

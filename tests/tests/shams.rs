@@ -1,0 +1,467 @@
+//! Tools that only look right, and that the comparison or a flight must catch.
+
+mod common;
+
+use bus_tests::bus::Bus;
+use bus_tests::reference::cycle::Cycle;
+use bus_tests::reference::model::{plausible_lengths, window};
+use bus_tests::reference::request;
+use bus_tests::reference::search::{plan_of_length, Direction, Effort, Found};
+use bus_tests::reference::table::{decode, encode, of_plan};
+use bus_tests::reference::{planned, read_cycle, Reference};
+use bus_tests::rounds::Comparison;
+use bus_tests::sheet;
+use bus_tests::simulate::fly_many;
+
+#[derive(Clone, Copy, Debug, PartialEq, Eq)]
+enum Lie {
+    TenForAll,
+    NineForTen,
+    TenBeforeElevenFirst,
+    OneTableForAll,
+    ClipsWindowsAtH,
+    StopsAtFirstPlausible,
+    TakesSmallestLength,
+    TakesLatestFrames,
+    ForgetsPairs,
+    LooksOneWayAtPairs,
+    ComparesRowsOfPairs,
+    ForgetsCarriedLoad,
+    OverfillsRows,
+    WritesBehindTheTable,
+    WritesBeforeRefusing,
+    AsksForOneByteMore,
+    IgnoresBytesBehindRequest,
+    PassesEveryTable,
+    PassesNoTable,
+    PassesOnlyTheChosenTable,
+    IgnoresCarryBits,
+    FourteenBeforeThirteen,
+    RewritesTheChosenTable,
+    NeverMovesTheRow,
+    ServesEmptyFramesLater,
+    ServesCarriedInFirstCycle,
+    NeverClearsTheMark,
+    LeavesUnusedPlaces,
+    ClearsFreeBytes,
+    RefusesNoMark,
+    ReportsChangeNothing,
+    CountsEveryReport,
+    CountsTicksEqualToC,
+    CountWraps,
+    ReportJudgesTheCycle,
+    TicksCutTo16Bits,
+    FreshForgetsTheMark,
+}
+
+const LIES: [Lie; 37] = [
+    Lie::TenForAll,
+    Lie::NineForTen,
+    Lie::TenBeforeElevenFirst,
+    Lie::OneTableForAll,
+    Lie::ClipsWindowsAtH,
+    Lie::StopsAtFirstPlausible,
+    Lie::TakesSmallestLength,
+    Lie::TakesLatestFrames,
+    Lie::ForgetsPairs,
+    Lie::LooksOneWayAtPairs,
+    Lie::ComparesRowsOfPairs,
+    Lie::ForgetsCarriedLoad,
+    Lie::OverfillsRows,
+    Lie::WritesBehindTheTable,
+    Lie::WritesBeforeRefusing,
+    Lie::AsksForOneByteMore,
+    Lie::IgnoresBytesBehindRequest,
+    Lie::PassesEveryTable,
+    Lie::PassesNoTable,
+    Lie::PassesOnlyTheChosenTable,
+    Lie::IgnoresCarryBits,
+    Lie::FourteenBeforeThirteen,
+    Lie::RewritesTheChosenTable,
+    Lie::NeverMovesTheRow,
+    Lie::ServesEmptyFramesLater,
+    Lie::ServesCarriedInFirstCycle,
+    Lie::NeverClearsTheMark,
+    Lie::LeavesUnusedPlaces,
+    Lie::ClearsFreeBytes,
+    Lie::RefusesNoMark,
+    Lie::ReportsChangeNothing,
+    Lie::CountsEveryReport,
+    Lie::CountsTicksEqualToC,
+    Lie::CountWraps,
+    Lie::ReportJudgesTheCycle,
+    Lie::TicksCutTo16Bits,
+    Lie::FreshForgetsTheMark,
+];
+
+/// The reference with one lie.
+struct Sham(Lie);
+
+fn put(bytes: &[u8], out: &mut [u8]) -> i32 {
+    if out.len() < bytes.len() {
+        return -11;
+    }
+    out[..bytes.len()].copy_from_slice(bytes);
+    bytes.len() as i32
+}
+
+/// The first plan among lengths in the order given.
+fn first_plan(cycle: &Cycle, lengths: &[i64], direction: Direction) -> Option<Vec<u8>> {
+    lengths.iter().find_map(|&f| {
+        let mut effort = Effort::up_to(100_000);
+        match plan_of_length(cycle, f, direction, &mut effort) {
+            Found::Plan(frames) => Some(encode(&of_plan(cycle, f, &frames))),
+            Found::NoPlan | Found::TooHard => None,
+        }
+    })
+}
+
+/// A search with one of its tests wrong.
+struct WrongSearch<'a> {
+    lie: Lie,
+    cycle: &'a Cycle,
+    f: i64,
+    rows: i64,
+    tries: u64,
+}
+
+impl WrongSearch<'_> {
+    fn load(&self, placed: &[i64], k: i64) -> i64 {
+        let counted = |other: i64| match self.lie {
+            Lie::ForgetsCarriedLoad => other == k,
+            _ => other % self.rows == k % self.rows,
+        };
+        let jobs = placed.iter().zip(&self.cycle.jobs);
+        jobs.filter(|(other, _)| counted(**other))
+            .map(|(_, job)| job.cost)
+            .sum()
+    }
+
+    fn before(&self, first: i64, second: i64) -> bool {
+        match self.lie {
+            Lie::ComparesRowsOfPairs => first % self.rows <= second % self.rows,
+            _ => first <= second,
+        }
+    }
+
+    fn in_order(&self, placed: &[i64], k: i64) -> bool {
+        let next = &self.cycle.jobs[placed.len()];
+        self.cycle.request.pairs.iter().all(|&(a, b)| {
+            placed.iter().zip(&self.cycle.jobs).all(|(&x, other)| {
+                let pair = (other.task, next.task);
+                other.number != next.number
+                    || (pair != (a, b) || self.before(x, k))
+                        && (self.lie == Lie::LooksOneWayAtPairs
+                            || pair != (b, a)
+                            || self.before(k, x))
+            })
+        })
+    }
+
+    fn place(&mut self, placed: &mut Vec<i64>) -> bool {
+        let Some(job) = self.cycle.jobs.get(placed.len()).copied() else {
+            return true;
+        };
+        for k in window(&job, self.f, self.rows) {
+            self.tries += 1;
+            let fits = self.load(placed, k) + job.cost <= self.f && self.in_order(placed, k);
+            if self.tries > 30_000 || !fits {
+                continue;
+            }
+            placed.push(k);
+            if self.place(placed) {
+                return true;
+            }
+            placed.pop();
+        }
+        false
+    }
+}
+
+fn wrong_plan(lie: Lie, cycle: &Cycle) -> Option<Vec<u8>> {
+    plausible_lengths(cycle).into_iter().find_map(|f| {
+        let rows = cycle.h / f;
+        let mut search = WrongSearch {
+            lie,
+            cycle,
+            f,
+            rows,
+            tries: 0,
+        };
+        let mut placed = Vec::new();
+        search
+            .place(&mut placed)
+            .then(|| encode(&of_plan(cycle, f, &placed)))
+    })
+}
+
+/// Plans a changed request, if it can be planned at all.
+fn plan_changed(bytes: &[u8], out: &mut [u8], change: fn(&mut request::Request)) -> i32 {
+    let Ok(mut read) = request::read(bytes) else {
+        return Reference.plan(bytes, out);
+    };
+    change(&mut read);
+    match bus_tests::reference::tries_within(&request::write(&read), 100_000) {
+        Some(_) => Reference.plan(&request::write(&read), out),
+        None => -10,
+    }
+}
+
+impl Sham {
+    fn plan_from(&self, cycle: &Cycle, out: &mut [u8]) -> Option<i32> {
+        if matches!(
+            self.0,
+            Lie::LooksOneWayAtPairs | Lie::ComparesRowsOfPairs | Lie::ForgetsCarriedLoad
+        ) {
+            return wrong_plan(self.0, cycle).map(|bytes| put(&bytes, out));
+        }
+        let mut lengths = plausible_lengths(cycle);
+        let direction = match self.0 {
+            Lie::TakesLatestFrames => Direction::LatestFirst,
+            _ => Direction::EarliestFirst,
+        };
+        match self.0 {
+            Lie::StopsAtFirstPlausible => lengths.truncate(1),
+            Lie::TakesSmallestLength => lengths.reverse(),
+            _ => {}
+        }
+        first_plan(cycle, &lengths, direction).map(|bytes| put(&bytes, out))
+    }
+
+    fn plan_otherwise(&self, request: &[u8], out: &mut [u8]) -> i32 {
+        match (read_cycle(request), planned(request)) {
+            (Ok(cycle), Ok(_)) => self.plan_from(&cycle, out).unwrap_or(-10),
+            _ => Reference.plan(request, out),
+        }
+    }
+}
+
+impl Bus for Sham {
+    fn plan(&self, request: &[u8], out: &mut [u8]) -> i32 {
+        match self.0 {
+            Lie::TenForAll => match Reference.plan(request, &mut []) {
+                -11 => -10,
+                refusal => refusal,
+            },
+            Lie::NineForTen => match Reference.plan(request, out) {
+                -10 => -9,
+                answer => answer,
+            },
+            Lie::TenBeforeElevenFirst => {
+                let answer = Reference.plan(request, out);
+                if answer == -10 && out.len() < 9 {
+                    return -11;
+                }
+                answer
+            }
+            Lie::OneTableForAll => match planned(request) {
+                Ok(_) => Reference.plan(&sheet::p1(), out),
+                Err(number) => -number,
+            },
+            Lie::ClipsWindowsAtH => match planned(request) {
+                Ok(table) if table.rows.iter().flatten().any(|entry| entry.carry) => -10,
+                _ => Reference.plan(request, out),
+            },
+            Lie::StopsAtFirstPlausible
+            | Lie::TakesSmallestLength
+            | Lie::TakesLatestFrames
+            | Lie::LooksOneWayAtPairs
+            | Lie::ComparesRowsOfPairs
+            | Lie::ForgetsCarriedLoad => self.plan_otherwise(request, out),
+            Lie::ForgetsPairs => plan_changed(request, out, |read| read.pairs.clear()),
+            Lie::OverfillsRows => plan_changed(request, out, |read| {
+                if read.tasks[0].c > 1 {
+                    read.tasks[0].c -= 1;
+                }
+            }),
+            Lie::WritesBehindTheTable => {
+                let length = Reference.plan(request, out);
+                if length > 0 && out.len() > length as usize {
+                    out[length as usize] ^= 1;
+                }
+                length
+            }
+            Lie::WritesBeforeRefusing => {
+                let answer = Reference.plan(request, out);
+                if answer == -11 && !out.is_empty() {
+                    out[0] = 2;
+                }
+                answer
+            }
+            Lie::AsksForOneByteMore => match planned(request) {
+                Ok(table) if out.len() == encode(&table).len() => -11,
+                _ => Reference.plan(request, out),
+            },
+            Lie::IgnoresBytesBehindRequest => match Reference.plan(request, out) {
+                -6 => Reference.plan(&request[..request.len() - 1], out),
+                answer => answer,
+            },
+            _ => Reference.plan(request, out),
+        }
+    }
+
+    fn check(&self, request: &[u8], table: &[u8]) -> i32 {
+        let answer = Reference.check(request, table);
+        match (self.0, answer) {
+            (Lie::PassesEveryTable, -14) => 0,
+            (Lie::PassesNoTable, 0) => -14,
+            (Lie::PassesOnlyTheChosenTable, 0) => match planned(request) {
+                Ok(chosen) if encode(&chosen) == table => 0,
+                _ => -14,
+            },
+            (Lie::IgnoresCarryBits, -14) => {
+                let mut read = decode(table).expect("14 comes after 12");
+                for entry in read.rows.iter_mut().flatten() {
+                    entry.carry = false;
+                }
+                Reference.check(request, &encode(&read))
+            }
+            (Lie::FourteenBeforeThirteen, -13) => -14,
+            _ => answer,
+        }
+    }
+
+    fn rewrite(&self, request: &[u8], table: &[u8], out: &mut [u8]) -> i32 {
+        let answer = Reference.rewrite(request, table, out);
+        if self.0 == Lie::RewritesTheChosenTable && answer > 0 {
+            return match planned(request) {
+                Ok(chosen) => put(&encode(&chosen), out),
+                Err(number) => -number,
+            };
+        }
+        answer
+    }
+
+    fn fresh(&self, state: &mut [u8]) -> i32 {
+        let answer = Reference.fresh(state);
+        if self.0 == Lie::FreshForgetsTheMark && answer == 0 {
+            state[2] = 0;
+        }
+        answer
+    }
+
+    fn next_frame(&self, table: &[u8], state: &mut [u8], entries: &mut [u8]) -> i32 {
+        let old_state = state.to_vec();
+        let old_entries = entries.to_vec();
+        if self.0 == Lie::ServesCarriedInFirstCycle && state.len() >= 64 && state[2] == 1 {
+            state[2] = 0;
+            let answer = Reference.next_frame(table, state, entries);
+            if answer < 0 || state[0..2] != [0, 0] {
+                state[2] = 1;
+            }
+            return answer;
+        }
+        if self.0 == Lie::RefusesNoMark && state.len() >= 64 && state[2] > 1 {
+            state[2] = 1;
+            return Reference.next_frame(table, state, entries);
+        }
+        let answer = Reference.next_frame(table, state, entries);
+        if answer < 0 {
+            return answer;
+        }
+        match self.0 {
+            Lie::NeverMovesTheRow => state[0..2].copy_from_slice(&old_state[0..2]),
+            Lie::ServesEmptyFramesLater if old_state[2] == 0 => {
+                entries[..32].fill(0);
+                return 0;
+            }
+            Lie::NeverClearsTheMark => state[2] = old_state[2],
+            Lie::LeavesUnusedPlaces => {
+                let used = 2 * answer as usize;
+                entries[used..].copy_from_slice(&old_entries[used..]);
+            }
+            Lie::ClearsFreeBytes => state[5..].fill(0),
+            _ => {}
+        }
+        answer
+    }
+
+    fn report(&self, request: &[u8], task: u8, ticks: u32, state: &mut [u8]) -> i32 {
+        let old_state = state.to_vec();
+        let ticks = match self.0 {
+            Lie::TicksCutTo16Bits => ticks % 65_536,
+            Lie::CountsTicksEqualToC => ticks.saturating_add(1),
+            Lie::CountsEveryReport => u32::MAX,
+            _ => ticks,
+        };
+        if self.0 == Lie::ReportJudgesTheCycle {
+            if let Err(number) = read_cycle(request) {
+                return -number;
+            }
+        }
+        let answer = Reference.report(request, task, ticks, state);
+        match self.0 {
+            Lie::ReportsChangeNothing => state.copy_from_slice(&old_state),
+            Lie::CountWraps if answer == 0 && old_state[3..5] == [255, 255] => {
+                state[3..5].fill(0);
+            }
+            _ => {}
+        }
+        answer
+    }
+}
+
+#[test]
+fn the_comparison_catches_every_sham() {
+    for lie in LIES {
+        let sham = Sham(lie);
+        let mut comparison = Comparison::new(&sham, 21);
+        let caught = comparison.rounds(6_000).is_err();
+        let after = comparison.tally.requests;
+        println!("{lie:?} caught after {after} requests");
+        assert!(caught, "{lie:?} was not caught in {after} requests");
+    }
+}
+
+/// A flight needs no reference answer to see these.
+#[test]
+fn flights_catch_a_sham_dispatcher() {
+    for lie in [
+        Lie::NeverMovesTheRow,
+        Lie::ServesEmptyFramesLater,
+        Lie::ServesCarriedInFirstCycle,
+        Lie::NeverClearsTheMark,
+        Lie::LeavesUnusedPlaces,
+        Lie::ReportsChangeNothing,
+        Lie::CountsEveryReport,
+        Lie::TicksCutTo16Bits,
+        Lie::FreshForgetsTheMark,
+    ] {
+        assert!(fly_many(&Sham(lie), 22, 400).is_err(), "{lie:?}");
+    }
+}
+
+/// A planner that forgets pairs, and a check that passes every table.
+struct Careless;
+
+impl Bus for Careless {
+    fn plan(&self, request: &[u8], out: &mut [u8]) -> i32 {
+        Sham(Lie::ForgetsPairs).plan(request, out)
+    }
+
+    fn check(&self, request: &[u8], table: &[u8]) -> i32 {
+        Sham(Lie::PassesEveryTable).check(request, table)
+    }
+
+    fn rewrite(&self, request: &[u8], table: &[u8], out: &mut [u8]) -> i32 {
+        Reference.rewrite(request, table, out)
+    }
+
+    fn fresh(&self, state: &mut [u8]) -> i32 {
+        Reference.fresh(state)
+    }
+
+    fn next_frame(&self, table: &[u8], state: &mut [u8], entries: &mut [u8]) -> i32 {
+        Reference.next_frame(table, state, entries)
+    }
+
+    fn report(&self, request: &[u8], task: u8, ticks: u32, state: &mut [u8]) -> i32 {
+        Reference.report(request, task, ticks, state)
+    }
+}
+
+#[test]
+fn flights_catch_a_table_that_breaks_a_pair() {
+    let fault = fly_many(&Careless, 23, 2_000).expect_err("some pair is broken");
+    assert!(fault.starts_with("pair "), "{fault}");
+}

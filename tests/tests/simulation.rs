@@ -1,0 +1,16 @@
+//! Flights of planned tables: release, deadline, order of pairs, exactly once, state and count.
+
+mod common;
+
+use bus_tests::simulate::fly_many;
+use common::subject;
+
+const FLIGHTS: u64 = if cfg!(feature = "linked") { 4_000 } else { 400 };
+
+#[test]
+fn flights_keep_their_promises() {
+    let done = fly_many(subject(), 31, FLIGHTS).unwrap_or_else(|fault| panic!("{fault}"));
+    println!("{done:?}");
+    assert!(done.with_carry * 10 > done.flights, "{done:?}");
+    assert!(done.with_pairs * 10 > done.flights, "{done:?}");
+}
