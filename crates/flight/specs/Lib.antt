@@ -11,3 +11,4 @@ pub mod Serving
 pub mod OnTime
 -- what the count counts:
 pub mod Overruns
+pub mod Joined
