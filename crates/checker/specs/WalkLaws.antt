@@ -16,7 +16,7 @@ use Rattle.table.specs.Table.{Entry, Table, table, decode, jobByte, entryOf, wo
 use Rattle.table.specs.WellFormed.{RisingFrom, AllRising}
 use Rattle.table.specs.Left.{less-one, none-left}
 use Rattle.table.specs.Readings.{Bytes}
-use Rattle.table.specs.Inverse.{decode-wellformed, encode-decode}
+use Rattle.table.specs.Inverse.{entry-back, decode-wellformed, encode-decode}
 use Rattle.checker.specs.Checked.{isJob, placeInRow, orElse, placeIn, entryKept, rowKept, rowsKept}
 use Rattle.checker.specs.PlaceLaws.{RightIn, place-right}
 use Rattle.checker.specs.Answers.{entriesIn, rowsIn, rowsOf}
@@ -24,18 +24,6 @@ use Rattle.checker.specs.declared.Place.{Place}
 use Rattle.checker.specs.declared.Place.the-variants.{At, Nowhere}
 
 -- The bytes of a table's rows are its rows.
-
-entry-back : (e : Entry) → e .number < 128 → entryOf (e .task) (jobByte e) ≡ e
-unfolding entryOf jobByte
-entry-back e h = go (e .carried) refl
-  where
-    go : (b : Bool) → e .carried ≡ b → record { task = e .task; number = (e .number + pick b 128 0) % 128; carried = leb 128 (e .number + pick b 128 0) } ≡ e
-    go true q =
-        let same : (e .number + 128) % 128 ≡ e .number = omega arith in
-        rw (same, le-leb 128 (e .number + 128) (omega arith)) (λ i. record { task = e .task; number = e .number; carried = sym q i })
-    go false q =
-        let same : (e .number + 0) % 128 ≡ e .number = omega arith in
-        rw (same, lt-leb 128 (e .number + 0) (omega arith)) (λ i. record { task = e .task; number = e .number; carried = sym q i })
 
 module _ (s : List ℕ) where
   -- what stands at a place, from what stands from there on

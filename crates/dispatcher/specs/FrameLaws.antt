@@ -12,7 +12,7 @@ use borrow.Author.Tests.{ltb-true, ltb-false, eqb-true, eqb-false, lt-ltb, le-lt
 use Rattle.cursor.specs.Choice.{pick}
 use Rattle.table.specs.Table.{Entry, Table, table, malformed, decode, jobByte, entryOf, rowOf}
 use Rattle.table.specs.WellFormed.{RisingFrom}
-use Rattle.table.specs.Inverse.{rising-few, decode-wellformed}
+use Rattle.table.specs.Inverse.{entry-back, rising-few, decode-wellformed}
 use Rattle.table.specs.Answers.{padded, taskOf, rowGiven}
 use Rattle.table.specs.AnswerLaws.{padded-at, row-rises}
 use Rattle.dispatcher.specs.Dispatch.{freshState, unlessCarried, uncarried, served, shown, noFrame, moved, nextFrame, entriesAt, entriesIn, entriesOf}
@@ -56,18 +56,6 @@ uncarried-rises (e ∷ es) low h = go (e .carried) (uncarried-rises es (e .task 
 pub served-rises : (first : Bool) (es : List Entry) → RisingFrom 0 es → RisingFrom 0 (served first es)
 served-rises true es h = uncarried-rises es 0 h
 served-rises false es h = h
-
-entry-back : (e : Entry) → e .number < 128 → entryOf (e .task) (jobByte e) ≡ e
-unfolding entryOf jobByte
-entry-back e h = go (e .carried)
-  where
-    go : (b : Bool) → _≡_ {A = Entry} (record { task = e .task; number = (e .number + pick b 128 0) % 128; carried = leb 128 (e .number + pick b 128 0) }) (record { task = e .task; number = e .number; carried = b })
-    go true =
-        let same : (e .number + 128) % 128 ≡ e .number = omega arith in
-        rw (same, le-leb 128 (e .number + 128) (omega arith))
-    go false =
-        let same : (e .number + 0) % 128 ≡ e .number = omega arith in
-        rw (same, lt-leb 128 (e .number + 0) (omega arith))
 
 -- places that hold the entries' bytes from place p on
 entries-at : (tasks jobs : List ℕ) (es : List Entry) (low p : ℕ) → RisingFrom low es
