@@ -17,16 +17,7 @@
 #include <sys/mman.h>
 #include <unistd.h>
 
-int32_t bus_plan(const uint8_t *request, size_t request_len, uint8_t *out, size_t out_len);
-int32_t bus_check(const uint8_t *request, size_t request_len, const uint8_t *table,
-                  size_t table_len);
-int32_t bus_rewrite(const uint8_t *request, size_t request_len, const uint8_t *table,
-                    size_t table_len, uint8_t *out, size_t out_len);
-int32_t bus_fresh(uint8_t *state, size_t state_len);
-int32_t bus_next_frame(const uint8_t *table, size_t table_len, uint8_t *state, size_t state_len,
-                       uint8_t *entries, size_t entries_len);
-int32_t bus_report(const uint8_t *request, size_t request_len, uint8_t task, uint32_t ticks,
-                   uint8_t *state, size_t state_len);
+#include "bus.h"
 
 /* ---- random numbers (splitmix64) ---- */
 
@@ -270,12 +261,14 @@ static int plausible(const search *s)
     return 1;
 }
 
+enum { MOST_TRIES = 200000 };
+
 static int short_search(const bytes *request)
 {
     static search s;
     if (!read_request(request, &s))
         return 1;
-    s.tries = 200000;
+    s.tries = MOST_TRIES;
     for (s.f = s.h; s.f > 0; s.f--) {
         if (!plausible(&s))
             continue;
@@ -372,7 +365,7 @@ static int32_t made(call *x, int where)
     return answer;
 }
 
-static long calls, refused;
+static long calls, refused, left_out;
 
 static void fault(const char *text, const call *x)
 {
@@ -414,8 +407,9 @@ static int32_t both(call *x)
 
 static void make_state(bytes *b, int usual)
 {
-    static const size_t lengths[] = {64, 64, 64, 64, 64, 64, 70, 63, 5, 0};
-    random_bytes(b, usual ? 64 : lengths[below(10)]);
+    enum { S = BUS_STATE_BYTES };
+    static const size_t lengths[] = {S, S, S, S, S, S, S + 6, S - 1, 5, 0};
+    random_bytes(b, usual ? S : lengths[below(10)]);
     if (b->len > 5 && chance(90)) {
         b->at[0] = (uint8_t)below(12);
         b->at[1] = 0;
@@ -451,6 +445,8 @@ static void turn(void)
             if (both(&x) != -11)
                 fault("one byte too few does", &x);
         }
+    } else {
+        left_out++;
     }
     for (int i = 0; i < 6; i++) {
         x.a = request;
@@ -471,7 +467,7 @@ static void turn(void)
         if (i % 3 == 2)
             damage(&x.a);
         make_state(&x.b, chance(80));
-        random_bytes(&x.c, chance(90) ? 32 : below(40));
+        random_bytes(&x.c, chance(90) ? BUS_ENTRIES_BYTES : below(40));
         both(&x);
         x.which = 5;
         x.a = request;
@@ -494,7 +490,8 @@ int main(int count, char **words)
     make_arenas();
     for (long i = 0; i < turns; i++)
         turn();
-    printf("%ld turns, %ld calls, each on the heap and at a closed page, %ld refused, no fault\n",
-           turns, calls, refused);
+    printf("%ld turns, %ld calls, each on the heap and at a closed page, %ld refused, no fault; "
+           "%ld requests not planned, as too long (above %d tries)\n",
+           turns, calls, refused, left_out, MOST_TRIES);
     return 0;
 }

@@ -3,6 +3,7 @@
 use crate::random::Random;
 use crate::reference::cycle::Cycle;
 use crate::reference::model::{gcd, plausible_lengths};
+use crate::reference::read_cycle;
 use crate::reference::request::{self, Request, Task};
 use crate::reference::search::{plan_of_length, Direction, Effort, Found};
 use crate::reference::table::{self, Entry, Table};
@@ -194,6 +195,31 @@ pub fn valid_request(rng: &mut Random) -> Request {
         15..=18 => loose(rng),
         _ => at_a_limit(rng),
     }
+}
+
+/// 10 to 16 short tasks of which a frame can hold one job each, so that rows get long. With
+/// phases, many jobs are carried.
+pub fn crowded_request(rng: &mut Random) -> Request {
+    let count = if rng.chance(40) {
+        16
+    } else {
+        rng.between(10, 16)
+    };
+    let t = rng.pick(&[32, 48, 64, 100]);
+    let phased = rng.chance(50);
+    let tasks: Vec<Task> = (0..count)
+        .map(|_| {
+            let period = t * rng.pick(if phased { &[2, 2, 4] } else { &[1, 2, 4] });
+            let p = if phased {
+                rng.between(1, period - 1)
+            } else {
+                0
+            };
+            plain_task(rng.between(1, 2), period, period, p)
+        })
+        .collect();
+    let pairs = pairs(rng, &tasks);
+    Request { tasks, pairs }
 }
 
 /// Bytes of any content, now and then beginning like a request or a table.
@@ -404,4 +430,45 @@ pub fn disturb(rng: &mut Random, table: &mut Table) {
         }
         _ => disturb_entry(rng, table),
     }
+}
+
+/// A cycle's tables of the right form: the chosen one, another plan, a careless one, and each of
+/// these disturbed.
+fn tables_of_cycle(
+    rng: &mut Random,
+    cycle: &Cycle,
+    chosen: Option<&Table>,
+    tries: u64,
+) -> Vec<Table> {
+    let mut tables: Vec<Table> = chosen.cloned().into_iter().collect();
+    tables.extend(some_plan(rng, cycle, tries));
+    tables.push(careless_table(rng, cycle));
+    for place in 0..tables.len() {
+        let mut disturbed = tables[place].clone();
+        disturb(rng, &mut disturbed);
+        tables.push(disturbed);
+    }
+    tables
+}
+
+/// Bytes to be checked as a table of a request: its own table, other plans, disturbed and
+/// damaged ones, and noise.
+pub fn table_pool(
+    rng: &mut Random,
+    request: &[u8],
+    chosen: Option<&Table>,
+    tries: u64,
+) -> Vec<Vec<u8>> {
+    let tables = match read_cycle(request) {
+        Ok(cycle) => tables_of_cycle(rng, &cycle, chosen, tries),
+        Err(_) => Vec::new(),
+    };
+    let mut pool: Vec<Vec<u8>> = tables.iter().map(table::encode).collect();
+    if let Some(first) = pool.first() {
+        let mut damaged = first.clone();
+        damage(rng, &mut damaged);
+        pool.push(damaged);
+    }
+    pool.push(noise(rng));
+    pool
 }

@@ -8,6 +8,7 @@ pub mod generate;
 #[cfg(feature = "linked")]
 pub mod library;
 pub mod plain;
+pub mod programs;
 pub mod random;
 pub mod reference;
 pub mod rounds;

@@ -6,9 +6,8 @@ use crate::bus::{Bus, ENTRIES_LEN, STATE_LEN};
 use crate::call::{compare, Call, Outcome};
 use crate::generate;
 use crate::random::Random;
-use crate::reference::cycle::Cycle;
 use crate::reference::table::{encode, Table};
-use crate::reference::{planned, read_cycle, tries_within};
+use crate::reference::{planned, tries_within};
 
 /// Requests that need more tries than this are left out: both sides would take too long.
 pub const MOST_TRIES: u64 = 30_000;
@@ -36,7 +35,7 @@ impl Tally {
     /// One line for each call: its answers and how often each was given.
     pub fn summary(&self) -> String {
         let mut text = format!(
-            "{} requests, {} left out, {} calls\n",
+            "{} requests, {} more left out as too long, {} calls\n",
             self.requests, self.left_out, self.calls
         );
         for name in ["plan", "check", "rewrite", "fresh", "next_frame", "report"] {
@@ -91,7 +90,7 @@ impl<'a> Comparison<'a> {
         self.tally.requests += 1;
         let chosen = planned(&request).ok();
         self.plans(&request, chosen.as_ref())?;
-        let pool = self.tables(&request, chosen.as_ref());
+        let pool = generate::table_pool(&mut self.rng, &request, chosen.as_ref(), MOST_TRIES);
         self.checks(&request, &pool)?;
         self.call_list(&request, &pool)
     }
@@ -117,32 +116,6 @@ impl<'a> Comparison<'a> {
             self.same(&call)?;
         }
         Ok(())
-    }
-
-    /// Tables for a request: its own, other plans, disturbed ones and noise.
-    fn tables(&mut self, request: &[u8], chosen: Option<&Table>) -> Vec<Vec<u8>> {
-        let mut tables: Vec<Table> = chosen.cloned().into_iter().collect();
-        if let Ok(cycle) = read_cycle(request) {
-            self.more_tables(&cycle, &mut tables);
-        }
-        let mut pool: Vec<Vec<u8>> = tables.iter().map(encode).collect();
-        if let Some(first) = pool.first() {
-            let mut damaged = first.clone();
-            generate::damage(&mut self.rng, &mut damaged);
-            pool.push(damaged);
-        }
-        pool.push(generate::noise(&mut self.rng));
-        pool
-    }
-
-    fn more_tables(&mut self, cycle: &Cycle, tables: &mut Vec<Table>) {
-        tables.extend(generate::some_plan(&mut self.rng, cycle, MOST_TRIES));
-        tables.push(generate::careless_table(&mut self.rng, cycle));
-        for place in 0..tables.len() {
-            let mut disturbed = tables[place].clone();
-            generate::disturb(&mut self.rng, &mut disturbed);
-            tables.push(disturbed);
-        }
     }
 
     fn checks(&mut self, request: &[u8], pool: &[Vec<u8>]) -> Result<(), String> {

@@ -61,3 +61,8 @@ pub fn p11() -> Vec<u8> {
 pub fn p12() -> Vec<u8> {
     request(&[(1, 10_000, 10_000, 0)], &[])
 }
+
+/// P12 with T 10001.
+pub fn p12_long() -> Vec<u8> {
+    request(&[(1, 10_001, 10_000, 0)], &[])
+}

@@ -8,8 +8,9 @@ use crate::call::{hex, run, Call};
 use crate::generate;
 use crate::random::Random;
 use crate::reference::cycle::{Cycle, Job};
-use crate::reference::table::{decode, Entry, Table};
-use crate::reference::{read_cycle, request};
+use crate::reference::table::{decode, encode, Entry, Table};
+use crate::reference::{read_cycle, request, tries_within};
+use crate::rounds::MOST_TRIES;
 
 /// A job of one cycle: task, job number, cycle.
 type Instance = (i64, i64, i64);
@@ -281,36 +282,57 @@ fn places(entries: &[Entry]) -> Vec<u8> {
 /// What a number of flights covered.
 #[derive(Clone, Copy, Debug, Default)]
 pub struct Flights {
+    pub requests: u64,
+    pub left_out: u64,
     pub flights: u64,
     pub frames: u64,
     pub with_carry: u64,
     pub with_pairs: u64,
 }
 
-/// Plans random requests and flies each table, and another plan of the same request.
+/// So many requests are drawn for each flight that is asked for, and no more. Seven requests give
+/// about five flights, so this is far more than are needed.
+const REQUESTS_FOR_A_FLIGHT: u64 = 20;
+
+/// Plans random requests and flies each table, and another plan of the same request. It ends
+/// also where the library plans nothing.
 pub fn fly_many(bus: &dyn Bus, seed: u64, flights: u64) -> Result<Flights, String> {
     let mut rng = Random::new(seed);
     let mut done = Flights::default();
-    while done.flights < flights {
+    for _ in 0..flights * REQUESTS_FOR_A_FLIGHT {
+        if done.flights >= flights {
+            return Ok(done);
+        }
         let request = request::write(&generate::valid_request(&mut rng));
-        if crate::reference::tries_within(&request, crate::rounds::MOST_TRIES).is_none() {
+        if tries_within(&request, MOST_TRIES).is_none() {
+            done.left_out += 1;
             continue;
         }
-        let mut out = vec![0; 1024];
-        let answer = bus.plan(&request, &mut out);
-        if answer < 0 {
-            continue;
-        }
-        out.truncate(answer as usize);
-        fly_one(bus, &mut rng, &request, &out, &mut done)?;
-        let cycle = read_cycle(&request).map_err(|number| format!("planned, yet {number}"))?;
-        let other = generate::some_plan(&mut rng, &cycle, crate::rounds::MOST_TRIES);
-        if let Some(table) = other {
-            let bytes = crate::reference::table::encode(&table);
-            fly_one(bus, &mut rng, &request, &bytes, &mut done)?;
-        }
+        done.requests += 1;
+        fly_request(bus, &mut rng, &request, &mut done)?;
     }
-    Ok(done)
+    Err(format!("too few tables: {done:?}"))
+}
+
+/// Flies the planned table, if there is one, and another plan.
+fn fly_request(
+    bus: &dyn Bus,
+    rng: &mut Random,
+    request: &[u8],
+    done: &mut Flights,
+) -> Result<(), String> {
+    let mut out = vec![0; 1024];
+    let answer = bus.plan(request, &mut out);
+    if answer < 0 {
+        return Ok(());
+    }
+    out.truncate(answer as usize);
+    fly_one(bus, rng, request, &out, done)?;
+    let cycle = read_cycle(request).map_err(|number| format!("planned, yet {number}"))?;
+    match generate::some_plan(rng, &cycle, MOST_TRIES) {
+        Some(table) => fly_one(bus, rng, request, &encode(&table), done),
+        None => Ok(()),
+    }
 }
 
 fn fly_one(

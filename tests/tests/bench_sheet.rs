@@ -4,11 +4,31 @@ mod common;
 
 use bus_tests::reference::model::plausible_lengths;
 use bus_tests::reference::{listing, read_cycle};
-use bus_tests::sheet::{self, request};
-use common::{checks_as, plan, plans_as, refused, subjects, table};
+use bus_tests::sheet;
+use common::{checks_as, example, plan, plans_as, refused, subjects, table};
 
 fn lengths(request: &[u8]) -> Vec<i64> {
     plausible_lengths(&read_cycle(request).expect("within the limits"))
+}
+
+#[test]
+fn the_sheet_s_files_have_its_requests() {
+    for (name, bytes) in [
+        ("p1.req", sheet::p1()),
+        ("p2.req", sheet::p2()),
+        ("p3.req", sheet::p3()),
+        ("p5.req", sheet::p5()),
+        ("p6.req", sheet::p6()),
+        ("p7.req", sheet::p7()),
+        ("p8.req", sheet::p8()),
+        ("p9.req", sheet::p9()),
+        ("p10.req", sheet::p10()),
+        ("p11.req", sheet::p11()),
+        ("p12.req", sheet::p12()),
+        ("p12-long.req", sheet::p12_long()),
+    ] {
+        assert_eq!(example(name), bytes, "{name}");
+    }
 }
 
 #[test]
@@ -47,6 +67,8 @@ fn p3_with_a_pair() {
 fn p4_the_printed_table_starts_a_job_too_early() {
     let printed = table(4, 24, "0.0 1.0 / 2.0 / 0.1 1.1 / 0.2 / 0.3 1.2 / 3.0");
     checks_as(&sheet::p3(), &printed, -14);
+    assert_eq!(example("p4.table"), printed);
+    assert_eq!(example("p4.txt"), b"refused 14\n");
 }
 
 #[test]
@@ -104,5 +126,5 @@ fn p11_too_many_jobs() {
 #[test]
 fn p12_the_longest_cycle() {
     plans_as(&sheet::p12(), 10_000, 10_000, "0.0");
-    refused(&request(&[(1, 10_001, 10_000, 0)], &[]), 7);
+    refused(&sheet::p12_long(), 7);
 }

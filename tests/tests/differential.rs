@@ -4,12 +4,15 @@
 
 mod common;
 
-use bus_tests::rounds::{Comparison, Tally};
-use common::subject;
+use std::thread;
 
+use bus_tests::rounds::{Comparison, Tally, MOST_TRIES};
+use common::{subject, tell_left_out};
+
+const SEEDS: [u64; 4] = [1, 2, 3, 4];
 const REQUESTS: u64 = if cfg!(feature = "linked") { 6_000 } else { 600 };
 
-fn compared(seed: u64) {
+fn compared(seed: u64) -> Tally {
     let mut comparison = Comparison::new(subject(), seed);
     let done = comparison.rounds(REQUESTS);
     println!("seed {seed}: {}", comparison.tally.summary());
@@ -20,6 +23,7 @@ fn compared(seed: u64) {
         );
     }
     judge_variety(&comparison.tally);
+    comparison.tally
 }
 
 /// Every number that a call can give was given, and not only once or twice.
@@ -43,21 +47,15 @@ fn judge_variety(tally: &Tally) {
 }
 
 #[test]
-fn seed_1() {
-    compared(1);
-}
-
-#[test]
-fn seed_2() {
-    compared(2);
-}
-
-#[test]
-fn seed_3() {
-    compared(3);
-}
-
-#[test]
-fn seed_4() {
-    compared(4);
+fn every_answer_and_byte_is_the_same() {
+    let (mut requests, mut left_out) = (0, 0);
+    thread::scope(|scope| {
+        let running = SEEDS.map(|seed| scope.spawn(move || compared(seed)));
+        for seed in running {
+            let tally = seed.join().expect("no fault");
+            requests += tally.requests;
+            left_out += tally.left_out;
+        }
+    });
+    tell_left_out("differential", requests, left_out, MOST_TRIES);
 }

@@ -1,14 +1,29 @@
-//! Worked examples of source documents 000, 001, 003 and 004 whose answers are known.
+//! Worked examples of source documents 000 to 004 whose answers are known, and the files of the
+//! folder `examples`.
 
 mod common;
 
 use bus_tests::reference::model::plausible_lengths;
 use bus_tests::reference::{listing, planned, read_cycle};
-use bus_tests::sheet::{self, request};
-use common::{checks_as, plans_as, refused, table};
+use bus_tests::sheet::{self, request, Short};
+use common::{checks_as, example, examples, plans_as, refused, table};
 
 fn lengths(request: &[u8]) -> Vec<i64> {
     plausible_lengths(&read_cycle(request).expect("within the limits"))
+}
+
+/// Every request of the folder has the listing that stands beside it.
+#[test]
+fn files_of_the_folder() {
+    let requests: Vec<String> = examples()
+        .into_iter()
+        .filter(|name| name.ends_with(".req"))
+        .collect();
+    assert!(requests.len() >= 14, "{requests:?}");
+    for name in requests {
+        let printed = String::from_utf8(example(&name.replace(".req", ".txt"))).expect("text");
+        assert_eq!(listing(&example(&name)), printed, "{name}");
+    }
 }
 
 /// 000, example 1: secondary periods 10 and 20; the document goes on with 20.
@@ -75,6 +90,49 @@ fn document_001_task_2() {
     let shifted = request(&[(3, 15, 3, 0), (3, 10, 5, 1), (3, 6, 6, 3)], &[]);
     let rows = "0.0 / 1.0 / 2.0 / 2.1 / 1.1 / 0.1 / 2.2 / 1.2 / 2.3 / 2.4";
     plans_as(&shifted, 3, 30, rows);
+}
+
+/// 002, first table: four tasks and the system management, deadlines equal to periods; H is 40 in
+/// the document too. Phases are not given, 0 is taken; the system management is the last task, as
+/// in the table. The schedule is a picture that the text has not.
+#[test]
+fn document_002_first_table() {
+    let bytes = request(
+        &[
+            (2, 10, 10, 0),
+            (4, 20, 20, 0),
+            (3, 40, 40, 0),
+            (5, 40, 40, 0),
+            (1, 10, 10, 0),
+        ],
+        &[],
+    );
+    assert_eq!(example("doc002-1.req"), bytes);
+    assert_eq!(lengths(&bytes), [10, 5]);
+    let rows = "0.0 1.0 2.0 4.0 / 0.1 3.0 4.1 / 0.2 1.1 4.2 / 0.3 4.3";
+    plans_as(&bytes, 10, 40, rows);
+}
+
+/// 002, second table: the fourth task now takes 17 ticks, more than the shortest deadline, so no
+/// length is plausible. "Tasks have to be 'manually' split, in order to fit into available
+/// slots": the pieces are not given; 7, 3 and 7, in order, have a table in which no tick is left.
+#[test]
+fn document_002_second_table() {
+    let around = |pieces: &[Short]| {
+        let mut tasks = vec![(2, 10, 10, 0), (4, 20, 20, 0), (3, 40, 40, 0)];
+        tasks.extend(pieces);
+        tasks.push((1, 10, 10, 0));
+        tasks
+    };
+    let whole = request(&around(&[(17, 40, 40, 0)]), &[]);
+    assert_eq!(example("doc002-2.req"), whole);
+    refused(&whole, 9);
+    let pieces = [(7, 40, 40, 0), (3, 40, 40, 0), (7, 40, 40, 0)];
+    let cut = request(&around(&pieces), &[(3, 4), (4, 5)]);
+    let rows = "0.0 1.0 2.0 6.0 / 0.1 3.0 6.1 / 0.2 1.1 4.0 6.2 / 0.3 5.0 6.3";
+    plans_as(&cut, 10, 40, rows);
+    let busy = |line: &str| line.split(' ').nth(1) == Some("10");
+    assert!(listing(&cut).lines().skip(1).all(busy));
 }
 
 /// 003, example 1: (1,4,4) (1,5,5) (1.5,20,20), here in half ticks. The document finds 2 (here

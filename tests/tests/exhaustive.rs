@@ -8,7 +8,7 @@ use bus_tests::call::{compare, Call};
 use bus_tests::reference::{planned, table::encode, tries_within};
 use bus_tests::rounds::MOST_TRIES;
 use bus_tests::sheet::{self, request, Short};
-use common::subject;
+use common::{subject, tell_left_out};
 
 fn same(call: &Call) -> i32 {
     match compare(subject(), call) {
@@ -17,20 +17,40 @@ fn same(call: &Call) -> i32 {
     }
 }
 
-/// Plans with room enough, and checks the table if there is one.
-fn plans_alike(request: Vec<u8>) -> i32 {
-    if tries_within(&request, MOST_TRIES).is_none() {
-        return -10;
+/// How many requests were planned, refused, and left out.
+#[derive(Default)]
+struct Counts {
+    planned: u64,
+    refused: u64,
+    left_out: u64,
+}
+
+impl Counts {
+    /// Plans with room enough, and checks the table if there is one.
+    fn plans_alike(&mut self, request: Vec<u8>) {
+        if tries_within(&request, MOST_TRIES).is_none() {
+            self.left_out += 1;
+            return;
+        }
+        let answer = same(&Call::Plan {
+            request: request.clone(),
+            out: vec![0x3C; 80],
+        });
+        if answer > 0 {
+            self.planned += 1;
+        } else {
+            self.refused += 1;
+        }
+        if let Ok(table) = planned(&request) {
+            let table = encode(&table);
+            assert_eq!(same(&Call::Check { request, table }), 0);
+        }
     }
-    let answer = same(&Call::Plan {
-        request: request.clone(),
-        out: vec![0x3C; 80],
-    });
-    if let Ok(table) = planned(&request) {
-        let table = encode(&table);
-        assert_eq!(same(&Call::Check { request, table }), 0);
+
+    fn tell(&self, what: &str) {
+        let compared = self.planned + self.refused;
+        tell_left_out(what, compared, self.left_out, MOST_TRIES);
     }
-    answer
 }
 
 /// Every (C, T, D, P) with this T.
@@ -48,29 +68,31 @@ fn tasks_of_period(t: i64) -> Vec<Short> {
 
 #[test]
 fn every_request_of_one_short_task() {
-    let mut planned = 0;
+    let mut counts = Counts::default();
     for t in 1..=14 {
         for task in tasks_of_period(t) {
-            planned += u32::from(plans_alike(request(&[task], &[])) > 0);
+            counts.plans_alike(request(&[task], &[]));
         }
     }
-    assert!(planned > 1_000, "{planned}");
+    counts.tell("every request of one short task");
+    assert!(counts.planned > 1_000, "{}", counts.planned);
 }
 
 #[test]
 fn every_request_of_two_short_tasks() {
     let tasks: Vec<Short> = [2, 3, 4, 6].into_iter().flat_map(tasks_of_period).collect();
-    let mut planned = 0;
+    let mut counts = Counts::default();
     for first in &tasks {
         for second in &tasks {
             let two = [*first, *second];
-            planned += u32::from(plans_alike(request(&two, &[])) > 0);
+            counts.plans_alike(request(&two, &[]));
             if first.1 == second.1 {
-                planned += u32::from(plans_alike(request(&two, &[(0, 1)])) > 0);
+                counts.plans_alike(request(&two, &[(0, 1)]));
             }
         }
     }
-    assert!(planned > 10_000, "{planned}");
+    counts.tell("every request of two short tasks");
+    assert!(counts.planned > 10_000, "{}", counts.planned);
 }
 
 /// The bytes with every value at every place.
@@ -86,9 +108,10 @@ fn every_byte(bytes: &[u8]) -> impl Iterator<Item = Vec<u8>> + '_ {
 
 #[test]
 fn every_byte_of_a_request() {
+    let mut counts = Counts::default();
     for bytes in [sheet::p3(), sheet::p6(), sheet::p7()] {
         for changed in every_byte(&bytes) {
-            plans_alike(changed.clone());
+            counts.plans_alike(changed.clone());
             same(&Call::Report {
                 request: changed,
                 task: 0,
@@ -97,6 +120,7 @@ fn every_byte_of_a_request() {
             });
         }
     }
+    counts.tell("every byte of a request");
 }
 
 fn fresh() -> Vec<u8> {

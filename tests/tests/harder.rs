@@ -8,7 +8,7 @@ use bus_tests::plain;
 use bus_tests::random::Random;
 use bus_tests::reference::request;
 use bus_tests::rounds::MOST_TRIES;
-use common::{plan, subject};
+use common::{plan, subject, tell_left_out};
 
 const MOST: u64 = if cfg!(feature = "linked") {
     3_000_000
@@ -20,10 +20,11 @@ const REQUESTS: u64 = if cfg!(feature = "linked") { 200 } else { 10 };
 #[test]
 fn long_searches_end_alike() {
     let mut rng = Random::new(41);
-    let (mut seen, mut planned, mut most) = (0, 0, 0);
+    let (mut seen, mut planned, mut most, mut left_out) = (0, 0, 0, 0);
     while seen < REQUESTS {
         let bytes = request::write(&generate::valid_request(&mut rng));
         let Some(tries) = plain::tries_within(&bytes, MOST) else {
+            left_out += 1;
             continue;
         };
         if tries <= MOST_TRIES {
@@ -42,5 +43,6 @@ fn long_searches_end_alike() {
         planned += u64::from(length > 0);
         most = most.max(tries);
     }
-    println!("{seen} requests, {planned} planned, up to {most} tries");
+    println!("{planned} planned, up to {most} tries");
+    tell_left_out("long searches", seen, left_out, MOST);
 }

@@ -1,5 +1,7 @@
 //! The reference judged by itself: backtracking beside the list of all plans, tables read back.
 
+mod common;
+
 use bus_tests::generate;
 use bus_tests::plain;
 use bus_tests::random::Random;
@@ -13,6 +15,7 @@ use bus_tests::reference::search::{
 use bus_tests::reference::table::{decode, encode, of_plan};
 use bus_tests::reference::{planned, read_cycle, tries_within};
 use bus_tests::rounds::MOST_TRIES;
+use common::tell_left_out;
 
 fn random_cycles(seed: u64, count: usize) -> Vec<Cycle> {
     let mut rng = Random::new(seed);
@@ -115,10 +118,11 @@ fn tables_read_back() {
 #[test]
 fn the_plain_version_agrees() {
     let mut rng = Random::new(15);
-    let mut seen = 0;
+    let (mut seen, mut left_out) = (0, 0);
     while seen < 2_000 {
         let bytes = generate::request_bytes(&mut rng);
         let Some(tries) = tries_within(&bytes, MOST_TRIES) else {
+            left_out += 1;
             continue;
         };
         seen += 1;
@@ -136,4 +140,5 @@ fn the_plain_version_agrees() {
             Err(number) => assert_eq!(length, -number),
         }
     }
+    tell_left_out("plain version", seen, left_out, MOST_TRIES);
 }

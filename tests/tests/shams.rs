@@ -431,6 +431,13 @@ fn flights_catch_a_sham_dispatcher() {
     }
 }
 
+/// Flights end also where no request gets a table.
+#[test]
+fn flights_end_without_a_table() {
+    let fault = fly_many(&Sham(Lie::TenForAll), 24, 100).expect_err("nothing is flown");
+    assert!(fault.starts_with("too few tables"), "{fault}");
+}
+
 /// A planner that forgets pairs, and a check that passes every table.
 struct Careless;
 

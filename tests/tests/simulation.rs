@@ -2,8 +2,9 @@
 
 mod common;
 
+use bus_tests::rounds::MOST_TRIES;
 use bus_tests::simulate::fly_many;
-use common::subject;
+use common::{subject, tell_left_out};
 
 const FLIGHTS: u64 = if cfg!(feature = "linked") { 4_000 } else { 400 };
 
@@ -11,6 +12,7 @@ const FLIGHTS: u64 = if cfg!(feature = "linked") { 4_000 } else { 400 };
 fn flights_keep_their_promises() {
     let done = fly_many(subject(), 31, FLIGHTS).unwrap_or_else(|fault| panic!("{fault}"));
     println!("{done:?}");
+    tell_left_out("flights", done.requests, done.left_out, MOST_TRIES);
     assert!(done.with_carry * 10 > done.flights, "{done:?}");
     assert!(done.with_pairs * 10 > done.flights, "{done:?}");
 }

@@ -1,18 +1,20 @@
 -- The bench sheet of 01, P1 to P12, as one table with one theorem over the definitions: computed, from the bytes of each request.
-use Prim.Native.Nat.{ℕ, _+_}
+use Prim.Native.Nat.{ℕ}
 use mathlib.Core.Path.{_≡_, refl}
-use mathlib.Core.Bool.{Bool, true, false}
-use mathlib.Core.List.{List, [], _∷_, _++_, map}
-use lib.ListN.{length, replicate}
+use mathlib.Core.Bool.{true, false}
+use mathlib.Core.List.{List, [], _∷_, map, flatMap}
+use native.Mathlib.Omega.{arith}
+use lib.ListN.{replicate}
 use Rattle.cursor.specs.Parsed.{records}
-use Rattle.cursor.specs.Fields.{byteOf, wordOf}
+use Rattle.cursor.specs.Fields.{byteOf, wordOf, wordBytes}
 use Rattle.cursor.specs.Padded.{padded}
 use Rattle.arith.specs.Gcd.{gcdOf, gcdSteps}
 use Rattle.arith.specs.Lcm.{lcmOf}
 use Rattle.request.specs.Request.{taskRule, judgedTask, taskOf, tasksOf, pairRule, judgedPair, pairOf, pairsOf, reading}
+use Rattle.request.specs.Encode.{taskBytes, pairBytes, sectionBytes, requestBytes}
 use Rattle.request.specs.declared.Task.{Task}
 use Rattle.request.specs.declared.Pair.{Pair}
-use Rattle.cycle.specs.Cycle.{lcmWith, hyperperiod, jobsIn, jobOf, jobsFrom, jobsOf, allJobs, before, insert, inOrder, planned, cycleOf}
+use Rattle.cycle.specs.Cycle.{lcmWith, hyperperiod, jobsIn, jobOf, jobsFrom, jobsOf, allJobs, before, insert, inOrder, planned, cycle, cycleOf}
 use Rattle.table.specs.Table.{
   Entry,
   Table,
@@ -25,18 +27,16 @@ use Rattle.table.specs.Table.{
   heightFits,
   rowsFrom,
   decode,
-  wordBytes,
   entriesBytes,
   rowBytes,
-  rowsBytes,
   headBytes,
   encode,
 }
 use Rattle.table.specs.Answers as table
-use Rattle.search.specs.Search.{Found, none, orElse, when, firstOf, search}
+use Rattle.search.specs.Search.{orElse, when, firstOf, search}
 use Rattle.search.specs.Placing.{row-sum, all-kept, fits, plan}
 use Rattle.model.specs.Window.{firstFrame}
-use Rattle.model.specs.Plan.{Instance, slot, costOf, costs}
+use Rattle.model.specs.Plan.{Instance, slot, costOf, costs, IsPlan}
 use Rattle.model.specs.Plausible.{frameRule, frameRules, plausible}
 use Rattle.model.specs.Links.{isJob, placeFrom, placeBefore, linkIf, linkBy, linksBy, linksOfJob, linksFrom, allLinks, inPlaces, linkCounts, linkPlaces}
 use Rattle.model.specs.Chosen.{firstFrameOf, endFrameOf, problemAt, isTried, foundOr, chooseFrom, choose}
@@ -56,18 +56,6 @@ task c t d p = record { c = c; t = t; d = d; p = p }
 abbrev pair : ℕ → ℕ → Pair
 pair a b = record { a = a; b = b }
 
-abbrev tasksBytes : List Task → List ℕ
-tasksBytes [] = []
-tasksBytes (x ∷ tasks) = wordBytes (x .c) ++ wordBytes (x .t) ++ wordBytes (x .d) ++ wordBytes (x .p) ++ tasksBytes tasks
-
-abbrev pairsBytes : List Pair → List ℕ
-pairsBytes [] = []
-pairsBytes (q ∷ pairs) = q .a ∷ q .b ∷ pairsBytes pairs
-
--- the request file
-abbrev pub request : List Task → List Pair → List ℕ
-request tasks pairs = length tasks ∷ tasksBytes tasks ++ length pairs ∷ pairsBytes pairs
-
 -- an entry as task.job, and one with carry
 abbrev _·_ : ℕ → ℕ → Entry
 _·_ i j = record { task = i; number = j; carried = false }
@@ -75,102 +63,143 @@ _·_ i j = record { task = i; number = j; carried = false }
 abbrev carried : ℕ → ℕ → Entry
 carried i j = record { task = i; number = j; carried = true }
 
+-- a line of the sheet: a request, and what planning it comes to
+pub record Line : Type 0 where
+  pub tasks : List Task
+  pub pairs : List Pair
+  pub comes-to : Outcome
+
+-- the request file
+abbrev pub bytesOf : Line → List ℕ
+bytesOf p = requestBytes (p .tasks) (p .pairs)
+
+abbrev line : List Task → List Pair → Outcome → Line
+line tasks pairs o = record { tasks = tasks; pairs = pairs; comes-to = o }
+
+-- a table with f, H and these rows
 abbrev tabled : ℕ → ℕ → List (List Entry) → Outcome
 tabled f h rows = handed (record { f = f; h = h; rows = rows })
 
--- a line of the sheet: the bytes of a request, and what planning it comes to
-pub record Line : Type 0 where
-  pub bytes : List ℕ
-  pub comes-to : Outcome
+abbrev P1-table : Table
+P1-table = record { f = 20; h = 40; rows = (_·_ 0 0 ∷ _·_ 1 0 ∷ _·_ 2 0 ∷ []) ∷ (_·_ 0 1 ∷ _·_ 1 1 ∷ []) ∷ [] }
 
-abbrev line : List Task → List Pair → Outcome → Line
-line tasks pairs o = record { bytes = request tasks pairs; comes-to = o }
+abbrev P1 : Line
+P1 = line (task 5 20 20 0 ∷ task 5 20 20 0 ∷ task 10 40 40 0 ∷ []) [] (handed P1-table)
 
-abbrev P3-request : List ℕ
-P3-request = request (task 2 6 6 0 ∷ task 2 8 8 0 ∷ task 4 24 24 0 ∷ task 4 24 24 0 ∷ []) (pair 2 3 ∷ [])
+abbrev P2 : Line
+P2 = line (task 2 6 6 0 ∷ task 2 8 8 0 ∷ task 8 24 24 0 ∷ []) [] (refusal 9)
+
+abbrev P3 : Line
+P3 =
+    line (task 2 6 6 0 ∷ task 2 8 8 0 ∷ task 4 24 24 0 ∷ task 4 24 24 0 ∷ []) (pair 2 3 ∷ [])
+    (tabled 4 24 ((_·_ 0 0 ∷ _·_ 1 0 ∷ []) ∷ (_·_ 2 0 ∷ []) ∷ (_·_ 0 1 ∷ _·_ 1 1 ∷ []) ∷ (_·_ 0 2 ∷ []) ∷ (_·_ 3 0 ∷ []) ∷ (_·_ 0 3 ∷ _·_ 1 2 ∷ []) ∷ []))
+
+abbrev P5 : Line
+P5 = line (task 5 20 20 0 ∷ task 10 20 20 0 ∷ task 10 40 40 0 ∷ []) [] (refusal 10)
+
+abbrev P6 : Line
+P6 =
+    line (task 14 60 40 10 ∷ task 15 60 45 15 ∷ task 5 20 20 0 ∷ []) []
+    (tabled 20 60 ((_·_ 2 0 ∷ []) ∷ (_·_ 0 0 ∷ _·_ 2 1 ∷ []) ∷ (_·_ 1 0 ∷ _·_ 2 2 ∷ []) ∷ []))
 
 abbrev P7-table : Table
 P7-table = record { f = 5; h = 10; rows = (carried 0 0 ∷ []) ∷ [] ∷ [] }
 
-abbrev pub sheet : List Line
-sheet =
-    -- P1
-    line (task 5 20 20 0 ∷ task 5 20 20 0 ∷ task 10 40 40 0 ∷ []) [] (tabled 20 40 ((_·_ 0 0 ∷ _·_ 1 0 ∷ _·_ 2 0 ∷ []) ∷ (_·_ 0 1 ∷ _·_ 1 1 ∷ []) ∷ [])) ∷
-    -- P2
-    line (task 2 6 6 0 ∷ task 2 8 8 0 ∷ task 8 24 24 0 ∷ []) [] (refusal 9) ∷
-    -- P3
-    record {
-      bytes = P3-request;
-      comes-to = tabled 4 24 ((_·_ 0 0 ∷ _·_ 1 0 ∷ []) ∷ (_·_ 2 0 ∷ []) ∷ (_·_ 0 1 ∷ _·_ 1 1 ∷ []) ∷ (_·_ 0 2 ∷ []) ∷ (_·_ 3 0 ∷ []) ∷ (_·_ 0 3 ∷ _·_ 1 2 ∷ []) ∷ []);
-    } ∷
-    -- P5
-    line (task 5 20 20 0 ∷ task 10 20 20 0 ∷ task 10 40 40 0 ∷ []) [] (refusal 10) ∷
-    -- P6
-    line (task 14 60 40 10 ∷ task 15 60 45 15 ∷ task 5 20 20 0 ∷ []) [] (tabled 20 60 ((_·_ 2 0 ∷ []) ∷ (_·_ 0 0 ∷ _·_ 2 1 ∷ []) ∷ (_·_ 1 0 ∷ _·_ 2 2 ∷ []) ∷ [])) ∷
-    -- P7
-    line (task 2 10 9 6 ∷ []) [] (handed P7-table) ∷
-    -- P8
-    line (task 1 10 5 2 ∷ []) [] (tabled 2 10 ([] ∷ (_·_ 0 0 ∷ []) ∷ [] ∷ [] ∷ [] ∷ [])) ∷
-    -- P9
-    line (task 1 256 1 0 ∷ []) [] (tabled 1 256 ((_·_ 0 0 ∷ []) ∷ replicate 255 [])) ∷
-    -- P10
-    line (task 1 257 1 0 ∷ []) [] (refusal 9) ∷
-    -- P11
-    line (task 1 1 1 0 ∷ task 1 128 128 0 ∷ []) [] (refusal 8) ∷
-    -- P12
-    line (task 1 10000 10000 0 ∷ []) [] (tabled 10000 10000 ((_·_ 0 0 ∷ []) ∷ [])) ∷
-    line (task 1 10001 10001 0 ∷ []) [] (refusal 7) ∷
-    []
+abbrev P7 : Line
+P7 = line (task 2 10 9 6 ∷ []) [] (handed P7-table)
 
--- P1's bytes, as 01 prints them
+abbrev P8 : Line
+P8 = line (task 1 10 5 2 ∷ []) [] (tabled 2 10 ([] ∷ (_·_ 0 0 ∷ []) ∷ [] ∷ [] ∷ [] ∷ []))
+
+abbrev P9 : Line
+P9 = line (task 1 256 1 0 ∷ []) [] (tabled 1 256 ((_·_ 0 0 ∷ []) ∷ replicate 255 []))
+
+abbrev P10 : Line
+P10 = line (task 1 257 1 0 ∷ []) [] (refusal 9)
+
+abbrev P11 : Line
+P11 = line (task 1 1 1 0 ∷ task 1 128 128 0 ∷ []) [] (refusal 8)
+
+abbrev P12 : Line
+P12 = line (task 1 10000 10000 0 ∷ []) [] (tabled 10000 10000 ((_·_ 0 0 ∷ []) ∷ []))
+
+-- "with T 10001"
+abbrev P12-longer : Line
+P12-longer = line (task 1 10001 10000 0 ∷ []) [] (refusal 7)
+
+-- P4 is a table for P3's request, and stands below.
+abbrev pub sheet : List Line
+sheet = P1 ∷ P2 ∷ P3 ∷ P5 ∷ P6 ∷ P7 ∷ P8 ∷ P9 ∷ P10 ∷ P11 ∷ P12 ∷ P12-longer ∷ []
+
+-- P1's request and table, as 01 prints them
 abbrev P1-printed : List ℕ
 P1-printed =
-    0x03 ∷ 0x05 ∷ 0x00 ∷ 0x14 ∷ 0x00 ∷ 0x14 ∷ 0x00 ∷ 0x00 ∷ 0x00 ∷ 0x05 ∷ 0x00 ∷ 0x14 ∷ 0x00 ∷ 0x14 ∷ 0x00 ∷ 0x00 ∷ 0x00 ∷ 0x0A ∷ 0x00 ∷ 0x28 ∷ 0x00 ∷ 0x28 ∷ 0x00 ∷ 0x00 ∷ 0x00 ∷ 0x00 ∷ []
+    0x03 ∷
+    0x05 ∷ 0x00 ∷ 0x14 ∷ 0x00 ∷ 0x14 ∷ 0x00 ∷ 0x00 ∷ 0x00 ∷
+    0x05 ∷ 0x00 ∷ 0x14 ∷ 0x00 ∷ 0x14 ∷ 0x00 ∷ 0x00 ∷ 0x00 ∷
+    0x0A ∷ 0x00 ∷ 0x28 ∷ 0x00 ∷ 0x28 ∷ 0x00 ∷ 0x00 ∷ 0x00 ∷
+    0x00 ∷ []
 
 abbrev P1-table-printed : List ℕ
 P1-table-printed =
     0x02 ∷ 0x14 ∷ 0x00 ∷ 0x28 ∷ 0x00 ∷ 0x02 ∷ 0x00 ∷ 0x03 ∷ 0x00 ∷ 0x00 ∷ 0x01 ∷ 0x00 ∷ 0x02 ∷ 0x00 ∷ 0x02 ∷ 0x00 ∷ 0x01 ∷ 0x01 ∷ 0x01 ∷ []
 
-abbrev bytesOf : Outcome → List ℕ
-bytesOf (handed t) = encode t
-bytesOf (refusal number) = []
-
 -- P4: "the table printed in 000 for P3", with job 3 of task 0 in row 4
 abbrev P4-table : Table
-P4-table = record { f = 4; h = 24; rows = (_·_ 0 0 ∷ _·_ 1 0 ∷ []) ∷ (_·_ 2 0 ∷ []) ∷ (_·_ 0 1 ∷ _·_ 1 1 ∷ []) ∷ (_·_ 0 2 ∷ []) ∷ (_·_ 0 3 ∷ _·_ 1 2 ∷ []) ∷ (_·_ 3 0 ∷ []) ∷ [] }
+P4-table = record {
+  f = 4;
+  h = 24;
+  rows = (_·_ 0 0 ∷ _·_ 1 0 ∷ []) ∷ (_·_ 2 0 ∷ []) ∷ (_·_ 0 1 ∷ _·_ 1 1 ∷ []) ∷ (_·_ 0 2 ∷ []) ∷ (_·_ 0 3 ∷ _·_ 1 2 ∷ []) ∷ (_·_ 3 0 ∷ []) ∷ [];
+}
 
 -- P7: the entries of the next frames from a state on
 abbrev frame : State → Frame
 frame s = nextFrame (decode (encode P7-table)) s
 
--- P8: what is planned
-abbrev P8 : Instance
-P8 = record { tasks = task 1 10 5 2 ∷ []; pairs = []; h = 10; jobs = planned (task 1 10 5 2 ∷ []) 10 }
+-- P8: what is planned; its one job is released at 2 and due at 7
+abbrev P8-instance : Instance
+P8-instance = record { tasks = P8 .tasks; pairs = P8 .pairs; h = 10; jobs = record { task = 0; number = 0; release = 2; due = 7 } ∷ [] }
 
 pub record SheetHolds : Type 0 where
   -- what planning each request comes to: f, H and the rows, or the number
-  pub planned-as : map (λ p. outcome (p .bytes)) sheet ≡ map (λ p. p .comes-to) sheet
+  pub planned-as : map (λ p. outcome (bytesOf p)) sheet ≡ map (λ p. p .comes-to) sheet
   -- P1's request and table are the bytes that 01 prints
-  pub P1-bytes : bytesOf (outcome P1-printed) ≡ P1-table-printed
+  pub P1-request-bytes : bytesOf P1 ≡ P1-printed
+  pub P1-table-bytes : encode P1-table ≡ P1-table-printed
   -- "check gives 14"
-  pub P4-refused : checker.numberOf (checker.checked (cycleOf P3-request) (decode (encode P4-table))) ≡ 14
+  pub P4-refused : checker.numberOf (checker.checked (cycleOf (bytesOf P3)) (decode (encode P4-table))) ≡ 14
   -- "Frame 0 serves no entry, frame 2 the first."
   pub P7-frame-0 : entriesOf (frame freshState) ≡ []
   pub P7-frame-1 : entriesOf (frame (frame freshState .state)) ≡ []
   pub P7-frame-2 : entriesOf (frame (frame (frame freshState .state) .state)) ≡ carried 0 0 ∷ []
   -- "5 is plausible and has no plan"
-  pub P8-plausible : plausible P8 5 ≡ true
-  pub P8-no-plan : plan (problemAt P8 5) [] ≡ none
+  pub P8-cycle : cycleOf (bytesOf P8) ≡ cycle (P8-instance .tasks) (P8-instance .pairs) (P8-instance .h) (P8-instance .jobs)
+  pub P8-plausible : plausible P8-instance 5 ≡ true
+  pub P8-no-plan : (frames : List ℕ) → IsPlan P8-instance 5 frames → ⊥
 
 pub sheet-holds : SheetHolds
-unfolding outcome cycleOf reading tasksOf taskOf judgedTask taskRule pairsOf pairOf judgedPair pairRule records byteOf wordOf choose chooseFrom isTried foundOr problemAt firstFrameOf endFrameOf firstFrame costs costOf slot plausible frameRules frameRule linkCounts linkPlaces inPlaces allLinks linksFrom linksOfJob linksBy linkBy linkIf placeBefore placeFrom isJob padded plan search firstOf when orElse fits all-kept row-sum planned inOrder insert before allJobs jobsOf jobsFrom jobOf jobsIn hyperperiod lcmWith lcmOf gcdOf gcdSteps planTable planRows placesIn placesByTask placesFrom placesOf entryFor rowFor encode headBytes wordBytes rowsBytes rowBytes entriesBytes jobByte decode rowsFrom heightFits sizesFrom rowFrom entriesFrom entryFrom entryOf checker.checked checker.judged checker.planOf checker.rulesRight checker.orderRight checker.capacityRight checker.windowsRight checker.entriesRight checker.capacityKept checker.rowsKept checker.rowKept checker.entryKept checker.pairKept checker.oneKept checker.otherKept checker.windowKept checker.isThere checker.inWindow checker.isPlaced checker.framesIn checker.frameIn checker.frameFor checker.placeIn checker.placeInRow checker.isJob checker.someFrom checker.allFrom nextFrame moved uncarried entriesAt table.rowGiven table.padded
+unfolding outcome cycleOf reading tasksOf taskOf judgedTask taskRule pairsOf pairOf judgedPair pairRule records byteOf wordOf
+    requestBytes sectionBytes taskBytes pairBytes wordBytes flatMap
+    choose chooseFrom isTried foundOr problemAt firstFrameOf endFrameOf firstFrame costs costOf slot plausible frameRules frameRule
+    linkCounts linkPlaces inPlaces allLinks linksFrom linksOfJob linksBy linkBy linkIf placeBefore placeFrom isJob padded
+    plan search firstOf when orElse fits all-kept row-sum
+    planned inOrder insert before allJobs jobsOf jobsFrom jobOf jobsIn hyperperiod lcmWith lcmOf gcdOf gcdSteps
+    planTable planRows placesIn placesByTask placesFrom placesOf entryFor rowFor
+    encode headBytes rowBytes entriesBytes jobByte decode rowsFrom heightFits sizesFrom rowFrom entriesFrom entryFrom entryOf
+    checker.checked checker.judged checker.planOf checker.rulesRight checker.orderRight checker.capacityRight checker.windowsRight checker.entriesRight
+    checker.capacityKept checker.rowsKept checker.rowKept checker.entryKept checker.pairKept checker.oneKept checker.otherKept checker.windowKept
+    checker.isThere checker.inWindow checker.isPlaced checker.framesIn checker.frameIn checker.frameFor checker.placeIn checker.placeInRow checker.isJob
+    checker.someFrom checker.allFrom
+    nextFrame moved uncarried entriesAt table.rowGiven table.padded
 sheet-holds = record {
   planned-as = refl;
-  P1-bytes = refl;
+  P1-request-bytes = refl;
+  P1-table-bytes = refl;
   P4-refused = refl;
   P7-frame-0 = refl;
   P7-frame-1 = refl;
   P7-frame-2 = refl;
+  P8-cycle = refl;
   P8-plausible = refl;
-  P8-no-plan = refl;
+  P8-no-plan = λ frames v. omega (arith, v .not-early 0 (omega arith), v .not-late 0 (omega arith));
 }

@@ -26,7 +26,7 @@ use Rattle.model.specs.ChosenLaws.{choose-right}
 use Rattle.model.specs.Described.{planTable}
 use Rattle.model.specs.PlanTable.{plan-table-length}
 use Rattle.planner.specs.Outcome.{Outcome, handed, refusal, outcome, inCycle, byChoice, answer}
-use Rattle.checker.specs.Checked.{checked, numberOf}
+use Rattle.checker.specs.Checked.{checkNumber}
 use Rattle.dispatcher.specs.Dispatch.{served, moved, noFrame, shown, nextFrame, freshState, reported}
 use Rattle.dispatcher.specs.FrameLaws.{served-rises}
 use Rattle.dispatcher.specs.declared.State.{State}
@@ -76,7 +76,7 @@ module _ (request out : List ℕ) (w : Written) (e : w ≡ answer (outcome reque
 
 -- bus_check
 
-module _ (request bytes : List ℕ) (number : ℕ) (e : number ≡ numberOf (checked (cycleOf request) (decode bytes))) where
+module _ (request bytes : List ℕ) (number : ℕ) (e : number ≡ checkNumber request bytes) where
   pub check-refused : (number ≡ 0 → ⊥) → refused number ≡ checkReply request bytes
   unfolding checkReply
   check-refused h = reply-refused number 0 h ∙ ap (λ (n : ℕ). reply n 0) e

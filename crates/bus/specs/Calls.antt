@@ -9,7 +9,7 @@ use Rattle.cursor.specs.Choice.{pick, both}
 use Rattle.request.specs.Request.{reading}
 use Rattle.cycle.specs.Cycle.{cycleOf}
 use Rattle.table.specs.Table.{decode}
-use Rattle.checker.specs.Checked.{checked, numberOf}
+use Rattle.checker.specs.Checked.{checkNumber}
 use Rattle.planner.specs.Outcome.{outcome, answer, buffer}
 use Rattle.dispatcher.specs.Dispatch.{freshState, nextFrame, reported}
 use Rattle.dispatcher.specs.declared.Frame.{Frame}
@@ -28,7 +28,7 @@ planBuffer request out = buffer (outcome request) out
 -- bus_check
 
 unfoldable pub checkReply : List ℕ → List ℕ → ℤ
-checkReply request table = reply (numberOf (checked (cycleOf request) (decode table))) 0
+checkReply request table = reply (checkNumber request table) 0
 
 -- bus_fresh
 

@@ -5,3 +5,4 @@ pub mod StateLaws
 pub mod Calls
 pub mod CallLaws
 pub mod Rewrite
+pub mod RoundTrip

@@ -5,7 +5,7 @@ use mathlib.Core.List.{List, [], _∷_, _++_}
 use lib.ListN.{length, getD, drop, replicate}
 use lib.Dec.{ltb, eqb}
 use Rattle.cursor.specs.Choice.{pick}
-use Rattle.table.specs.Table.{wordBytes}
+use Rattle.cursor.specs.Fields.{wordBytes}
 use Rattle.dispatcher.specs.declared.State.{State}
 
 -- 64 bytes or more, and a mark that is 0 or 1

@@ -10,7 +10,7 @@ use lib.Dec.{ltb}
 use borrow.Author.Tests.{ltb-true, ltb-false, lt-ltb, le-ltb}
 use mir.Val.{boolByte}
 use Rattle.cursor.specs.Choice.{pick}
-use Rattle.table.specs.Table.{wordBytes}
+use Rattle.cursor.specs.Fields.{wordBytes}
 use Rattle.table.specs.Left.{less-one, none-left}
 use Rattle.table.specs.WriteLaws.{PartWay, part-start, part-more, part-end, two-stored}
 use Rattle.dispatcher.specs.declared.State.{State}

@@ -14,11 +14,8 @@ use lib.Dec.{leb, eqb}
 use borrow.Author.Tests.{le-leb, lt-leb, leb-true, leb-false, eq-eqb, eqb-true}
 use Rattle.cursor.specs.Choice.{pick, both}
 use Rattle.cursor.specs.ParsedLaws.{never, both-true}
-use Rattle.request.specs.declared.Task.{Task}
-use Rattle.request.specs.declared.Pair.{Pair}
-use Rattle.cycle.specs.Cycle.{cycle, cycleOf}
+use Rattle.cycle.specs.Cycle.{cycleOf}
 use Rattle.cycle.specs.Planned.{noJob}
-use Rattle.cycle.specs.LimitLaws.{cycle-within}
 use Rattle.cycle.specs.declared.Job.{Job}
 use Rattle.table.specs.Table.{Entry, Table, table, decode, rowOf}
 use Rattle.table.specs.WellFormed.{WellFormed}
@@ -27,14 +24,12 @@ use Rattle.search.specs.Placing.{row-sum}
 use Rattle.model.specs.Plan.{Instance, jobAt, pairAt, rowsAt, frameAt, costs, PairsKept, IsPlan}
 use Rattle.model.specs.Plausible.{plausible}
 use Rattle.model.specs.Good.{Good, same-place}
-use Rattle.model.specs.Answers.{instance, instance-good}
+use Rattle.model.specs.Within.{Within, within-good}
 use Rattle.model.specs.PlanLaws.{map-at}
 use Rattle.model.specs.PlausibleLaws.{IsPlausible, plausible-says, plausible-needed}
 use Rattle.model.specs.RowLaws.{frame-small}
-use Rattle.model.specs.Described.{Among, rowFor, entryFor, StandsIn, Describes, planTable}
-use Rattle.model.specs.PlanTable.{described-height, plan-table-describes}
-use Rattle.model.specs.Chosen.{choose, chosen, IsChosen, RightChoice}
-use Rattle.model.specs.ChosenLaws.{choose-right}
+use Rattle.model.specs.Described.{Among, rowFor, entryFor, StandsIn, Describes}
+use Rattle.model.specs.PlanTable.{described-height}
 use Rattle.checker.specs.Checked.{every, isJob, placeIn, frameFor, isFound, frameAtPlace, frameIn, framesIn, isPlaced, isThere, inWindow, windowKept, otherKept, oneKept, pairKept, entryKept, rowsKept, capacityKept, entriesRight, windowsRight, capacityRight, orderRight, rulesRight, Verdict, plan, refusal, planOf, judged, checked}
 use Rattle.checker.specs.EveryLaws.{every-says, says-every, some-says, says-some}
 use Rattle.checker.specs.PlaceLaws.{IsJob, job-says, says-job, entryWith, RightIn, place-right, rows-say, say-rows}
@@ -288,14 +283,7 @@ module _ (x : Instance) (g : Good x) (t : Table) (frames : List ℕ) (v : IsPlan
   plan-judged =
       rw (eq-eqb (t .h) (x .h) (d .same-h), plausible-needed x g (t .f) frames v, frames-read, entries-right, rules-right)
 
-module _ (tasks : List Task) (pairs : List Pair) (h : ℕ) (jobs : List Job) (request bytes : List ℕ) (t : Table)
-    (within : cycleOf request ≡ cycle tasks pairs h jobs) (read : decode bytes ≡ table t) where
-  abbrev x : Instance
-  x = instance tasks pairs h jobs
-
-  good : Good x
-  good = instance-good tasks pairs h jobs (cycle-within request tasks pairs h jobs within)
-
+module _ (request bytes : List ℕ) (x : Instance) (t : Table) (within : Within request x) (read : decode bytes ≡ table t) where
   checked-is : checked (cycleOf request) (decode bytes) ≡ judged x t
   unfolding checked
   checked-is = rw (within, read)
@@ -303,7 +291,8 @@ module _ (tasks : List Task) (pairs : List Pair) (h : ℕ) (jobs : List Job) (re
   plan-accepted : (f : ℕ) (frames : List ℕ) → IsPlan x f frames → Describes x f frames t → judged x t ≡ plan f frames
   plan-accepted f frames v d =
       let e : t .f ≡ f = d .same-f in
-      plan-judged x good t frames (subst (λ k. IsPlan x k frames) (sym e) v) (subst (λ k. Describes x k frames t) (sym e) d) ∙ ap (λ k. plan k frames) e
+      plan-judged x (within-good request x within) t frames (subst (λ k. IsPlan x k frames) (sym e) v) (subst (λ k. Describes x k frames t) (sym e) d)
+      ∙ ap (λ k. plan k frames) e
 
   -- THE THEOREM: the check accepts a table, and reads this plan from it, exactly if it is a plan and the table describes it.
   pub accepts-described : (f : ℕ) (frames : List ℕ) → (checked (cycleOf request) (decode bytes) ≡ plan f frames) ↔ (IsPlan x f frames × Describes x f frames t)
@@ -311,20 +300,3 @@ module _ (tasks : List Task) (pairs : List Pair) (h : ℕ) (jobs : List Job) (re
     λ e. judged-plan x t (decode-wellformed bytes t read) f frames (sym checked-is ∙ e),
     λ p. checked-is ∙ plan-accepted f frames (p .0) (p .1),
   )
-
-  -- 13 comes before 14: it is given for another H or a length that is not plausible, whatever else is broken
-  pub thirteen-first : both (eqb (t .h) h) (plausible x (t .f)) ≡ false → checked (cycleOf request) (decode bytes) ≡ refusal 13
-  unfolding judged
-  thirteen-first e = checked-is ∙ rw e
-
--- the table of the chosen plan is accepted
-pub chosen-accepted : (tasks : List Task) (pairs : List Pair) (h : ℕ) (jobs : List Job) (request bytes : List ℕ) → cycleOf request ≡ cycle tasks pairs h jobs
-    → (f : ℕ) (frames : List ℕ) → choose (instance tasks pairs h jobs) ≡ chosen f frames → decode bytes ≡ table (planTable (instance tasks pairs h jobs) f frames)
-    → checked (cycleOf request) (decode bytes) ≡ plan f frames
-unfolding RightChoice
-chosen-accepted tasks pairs h jobs request bytes within f frames e read =
-    let x = instance tasks pairs h jobs in
-    let w = cycle-within request tasks pairs h jobs within in
-    let right : IsChosen x f frames = rw e at (choose-right x (instance-good tasks pairs h jobs w)) in
-    accepts-described tasks pairs h jobs request bytes (planTable x f frames) within read f frames .1
-    (right .is-plan, plan-table-describes x (instance-good tasks pairs h jobs w) f frames (right .is-plan) (w .h-few))

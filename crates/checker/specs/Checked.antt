@@ -7,10 +7,10 @@ use lib.Dec.{leb, eqb}
 use Rattle.cursor.specs.Choice.{pick, both}
 use Rattle.request.specs.Request.{noPair}
 use Rattle.request.specs.declared.Pair.{Pair}
-use Rattle.cycle.specs.Cycle.{Cycle, cycle, noCycle}
+use Rattle.cycle.specs.Cycle.{Cycle, cycle, noCycle, cycleOf}
 use Rattle.cycle.specs.Planned.{noJob}
 use Rattle.cycle.specs.declared.Job.{Job}
-use Rattle.table.specs.Table.{Entry, Table, Decoded, table, malformed}
+use Rattle.table.specs.Table.{Entry, Table, Decoded, table, malformed, decode}
 use Rattle.search.specs.Placing.{row-sum}
 use Rattle.model.specs.Plan.{Instance, costs}
 use Rattle.model.specs.Plausible.{plausible}
@@ -163,3 +163,7 @@ checked (cycle tasks pairs h jobs) (table t) = judged (instance tasks pairs h jo
 abbrev pub numberOf : Verdict → ℕ
 numberOf (plan f frames) = 0
 numberOf (refusal number) = number
+
+-- what `check` answers to the bytes of a request and of a table
+abbrev pub checkNumber : List ℕ → List ℕ → ℕ
+checkNumber request bytes = numberOf (checked (cycleOf request) (decode bytes))

@@ -7,3 +7,4 @@ pub mod Answers
 pub mod WalkLaws
 pub mod LoopLaws
 pub mod ReadLaws
+pub mod Exactly

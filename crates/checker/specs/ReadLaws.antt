@@ -9,6 +9,7 @@ use lib.Seq.{ext-getD}
 use lib.Dec.{eqb}
 use borrow.Author.Tests.{eq-eqb, ne-eqb}
 use Rattle.cursor.specs.Choice.{pick, both}
+use Rattle.cursor.specs.Front.{Bytes}
 use Rattle.cursor.specs.Padded.{padded, getD-padded, firsts, firsts-length, getD-firsts, firsts-padded}
 use Rattle.request.specs.Request.{noTask, noPair}
 use Rattle.request.specs.declared.Task.{Task}
@@ -22,7 +23,6 @@ use Rattle.cycle.specs.declared.Job.{Job}
 use Rattle.cycle.specs.declared.Cycle.{Cycle}
 use Rattle.table.specs.Table.{Table, Decoded, table, malformed, decode}
 use Rattle.table.specs.Answers.{sizesOf}
-use Rattle.table.specs.Readings.{Bytes}
 use Rattle.table.specs.Inverse.{decode-wellformed}
 use Rattle.table.specs.declared.Sizes.{Sizes}
 use Rattle.model.specs.Plan.{Instance, slot, costOf, costs}

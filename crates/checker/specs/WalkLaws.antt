@@ -3,7 +3,7 @@
 use Prim.Native.Nat.{ℕ, zero, suc, _+_, _*_, _-_, _%_, _≤_, _<_}
 use mathlib.Core.Path.{_≡_, refl, sym, ap, _∙_}
 use mathlib.Core.Bool.{Bool, true, false}
-use mathlib.Core.List.{List, [], _∷_, _++_}
+use mathlib.Core.List.{List, [], _∷_, _++_, flatMap}
 use native.Mathlib.Nat.{sub-zero}
 use native.Mathlib.Omega.{arith}
 use lib.ListN.{length, getD, drop}
@@ -11,11 +11,12 @@ use lib.Seq.{getD-drop, drop-drop}
 use lib.Dec.{leb}
 use borrow.Author.Tests.{le-leb, lt-leb}
 use Rattle.cursor.specs.Choice.{pick}
+use Rattle.cursor.specs.Fields.{wordBytes}
+use Rattle.cursor.specs.Front.{Bytes}
 use Rattle.cycle.specs.declared.Job.{Job}
-use Rattle.table.specs.Table.{Entry, Table, table, decode, jobByte, entryOf, wordBytes, entriesBytes, rowBytes, rowsBytes, headBytes, encode}
+use Rattle.table.specs.Table.{Entry, Table, table, decode, jobByte, entryOf, entriesBytes, rowBytes, rowsBytes, headBytes, encode}
 use Rattle.table.specs.WellFormed.{RisingFrom, AllRising}
 use Rattle.table.specs.Left.{less-one, none-left}
-use Rattle.table.specs.Readings.{Bytes}
 use Rattle.table.specs.Inverse.{entry-back, decode-wellformed, encode-decode}
 use Rattle.checker.specs.Checked.{isJob, placeInRow, orElse, placeIn, entryKept, rowKept, rowsKept}
 use Rattle.checker.specs.PlaceLaws.{RightIn, place-right}
@@ -45,7 +46,7 @@ module _ (s : List ℕ) where
       (rw (task, byte-at at 1 _ e, entry-back a (h .2), more .0), rw end (more .1))
 
   rows-are : (rows : List (List Entry)) (at : ℕ) → AllRising rows → drop at s ≡ rowsBytes rows → rowsIn s (length rows) at ≡ rows
-  unfolding rowsIn rowsBytes rowBytes AllRising
+  unfolding rowsIn flatMap rowBytes AllRising
   rows-are [] at h e = refl
   rows-are (es ∷ rows) at h e =
       let zeroth : at + 0 ≡ at = omega arith in

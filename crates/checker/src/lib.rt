@@ -16,7 +16,7 @@ ghost use Rattle.table.specs.Table.{decode};
 ghost use Rattle.search.specs.Placing.{row-sum};
 ghost use Rattle.model.specs.Plan.{costs};
 ghost use Rattle.model.specs.Answers.{instanceOf};
-ghost use Rattle.checker.specs.Checked.{every, some, isJob, placeIn, frameFor, framesIn, isPlaced, isThere, inWindow, rowKept, rowsKept, windowKept, otherKept, oneKept, pairKept, capacityKept, rulesRight, planOf, checked, numberOf, refusal};
+ghost use Rattle.checker.specs.Checked.{every, some, isJob, placeIn, frameFor, framesIn, isPlaced, isThere, inWindow, rowKept, rowsKept, windowKept, otherKept, oneKept, pairKept, capacityKept, rulesRight, planOf, checked, checkNumber, refusal};
 ghost use Rattle.checker.specs.Answers.{readAnswer, framesAnswer, entriesIn, rowsOf, Sound};
 
 // The frame length and the jobs' frames in planning order; or the number of the refusal, and zeros.
@@ -402,7 +402,7 @@ pub fn read_plan(request: &[u8], table: &[u8]) -> Read
 
 // 0 where the table describes a plan of the request; or the number.
 pub fn check(request: &[u8], table: &[u8]) -> u8
-    ensures { λ r. ⌜ r ≡ numberOf (checked (cycleOf (now (request .entry))) (decode (now (table .entry)))) ⌝ }
+    ensures { λ r. ⌜ r ≡ checkNumber (now (request .entry)) (now (table .entry)) ⌝ }
 {
     let read = read_plan(request, table);
     read.refusal

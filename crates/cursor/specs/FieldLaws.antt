@@ -1,8 +1,8 @@
 -- What the cursor's answer at a place says of the bytes from there on: `drop at s` begins with the field, or is too short for it.
-use Prim.Native.Nat.{ℕ, suc, _+_, _*_, _≤_, _<_}
-use mathlib.Core.Path.{_≡_, refl, sym, ap, _∙_}
+use Prim.Native.Nat.{ℕ, _+_, _*_, _≤_, _<_}
+use mathlib.Core.Path.{_≡_, refl, _∙_}
 use mathlib.Core.Bool.{Bool, true, false}
-use mathlib.Core.List.{List, [], _∷_}
+use mathlib.Core.List.{List}
 use native.Mathlib.Numerals.{add-one}
 use native.Mathlib.Omega.{arith}
 use lib.ListN.{length, getD, drop, drop-of-length-le}
@@ -10,7 +10,8 @@ use lib.Seq.{drop-cons}
 use lib.Dec.{ltb}
 use borrow.Author.Tests.{lt-ltb, le-ltb, ltb-true, ltb-false}
 use Rattle.cursor.specs.Choice.{pick}
-use Rattle.cursor.specs.Parsed.{Parsed, got, refused, then}
+use Rattle.cursor.specs.Parsed.{got, refused, then}
+use Rattle.cursor.specs.ParsedLaws.{never}
 use Rattle.cursor.specs.Fields.{byteOf, wordOf, byteAt, wordAt}
 use Rattle.cursor.specs.declared.Cursor.{Cursor}
 use Rattle.cursor.specs.declared.ByteRead.the-variants.{Byte, NoByte}
@@ -43,14 +44,14 @@ module _ (short : ℕ) (s : List ℕ) (at : ℕ) where
           let value : b ≡ getD s at 0 = cc in
           let place : next ≡ record { at = at + 1 } = cc in
           record { field = rw (place, value) (byte-here short s at within); value = value; moved = rw place; within = within }
-      go false q w = let z : _≡_ {A = ℕ} 0 1 = cc in absurd (omega arith)
+      go false q w = absurd (never (cc))
 
   pub byte-missing : byteAt s at ≡ NoByte → (byteOf short (drop at s) ≡ refused short) × (length s ≤ at)
   unfolding byteAt
   byte-missing e = go (ltb at (length s)) refl e
     where
       go : (t : Bool) → ltb at (length s) ≡ t → pick t (Byte (getD s at 0) (record { at = at + 1 })) NoByte ≡ NoByte → (byteOf short (drop at s) ≡ refused short) × (length s ≤ at)
-      go true q w = let z : _≡_ {A = ℕ} 0 1 = cc in absurd (omega arith)
+      go true q w = absurd (never (cc))
       go false q w = let ended : length s ≤ at = ltb-false at (length s) q in (byte-none short s at ended, ended)
 
 -- A u16 that was read.
@@ -64,24 +65,27 @@ module _ (short : ℕ) (s : List ℕ) (at : ℕ) where
   unfolding wordAt wordOf
   word-taken w next e = go (ltb (at + 1) (length s)) refl e
     where
-      go : (t : Bool) → ltb (at + 1) (length s) ≡ t → pick t (Word (getD s at 0 + getD s (at + 1) 0 * 256) (record { at = at + 1 + 1 })) NoWord ≡ Word w next → WordTaken short s at w next
+      go : (t : Bool) → ltb (at + 1) (length s) ≡ t
+          → pick t (Word (getD s at 0 + getD s (at + 1) 0 * 256) (record { at = at + 1 + 1 })) NoWord ≡ Word w next → WordTaken short s at w next
       go true q v =
           let within : at + 1 < length s = ltb-true (at + 1) (length s) q in
           let value : w ≡ getD s at 0 + getD s (at + 1) 0 * 256 = cc in
           let place : next ≡ record { at = at + 1 + 1 } = cc in
           record { field = rw (place, value, byte-here short s at (omega arith)) (rw (byte-here short s (at + 1) within)); moved = rw place; within = within }
-      go false q v = let z : _≡_ {A = ℕ} 0 1 = cc in absurd (omega arith)
+      go false q v = absurd (never (cc))
 
   pub word-missing : wordAt s at ≡ NoWord → wordOf short (drop at s) ≡ refused short
   unfolding wordAt wordOf
   word-missing e = go (ltb (at + 1) (length s)) refl e
     where
-      second : (t : Bool) → ltb at (length s) ≡ t → length s ≤ at + 1 → then (byteOf short (drop at s)) (λ low rest. then (byteOf short rest) (λ high rest. got (low + high * 256) rest)) ≡ refused short
+      second : (t : Bool) → ltb at (length s) ≡ t → length s ≤ at + 1
+          → then (byteOf short (drop at s)) (λ low rest. then (byteOf short rest) (λ high rest. got (low + high * 256) rest)) ≡ refused short
       second true q h = rw (byte-here short s at (ltb-true at (length s) q)) (rw (byte-none short s (at + 1) h))
       second false q h = rw (byte-none short s at (ltb-false at (length s) q))
 
-      go : (t : Bool) → ltb (at + 1) (length s) ≡ t → pick t (Word (getD s at 0 + getD s (at + 1) 0 * 256) (record { at = at + 1 + 1 })) NoWord ≡ NoWord → then (byteOf short (drop at s)) (λ low rest. then (byteOf short rest) (λ high rest. got (low + high * 256) rest)) ≡ refused short
-      go true q v = let z : _≡_ {A = ℕ} 0 1 = cc in absurd (omega arith)
+      go : (t : Bool) → ltb (at + 1) (length s) ≡ t → pick t (Word (getD s at 0 + getD s (at + 1) 0 * 256) (record { at = at + 1 + 1 })) NoWord ≡ NoWord
+          → then (byteOf short (drop at s)) (λ low rest. then (byteOf short rest) (λ high rest. got (low + high * 256) rest)) ≡ refused short
+      go true q v = absurd (never (cc))
       go false q v = second (ltb at (length s)) refl (ltb-false (at + 1) (length s) q)
 
 -- The u16 at a place is made of the byte there and the byte at the cursor behind it.

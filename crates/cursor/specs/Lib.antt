@@ -3,6 +3,8 @@ pub mod Parsed
 pub mod ParsedLaws
 pub mod Fields
 pub mod FieldLaws
+pub mod Front
+pub mod OwnBytes
 pub mod Widths
 pub mod Padded
 pub mod RecordLaws

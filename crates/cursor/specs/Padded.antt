@@ -12,6 +12,14 @@ use lib.Seq.{set-append-seam, take-append-seam, append-snoc, getD-append-seam, e
 unfoldable pub padded : {A : Type 0} → ℕ → A → List A → List A
 padded size blank xs = xs ++ replicate (size - length xs) blank
 
+-- blanks behind a list are what is found there anyway
+getD-blanks : {A : Type 0} (n : ℕ) (blank : A) (xs : List A) (i : ℕ) → getD (xs ++ replicate n blank) i blank ≡ getD xs i blank
+getD-blanks n blank (x ∷ xs) zero = refl
+getD-blanks n blank (x ∷ xs) (suc i) = getD-blanks n blank xs i
+getD-blanks zero blank [] i = refl
+getD-blanks (suc n) blank [] zero = refl
+getD-blanks (suc n) blank [] (suc i) = getD-blanks n blank [] i
+
 module _ {A : Type 0} (size : ℕ) (blank : A) (xs : List A) where
   pub padded-length : length xs ≤ size → length (padded size blank xs) ≡ size
   unfolding padded
@@ -24,6 +32,11 @@ module _ {A : Type 0} (size : ℕ) (blank : A) (xs : List A) where
   pub getD-padded : (i : ℕ) → i < length xs → getD (padded size blank xs) i blank ≡ getD xs i blank
   unfolding padded
   getD-padded i h = List·getD-append xs (replicate (size - length xs) blank) blank i h
+
+  -- a place behind the list holds a blank
+  pub getD-padded-any : (i : ℕ) → getD (padded size blank xs) i blank ≡ getD xs i blank
+  unfolding padded
+  getD-padded-any i = getD-blanks (size - length xs) blank xs i
 
   -- one element more, stored in the first unused place
   pub set-padded : (x : A) → length xs < size → set (padded size blank xs) (length xs) x ≡ padded size blank (xs ++ (x ∷ []))

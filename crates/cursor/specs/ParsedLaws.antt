@@ -1,6 +1,6 @@
 -- A reading that comes to a value came to one at each of its steps.
 use Prim.Native.Nat.{ℕ}
-use mathlib.Core.Path.{_≡_, refl}
+use mathlib.Core.Path.{_≡_, refl, subst₂}
 use mathlib.Core.Bool.{Bool, true, false}
 use mathlib.Core.List.{List}
 use native.Mathlib.Omega.{arith}
@@ -26,8 +26,12 @@ pub rule-got : {A : Type 0} (test : Bool) (r : Parsed A) (number : ℕ) (y : A) 
 rule-got true r number y rest e = (refl, e)
 rule-got false r number y rest e = absurd (never (cc))
 
-pub same-value : {A : Type 0} (x y : A) (tail rest : List ℕ) → got x tail ≡ got y rest → x ≡ y
-same-value x y tail rest e = cc
+-- what holds of a value and the bytes behind it holds of what equals them
+pub got-same : {A : Type 0} (P : A → List ℕ → Type 0) {x y : A} {tail rest : List ℕ} → got x tail ≡ got y rest → P x tail → P y rest
+got-same P {x} {y} {tail} {rest} e h =
+    let value : x ≡ y = cc in
+    let behind : tail ≡ rest = cc in
+    subst₂ P value behind h
 
 pub both-true : (a b : Bool) → both a b ≡ true → (a ≡ true) × (b ≡ true)
 both-true true b e = (refl, e)

@@ -8,7 +8,8 @@ use native.Mathlib.Nat.{sub-zero, eq-or-lt-of-le}
 use native.Mathlib.Omega.{arith}
 use lib.ListN.{length, drop, set, getD, length-append, List·getD-append}
 use lib.Seq.{getD-append-seam}
-use Rattle.cursor.specs.Parsed.{Parsed, got, refused, then, records}
+use Rattle.cursor.specs.Parsed.{Parsed, got, refused, records}
+use Rattle.cursor.specs.ParsedLaws.{then-got}
 use Rattle.cursor.specs.Padded.{padded, set-padded}
 
 pub record SoFar {A : Type 0} (one : List ℕ → Parsed A) (size : ℕ) (blank : A) (whole : Parsed (List A)) (s : List ℕ) (n i at : ℕ) (xs : List A) : Type 0 where
@@ -52,20 +53,21 @@ module _ {A : Type 0} (one : List ℕ → Parsed A) (size : ℕ) (blank : A) (wh
 
 -- What holds of every record that is read holds of all of them.
 module _ {A : Type 0} (one : List ℕ → Parsed A) (blank : A) (P : A → Type 0) (judged : (bytes : List ℕ) (x : A) (rest : List ℕ) → one bytes ≡ got x rest → P x) where
-  pub records-each : (k : ℕ) (done : List A) (bytes : List ℕ) (xs : List A) (rest : List ℕ) → ((i : ℕ) → i < length done → P (getD done i blank))
+  each-from : (k : ℕ) (done : List A) (bytes : List ℕ) (xs : List A) (rest : List ℕ) → ((i : ℕ) → i < length done → P (getD done i blank))
       → records one k done bytes ≡ got xs rest → (i : ℕ) → i < length xs → P (getD xs i blank)
   unfolding records
-  records-each zero done bytes xs rest before e = let same : done ≡ xs = cc in rw same at before
-  records-each (suc k) done bytes xs rest before e = go (one bytes) refl e (λ x tail. records-each k (done ++ (x ∷ [])) tail xs rest)
+  each-from zero done bytes xs rest before e = let same : done ≡ xs = cc in rw same at before
+  each-from (suc k) done bytes xs rest before e =
+      let s = then-got (one bytes) (λ x tail. records one k (done ++ (x ∷ [])) tail) xs rest e in
+      each-from k (done ++ (s .value ∷ [])) (s .tail) xs rest (snoc (s .value) (judged bytes (s .value) (s .tail) (s .first))) (s .second)
     where
       snoc : (x : A) → P x → (i : ℕ) → i < length (done ++ (x ∷ [])) → P (getD (done ++ (x ∷ [])) i blank)
-      snoc x p i h = ⊎-elim (λ e. subst P (sym (ap (λ (j : ℕ). getD (done ++ (x ∷ [])) j blank) e ∙ getD-append-seam done x [] blank)) p) (λ l. rw (List·getD-append done (x ∷ []) blank i l) (before i l)) (eq-or-lt-of-le (at-most x i h))
-        where
-          at-most : (x : A) (i : ℕ) → i < length (done ++ (x ∷ [])) → i ≤ length done
-          at-most x i h = omega (arith, length-append done (x ∷ []))
+      snoc x p i h =
+          let at-most : i ≤ length done = omega (arith, length-append done (x ∷ [])) in
+          ⊎-elim
+          (λ e. subst P (sym (ap (λ (j : ℕ). getD (done ++ (x ∷ [])) j blank) e ∙ getD-append-seam done x [] blank)) p)
+          (λ l. rw (List·getD-append done (x ∷ []) blank i l) (before i l))
+          (eq-or-lt-of-le at-most)
 
-      go : (r : Parsed A) → one bytes ≡ r → then r (λ x tail. records one k (done ++ (x ∷ [])) tail) ≡ got xs rest
-          → ((x : A) (tail : List ℕ) → ((i : ℕ) → i < length (done ++ (x ∷ [])) → P (getD (done ++ (x ∷ [])) i blank)) → records one k (done ++ (x ∷ [])) tail ≡ got xs rest → (i : ℕ) → i < length xs → P (getD xs i blank))
-          → (i : ℕ) → i < length xs → P (getD xs i blank)
-      go (got x tail) q w ih = ih x tail (snoc x (judged bytes x tail q)) w
-      go (refused m) q w ih = let z : _≡_ {A = ℕ} 0 1 = cc in absurd (omega arith)
+  pub records-each : (k : ℕ) (bytes : List ℕ) (xs : List A) (rest : List ℕ) → records one k [] bytes ≡ got xs rest → (i : ℕ) → i < length xs → P (getD xs i blank)
+  records-each k bytes xs rest = each-from k [] bytes xs rest (λ i h. absurd (omega arith))

@@ -11,6 +11,7 @@ use lib.ListN.{length, getD}
 use lib.Dec.{ltb}
 use borrow.Author.Tests.{ltb-false}
 use Rattle.cursor.specs.Choice.{pick}
+use Rattle.cursor.specs.ParsedLaws.{never}
 use Rattle.arith.specs.Lcm.{lcmOf, dvd-lcm-left, dvd-lcm-right, lcm-dvd, lcm-pos}
 use Rattle.arith.specs.Residue.{quotient-pos}
 use Rattle.request.specs.Request.{Reading, readable, unreadable, reading, noTask, periodOf}
@@ -133,10 +134,10 @@ module _ (tasks : List Task) (pairs : List Pair) (kept : Readable tasks pairs) w
         due-below = job-due-below h some divides;
       }
 
--- what a cycle keeps; a refusal has a number
+-- what a cycle keeps; the number of a refusal is from 1 to 8
 abbrev pub Kept : Cycle → Type 0
 Kept (cycle tasks pairs h jobs) = WithinLimits tasks pairs h jobs
-Kept (noCycle number) = 0 < number
+Kept (noCycle number) = (1 ≤ number) × (number ≤ 8)
 
 pub cycle-kept : (bytes : List ℕ) → Kept (cycleOf bytes)
 unfolding cycleOf
@@ -145,18 +146,36 @@ cycle-kept bytes = first (reading bytes) refl
     second : (tasks : List Task) (pairs : List Pair) → Readable tasks pairs
         → (s t : Bool) → ltb 10000 (hyperperiod tasks) ≡ s → ltb 128 (length (allJobs tasks (hyperperiod tasks))) ≡ t
         → Kept (pick s (noCycle 7) (pick t (noCycle 8) (cycle tasks pairs (hyperperiod tasks) (planned tasks (hyperperiod tasks)))))
-    second tasks pairs kept true t p q = omega arith
-    second tasks pairs kept false true p q = omega arith
+    second tasks pairs kept true t p q = (omega arith, omega arith)
+    second tasks pairs kept false true p q = (omega arith, omega arith)
     second tasks pairs kept false false p q = within-limits tasks pairs kept (ltb-false _ _ p) (ltb-false _ _ q)
 
     first : (r : Reading) → reading bytes ≡ r → Kept (inCycle r)
     first (readable tasks pairs) e =
         second tasks pairs (readable-kept bytes tasks pairs e) (ltb 10000 (hyperperiod tasks)) (ltb 128 (length (allJobs tasks (hyperperiod tasks)))) refl refl
-    first (unreadable number) e = unreadable-number bytes number e
+    first (unreadable number) e = let range = unreadable-number bytes number e in omega arith
 
 pub cycle-within : (bytes : List ℕ) (tasks : List Task) (pairs : List Pair) (h : ℕ) (jobs : List Job)
     → cycleOf bytes ≡ cycle tasks pairs h jobs → WithinLimits tasks pairs h jobs
 cycle-within bytes tasks pairs h jobs e = subst Kept e (cycle-kept bytes)
 
-pub no-cycle-number : (bytes : List ℕ) (number : ℕ) → cycleOf bytes ≡ noCycle number → 0 < number
+pub no-cycle-number : (bytes : List ℕ) (number : ℕ) → cycleOf bytes ≡ noCycle number → (1 ≤ number) × (number ≤ 8)
 no-cycle-number bytes number e = subst Kept e (cycle-kept bytes)
+
+-- a cycle has the tasks and the pairs that were read
+pub cycle-reading : (bytes : List ℕ) (tasks : List Task) (pairs : List Pair) (h : ℕ) (jobs : List Job) → cycleOf bytes ≡ cycle tasks pairs h jobs → reading bytes ≡ readable tasks pairs
+unfolding cycleOf
+cycle-reading bytes tasks pairs h jobs e = first (reading bytes) e
+  where
+    second : (ts : List Task) (ps : List Pair) (s t : Bool) → pick s (noCycle 7) (pick t (noCycle 8) (cycle ts ps (hyperperiod ts) (planned ts (hyperperiod ts)))) ≡ cycle tasks pairs h jobs
+        → readable ts ps ≡ readable tasks pairs
+    second ts ps true t q = absurd (never (cc))
+    second ts ps false true q = absurd (never (cc))
+    second ts ps false false q =
+        let same-tasks : ts ≡ tasks = cc in
+        let same-pairs : ps ≡ pairs = cc in
+        rw (same-tasks, same-pairs)
+
+    first : (r : Reading) → inCycle r ≡ cycle tasks pairs h jobs → r ≡ readable tasks pairs
+    first (readable ts ps) q = second ts ps (ltb 10000 (hyperperiod ts)) (ltb 128 (length (allJobs ts (hyperperiod ts)))) q
+    first (unreadable number) q = absurd (never (cc))

@@ -1,5 +1,5 @@
 -- The laws of next-frame that crates above go by: what it answers of a table, that the entries can be read off the answer, and how its state moves.
-use Prim.Native.Nat.{ℕ, suc, _+_, _%_, _≤_, _<_}
+use Prim.Native.Nat.{ℕ, suc, _+_, _-_, _%_, _≤_, _<_}
 use mathlib.Core.Path.{_≡_, refl, sym, _∙_}
 use mathlib.Core.Bool.{Bool, true, false}
 use mathlib.Core.List.{List, [], _∷_, map}
@@ -12,6 +12,7 @@ use borrow.Author.Tests.{ltb-true, ltb-false, eqb-true, eqb-false, lt-ltb, le-lt
 use Rattle.cursor.specs.Choice.{pick}
 use Rattle.table.specs.Table.{Entry, Table, table, malformed, decode, jobByte, entryOf, rowOf}
 use Rattle.table.specs.WellFormed.{RisingFrom}
+use Rattle.table.specs.Left.{less-one, none-left}
 use Rattle.table.specs.Inverse.{entry-back, rising-few, decode-wellformed}
 use Rattle.table.specs.Answers.{padded, taskOf, rowGiven}
 use Rattle.table.specs.AnswerLaws.{padded-at, row-rises}
@@ -56,6 +57,16 @@ uncarried-rises (e ∷ es) low h = go (e .carried) (uncarried-rises es (e .task 
 pub served-rises : (first : Bool) (es : List Entry) → RisingFrom 0 es → RisingFrom 0 (served first es)
 served-rises true es h = uncarried-rises es 0 h
 served-rises false es h = h
+
+-- of n places, the entries from place i on
+module _ (tasks jobs : List ℕ) (n i : ℕ) where
+  pub entries-more : i < n → entriesAt tasks jobs (n - i) i ≡ entryOf (getD tasks i 0) (getD jobs i 0) ∷ entriesAt tasks jobs (n - (i + 1)) (i + 1)
+  unfolding entriesAt
+  entries-more h = rw (less-one n i h)
+
+  pub entries-none : n ≤ i → entriesAt tasks jobs (n - i) i ≡ []
+  unfolding entriesAt
+  entries-none h = rw (none-left n i h)
 
 -- places that hold the entries' bytes from place p on
 entries-at : (tasks jobs : List ℕ) (es : List Entry) (low p : ℕ) → RisingFrom low es

@@ -2,3 +2,4 @@ pub mod Dispatch
 pub mod FrameLaws
 pub mod ReportLaws
 pub mod StepLaws
+pub mod StateLaws

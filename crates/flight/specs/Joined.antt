@@ -1,47 +1,69 @@
--- The flight of a table that the check accepts, and of the table that the planner hands out: "accepted" is one notion for all three.
--- The check accepts exactly the tables that describe a plan, and the table of the chosen plan describes it.
-use Prim.Native.Nat.{ℕ}
-use mathlib.Core.Path.{_≡_}
-use mathlib.Core.List.{List}
-use Rattle.cycle.specs.Cycle.{cycle, cycleOf}
-use Rattle.cycle.specs.LimitLaws.{cycle-within}
-use Rattle.table.specs.Table.{Table, table, decode, encode}
-use Rattle.table.specs.Inverse.{decode-encode}
+-- The flight from what the public calls answer: of a table that the check accepts, and of the one that the planner hands out.
+-- The check accepts exactly the tables that describe a plan, and the planner hands out the table of the chosen plan, which describes it.
+use Prim.Native.Nat.{ℕ, _<_}
+use mathlib.Core.Path.{_≡_, sym, ap, subst, _∙_}
+use mathlib.Core.Logic.{⊎-elim}
+use mathlib.Core.List.{List, _++_}
+use native.Mathlib.Omega.{arith}
+use lib.ListN.{length, take, drop}
+use lib.Seq.{take-append-seam}
+use Rattle.cycle.specs.Cycle.{noCycle, cycleOf}
+use Rattle.cycle.specs.LimitLaws.{no-cycle-number}
+use Rattle.table.specs.Table.{Table, encode}
+use Rattle.cursor.specs.Front.{Bytes}
+use Rattle.table.specs.TableBytes.{SaysTable, says-decodes}
+use Rattle.table.specs.declared.Written.{Written}
 use Rattle.model.specs.Plan.{Instance}
-use Rattle.model.specs.Answers.{instance-good}
-use Rattle.model.specs.Chosen.{IsChosen}
-use Rattle.model.specs.Described.{Accepted, planTable}
-use Rattle.model.specs.PlanTable.{plan-table-describes}
-use Rattle.checker.specs.Checked.{checked, plan}
-use Rattle.checker.specs.Accepts.{accepts-described}
+use Rattle.model.specs.Within.{Within, within-or-not}
+use Rattle.model.specs.Described.{Accepted}
+use Rattle.planner.specs.Outcome.{outcome, answer, buffer}
+use Rattle.planner.specs.Handed.{HandedOut, table-handed, not-planned}
+use Rattle.checker.specs.Checked.{checkNumber}
+use Rattle.checker.specs.Exactly.{check-exact}
 use Rattle.flight.specs.Calls.{Call}
 use Rattle.flight.specs.Timing.{KeepToC}
 use Rattle.flight.specs.Flight.{frames, Flight}
 use Rattle.flight.specs.Theorem.{flight}
 
-module _ (requestBytes : List ℕ) (x : Instance) (within : cycleOf requestBytes ≡ cycle (x .tasks) (x .pairs) (x .h) (x .jobs)) where
-  module _ (tableBytes : List ℕ) (t : Table) (read : decode tableBytes ≡ table t) where
-    -- what the check accepts is accepted, with the plan that it reads
-    pub check-accepted : (f : ℕ) (ks : List ℕ) → checked (cycleOf requestBytes) (decode tableBytes) ≡ plan f ks → Accepted x t
-    check-accepted f ks e =
-        let both = accepts-described (x .tasks) (x .pairs) (x .h) (x .jobs) requestBytes tableBytes t within read f ks .0 e in
-        record { f = f; frames = ks; is-plan = both .0; describes = both .1 }
+-- the request is within the limits, the bytes have the form of a table, and for every list of calls and all actual times from 0 to C the claim
+-- about the flight holds
+pub record Flies (requestBytes tableBytes : List ℕ) : Type 0 where
+  pub x : Instance
+  pub within : Within requestBytes x
+  pub t : Table
+  pub says : SaysTable tableBytes t
+  pub flies : (calls : List Call) (actual : ℕ → ℕ → ℕ) → KeepToC x (frames tableBytes calls) actual → Flight x tableBytes t calls actual
 
-    -- and what is accepted, the check accepts
-    pub accepted-checked : (a : Accepted x t) → checked (cycleOf requestBytes) (decode tableBytes) ≡ plan (a .f) (a .frames)
-    accepted-checked a = accepts-described (x .tasks) (x .pairs) (x .h) (x .jobs) requestBytes tableBytes t within read (a .f) (a .frames) .1 (a .is-plan, a .describes)
+accepted-flies : (requestBytes tableBytes : List ℕ) (x : Instance) → Within requestBytes x → (t : Table) → SaysTable tableBytes t → Accepted x t → Flies requestBytes tableBytes
+accepted-flies requestBytes tableBytes x within t says accepted =
+    record { x = x; within = within; t = t; says = says; flies = flight requestBytes tableBytes x t within (says-decodes tableBytes t says) accepted }
 
-    -- the flight of a table that the check accepts
-    pub checked-flight : (f : ℕ) (ks : List ℕ) → checked (cycleOf requestBytes) (decode tableBytes) ≡ plan f ks
-        → (calls : List Call) (actual : ℕ → ℕ → ℕ) → KeepToC x (frames tableBytes calls) actual → Flight x tableBytes t calls actual
-    checked-flight f ks e = flight requestBytes tableBytes x t within read (check-accepted f ks e)
+-- Every table that the check accepts flies.
+pub checked-flight : (requestBytes tableBytes : List ℕ) → Bytes tableBytes → checkNumber requestBytes tableBytes ≡ 0 → Flies requestBytes tableBytes
+checked-flight requestBytes tableBytes are e =
+    let c = check-exact requestBytes tableBytes are .accepts .0 e in
+    accepted-flies requestBytes tableBytes (c .0) (c .1) (c .2) (c .3) (c .4)
 
-  -- the flight of the table that the planner hands out
-  pub planned-flight : (f : ℕ) (ks : List ℕ) → IsChosen x f ks
-      → (calls : List Call) (actual : ℕ → ℕ → ℕ) → KeepToC x (frames (encode (planTable x f ks)) calls) actual
-      → Flight x (encode (planTable x f ks)) (planTable x f ks) calls actual
-  planned-flight f ks r =
-      let w = cycle-within requestBytes (x .tasks) (x .pairs) (x .h) (x .jobs) within in
-      let describes = plan-table-describes x (instance-good (x .tasks) (x .pairs) (x .h) (x .jobs) w) f ks (r .is-plan) (w .h-few) in
-      flight requestBytes (encode (planTable x f ks)) x (planTable x f ks) within (decode-encode (planTable x f ks) (describes .form))
-      (record { f = f; frames = ks; is-plan = r .is-plan; describes = describes })
+-- The bytes that the planner hands out fly: those that it left in the buffer, as many as its answer says.
+module _ (requestBytes out : List ℕ) where
+  abbrev pub handedBytes : List ℕ
+  handedBytes = take (answer (outcome requestBytes) out .length) (buffer (outcome requestBytes) out)
+
+  module _ (x : Instance) (h : HandedOut x requestBytes out) where
+    bytes-are : encode (h .t) ≡ handedBytes
+    bytes-are =
+        rw (h .bytes-are, h .length-is, ← h .encoded-length)
+        (sym (take-append-seam (encode (h .t)) (drop (length (encode (h .t))) out)))
+
+  pub planned-flight : answer (outcome requestBytes) out .refusal ≡ 0 → Flies requestBytes handedBytes
+  planned-flight e = ⊎-elim (λ w. there (w .0) (w .1) (table-handed requestBytes out (w .0) (w .1) .chosen-one e)) (λ w. refused (w .0) (w .1)) (within-or-not requestBytes)
+    where
+      there : (x : Instance) → Within requestBytes x → HandedOut x requestBytes out → Flies requestBytes handedBytes
+      there x within h =
+          accepted-flies requestBytes handedBytes x within (h .t) (record { form = h .describes .form; bytes-are = bytes-are x h })
+          (record { f = h .f; frames = h .frames; is-plan = h .is-chosen .is-plan; describes = h .describes })
+
+      refused : (number : ℕ) → cycleOf requestBytes ≡ noCycle number → Flies requestBytes handedBytes
+      refused number q =
+          let given = ap (λ (w : Written). w .refusal) (not-planned requestBytes out number q .0) in
+          absurd (omega (arith, no-cycle-number requestBytes number q))

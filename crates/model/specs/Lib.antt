@@ -19,3 +19,4 @@ pub mod Described
 pub mod Places
 pub mod PlanTable
 pub mod LayoutPlan
+pub mod Within

@@ -4,7 +4,7 @@
 use mathlib.Core.Path.{_≡_, refl, sym, ap, subst, _∙_}
 use mathlib.Core.Bool.{Bool, true, false}
 use mathlib.Core.Logic.{inl, inr, ⊎-elim}
-use mathlib.Core.List.{List, [], _∷_, map, List·Memᴰ}
+use mathlib.Core.List.{List, [], _∷_, map, flatMap, List·Memᴰ}
 use mathlib.Core.List.List·Memᴰ.{List·Memᴰ·head, List·Memᴰ·tail}
 use Prim.Native.Nat.{ℕ, zero, suc, _+_, _*_, _-_, _%_, _≤_, _<_}
 use native.Mathlib.Nat.{mod-lt, mod-eq-of-lt, mod-eq-sub-mod, div-mul-cancel, eq-of-mul-eq-mul-right, add-zero}
@@ -14,10 +14,12 @@ use lib.Seq.{ext-getD}
 use lib.Dec.{leb}
 use borrow.Author.Tests.{leb-true, leb-false}
 use Rattle.cursor.specs.Choice.{pick}
+use Rattle.cursor.specs.Fields.{wordBytes}
 use Rattle.cycle.specs.OrderLaws.{All, all-implies, Pairwise}
-use Rattle.table.specs.Table.{Entry, Table, rowOf, wordBytes, entriesBytes, rowBytes, rowsBytes, headBytes, encode}
+use Rattle.table.specs.Table.{Entry, Table, rowOf, rowBytes, rowsBytes, headBytes, encode}
 use Rattle.table.specs.WellFormed.{RisingFrom, AllRising}
 use Rattle.table.specs.AnswerLaws.{row-rises}
+use Rattle.table.specs.WriteLaws.{entries-length}
 use Rattle.model.specs.Plan.{Instance, jobAt, rowsAt, frameAt, IsPlan}
 use Rattle.model.specs.Good.{Good, job-facts, same-place}
 use Rattle.model.specs.PlanLaws.{length-pos, rows-pos}
@@ -262,13 +264,8 @@ unfoldable pub entriesIn : List (List Entry) → ℕ
 entriesIn [] = 0
 entriesIn (es ∷ rows) = length es + entriesIn rows
 
-entries-length : (es : List Entry) → length (entriesBytes es) ≡ 2 * length es
-unfolding entriesBytes
-entries-length [] = refl
-entries-length (e ∷ es) = omega (arith, entries-length es)
-
 rows-length : (rows : List (List Entry)) → length (rowsBytes rows) ≡ length rows + 2 * entriesIn rows
-unfolding rowsBytes rowBytes entriesIn
+unfolding flatMap rowBytes entriesIn
 rows-length [] = refl
 rows-length (es ∷ rows) = omega (arith, length-append (rowBytes es) (rowsBytes rows), entries-length es, rows-length rows)
 

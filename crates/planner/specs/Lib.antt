@@ -3,4 +3,5 @@ pub mod Choices
 pub mod LengthLaws
 pub mod ChoiceLaws
 pub mod PlanLaws
+pub mod TableLaws
 pub mod Handed

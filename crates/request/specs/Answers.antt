@@ -32,20 +32,28 @@ abbrev pub pairNumber : PairRead → ℕ
 pairNumber (OnePair x next) = 0
 pairNumber (NoPair number) = number
 
-abbrev pub noTasks : ℕ → TaskSection
-noTasks number = record { refusal = number; n = 0; tasks = replicate 16 noTask; end = 0 }
+-- A section as an answer, which `answer` makes of the number of its refusal, its count, its records in 16 places and where it ends.
+abbrev pub sectionAnswer : {A R : Type 0} → (ℕ → ℕ → List A → ℕ → R) → A → ℕ → Parsed (List A) → R
+sectionAnswer answer blank width (got xs rest) = answer 0 (length xs) (padded 16 blank xs) (1 + width * length xs)
+sectionAnswer answer blank width (refused number) = answer number 0 (replicate 16 blank) 0
 
-abbrev pub noPairs : ℕ → PairSection
-noPairs number = record { refusal = number; m = 0; pairs = replicate 16 noPair; end = 0 }
+abbrev pub taskAnswer : ℕ → ℕ → List Task → ℕ → TaskSection
+taskAnswer number n tasks end = record { refusal = number; n = n; tasks = tasks; end = end }
 
--- a section's records and where it ends
 abbrev pub taskSection : Parsed (List Task) → TaskSection
-taskSection (got tasks rest) = record { refusal = 0; n = length tasks; tasks = padded 16 noTask tasks; end = 1 + 8 * length tasks }
-taskSection (refused number) = noTasks number
+taskSection r = sectionAnswer taskAnswer noTask 8 r
+
+abbrev pub pairAnswer : ℕ → ℕ → List Pair → ℕ → PairSection
+pairAnswer number m pairs end = record { refusal = number; m = m; pairs = pairs; end = end }
 
 abbrev pub pairSection : Parsed (List Pair) → PairSection
-pairSection (got pairs rest) = record { refusal = 0; m = length pairs; pairs = padded 16 noPair pairs; end = 1 + 2 * length pairs }
-pairSection (refused number) = noPairs number
+pairSection r = sectionAnswer pairAnswer noPair 2 r
+
+abbrev pub noTasks : ℕ → TaskSection
+noTasks number = taskSection (refused number)
+
+abbrev pub noPairs : ℕ → PairSection
+noPairs number = pairSection (refused number)
 
 abbrev pub unread : ℕ → Request
 unread number = record { refusal = number; n = 0; tasks = replicate 16 noTask; m = 0; pairs = replicate 16 noPair }

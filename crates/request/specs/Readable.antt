@@ -1,19 +1,39 @@
 -- What a readable request keeps: the form under 01's 'Request file', as facts. Crates above go by these.
-use Prim.Native.Nat.{ℕ, suc, _≤_, _<_}
-use mathlib.Core.Path.{_≡_, refl, sym, subst₂, _∙_}
+use Prim.Native.Nat.{ℕ, _≤_, _<_}
+use mathlib.Core.Path.{_≡_, refl, sym, ap, _∙_}
 use mathlib.Core.Bool.{true}
 use mathlib.Core.List.{List, [], _∷_}
 use native.Mathlib.Omega.{arith}
 use lib.ListN.{length, getD}
-use lib.Dec.{leb, ltb, eqb}
+use lib.Dec.{leb, ltb}
 use borrow.Author.Tests.{leb-true, ltb-true, eqb-true}
-use Rattle.cursor.specs.Choice.{both}
-use Rattle.cursor.specs.Parsed.{Parsed, got, refused, then, records}
-use Rattle.cursor.specs.ParsedLaws.{never, then-got, rule-got, same-value, both-true}
+use Rattle.cursor.specs.Parsed.{Parsed, got, refused}
+use Rattle.cursor.specs.ParsedLaws.{never, then-got, rule-got, got-same, both-true}
 use Rattle.cursor.specs.Fields.{byteOf, wordOf}
-use Rattle.cursor.specs.RecordLaws.{records-each}
-use Rattle.request.specs.Request.{noTask, noPair, periodOf, taskRule, judgedTask, taskOf, tasksOf, pairRule, judgedPair, pairOf, pairsOf, ended, afterTasks, reading, readable, unreadable}
-use Rattle.request.specs.SectionLaws.{Section, taskCount, pairCount, count-some, tasks-section, pairs-section}
+use Rattle.cursor.specs.Front.{Bytes, Front, front-then, byte-front, word-front}
+use Rattle.request.specs.Request.{
+  noTask,
+  noPair,
+  periodOf,
+  taskRule,
+  judgedTask,
+  taskOf,
+  taskCount,
+  tasksOf,
+  pairRule,
+  judgedPair,
+  pairOf,
+  pairCount,
+  pairsOf,
+  ended,
+  afterTasks,
+  reading,
+  readable,
+  unreadable,
+}
+use Rattle.request.specs.Encode.{taskBytes, pairBytes}
+use Rattle.request.specs.ReadingLaws.{TaskNumber, PairNumber}
+use Rattle.request.specs.SectionLaws.{Section, count-some, tasks-section, pairs-section, section-steps, section-each}
 use Rattle.request.specs.declared.Task.{Task}
 use Rattle.request.specs.declared.Pair.{Pair}
 
@@ -45,16 +65,30 @@ rule-kept x e =
     let three = both-true (leb (x .d) (x .t)) _ (two .1) in
     record { some = leb-true 1 (x .c) (one .0); room = leb-true (x .c) (x .d) (two .0); due = leb-true (x .d) (x .t) (three .0); phase = ltb-true (x .p) (x .t) (three .1) }
 
-task-kept : (bytes : List ℕ) (x : Task) (rest : List ℕ) → taskOf bytes ≡ got x rest → TaskKept x
-unfolding taskOf judgedTask
-task-kept bytes x rest e =
+-- a record that was read keeps its rule, and its bytes stand at the front
+pub record RecordRead {A : Type 0} (Kept : A → Type 0) (write : A → List ℕ) (bytes : List ℕ) (x : A) (rest : List ℕ) : Type 0 where
+  pub kept : Kept x
+  pub front : Bytes bytes → Front bytes (write x) rest
+
+pub task-read : (bytes : List ℕ) (x : Task) (rest : List ℕ) → taskOf bytes ≡ got x rest → RecordRead TaskKept taskBytes bytes x rest
+unfolding taskOf judgedTask taskBytes
+task-read bytes x rest e =
     let s1 = then-got (wordOf 1 bytes) _ x rest e in
     let s2 = then-got (wordOf 1 (s1 .tail)) _ x rest (s1 .second) in
     let s3 = then-got (wordOf 1 (s2 .tail)) _ x rest (s2 .second) in
     let s4 = then-got (wordOf 1 (s3 .tail)) _ x rest (s3 .second) in
     let judged : Task = record { c = s1 .value; t = s2 .value; d = s3 .value; p = s4 .value } in
     let rule = rule-got (taskRule judged) (got judged (s4 .tail)) 3 x rest (s4 .second) in
-    rule-kept x (rw (same-value judged x _ _ (rule .1)) at (rule .0))
+    got-same (RecordRead TaskKept taskBytes bytes) {x = judged} (rule .1)
+    (record {
+      kept = rule-kept judged (rule .0);
+      front = λ k.
+          let c = word-front 1 bytes (s1 .value) (s1 .tail) (s1 .first) k in
+          let t = word-front 1 (s1 .tail) (s2 .value) (s2 .tail) (s2 .first) (c .bytes-behind) in
+          let d = word-front 1 (s2 .tail) (s3 .value) (s3 .tail) (s3 .first) (t .bytes-behind) in
+          let p = word-front 1 (s3 .tail) (s4 .value) (s4 .tail) (s4 .first) (d .bytes-behind) in
+          front-then (front-then (front-then c t) d) p;
+    })
 
 pair-rule-kept : (tasks : List Task) (a b : ℕ) → pairRule tasks a b ≡ true → PairKept tasks (record { a = a; b = b })
 unfolding pairRule
@@ -63,69 +97,67 @@ pair-rule-kept tasks a b e =
     let two = both-true (ltb b (length tasks)) _ (one .1) in
     record { rises = ltb-true a b (one .0); known = ltb-true b (length tasks) (two .0); period = eqb-true (periodOf tasks a) (periodOf tasks b) (two .1) }
 
-pair-kept : (tasks : List Task) (bytes : List ℕ) (q : Pair) (rest : List ℕ) → pairOf tasks bytes ≡ got q rest → PairKept tasks q
-unfolding pairOf judgedPair
-pair-kept tasks bytes q rest e =
+pub pair-read : (tasks : List Task) (bytes : List ℕ) (q : Pair) (rest : List ℕ) → pairOf tasks bytes ≡ got q rest → RecordRead (PairKept tasks) pairBytes bytes q rest
+unfolding pairOf judgedPair pairBytes
+pair-read tasks bytes q rest e =
     let s1 = then-got (byteOf 1 bytes) _ q rest e in
     let s2 = then-got (byteOf 1 (s1 .tail)) _ q rest (s1 .second) in
     let judged : Pair = record { a = s1 .value; b = s2 .value } in
     let rule = rule-got (pairRule tasks (s1 .value) (s2 .value)) (got judged (s2 .tail)) 5 q rest (s2 .second) in
-    rw (same-value judged q _ _ (rule .1)) at (pair-rule-kept tasks (s1 .value) (s2 .value) (rule .0))
+    got-same (RecordRead (PairKept tasks) pairBytes bytes) {x = judged} (rule .1)
+    (record {
+      kept = pair-rule-kept tasks (s1 .value) (s2 .value) (rule .0);
+      front = λ k.
+          let a = byte-front 1 bytes (s1 .value) (s1 .tail) (s1 .first) k .1 in
+          front-then a (byte-front 1 (s1 .tail) (s2 .value) (s2 .tail) (s2 .first) (a .bytes-behind) .1);
+    })
 
-none-before : {A : Type 0} (P : A → Type 0) (blank : A) (i : ℕ) → i < length {A = A} [] → P (getD [] i blank)
-none-before P blank i h = absurd (omega arith)
+-- the two sections of a readable request
+pub record Sections (bytes : List ℕ) (tasks : List Task) (pairs : List Pair) : Type 0 where
+  pub behind : List ℕ
+  pub first : tasksOf bytes ≡ got tasks behind
+  pub second : pairsOf tasks behind ≡ got pairs []
 
-tasks-kept : (bytes : List ℕ) (tasks : List Task) (rest : List ℕ) → tasksOf bytes ≡ got tasks rest → (i : ℕ) → i < length tasks → TaskKept (getD tasks i noTask)
-unfolding tasksOf
-tasks-kept bytes tasks rest e =
-    let s1 = then-got (byteOf 1 bytes) _ tasks rest e in
-    let s2 = rule-got (taskCount (s1 .value)) (records taskOf (s1 .value) [] (s1 .tail)) 2 tasks rest (s1 .second) in
-    records-each taskOf noTask TaskKept task-kept (s1 .value) [] (s1 .tail) tasks rest (none-before TaskKept noTask) (s2 .1)
+module _ (bytes : List ℕ) (tasks : List Task) (pairs : List Pair) where
+  pub reading-sections : reading bytes ≡ readable tasks pairs → Sections bytes tasks pairs
+  unfolding reading
+  reading-sections e = go (tasksOf bytes) refl e
+    where
+      at-end : (ts : List Task) (r : Parsed (List Pair)) → ended ts r ≡ readable tasks pairs → (ts ≡ tasks) × (r ≡ got pairs [])
+      at-end ts (got ps []) f = let same : ps ≡ pairs = cc in (cc, rw same)
+      at-end ts (got ps (b ∷ rest)) f = absurd (never (cc))
+      at-end ts (refused number) f = absurd (never (cc))
 
-pairs-kept : (tasks : List Task) (bytes : List ℕ) (pairs : List Pair) (rest : List ℕ) → pairsOf tasks bytes ≡ got pairs rest
-    → (u : ℕ) → u < length pairs → PairKept tasks (getD pairs u noPair)
-unfolding pairsOf
-pairs-kept tasks bytes pairs rest e =
-    let s1 = then-got (byteOf 1 bytes) _ pairs rest e in
-    let s2 = rule-got (pairCount (s1 .value)) (records (pairOf tasks) (s1 .value) [] (s1 .tail)) 4 pairs rest (s1 .second) in
-    records-each (pairOf tasks) noPair (PairKept tasks) (pair-kept tasks) (s1 .value) [] (s1 .tail) pairs rest (none-before (PairKept tasks) noPair) (s2 .1)
+      go : (r : Parsed (List Task)) → tasksOf bytes ≡ r → afterTasks r ≡ readable tasks pairs → Sections bytes tasks pairs
+      go (got ts rest) q f =
+          let h = at-end ts (pairsOf ts rest) f in
+          record { behind = rest; first = q ∙ ap (λ (l : List Task). got l rest) (h .0); second = ap (λ (l : List Task). pairsOf l rest) (sym (h .0)) ∙ h .1 }
+      go (refused number) q f = absurd (never (cc))
 
--- Every readable request keeps the form.
-pub readable-kept : (bytes : List ℕ) (tasks : List Task) (pairs : List Pair) → reading bytes ≡ readable tasks pairs → Readable tasks pairs
-unfolding reading
-readable-kept bytes tasks pairs e = first (tasksOf bytes) refl (tasks-section bytes) e
-  where
-    second : (ts : List Task) (rest : List ℕ) → tasksOf bytes ≡ got ts rest → Section taskCount 8 bytes (got ts rest)
-        → (r : Parsed (List Pair)) → pairsOf ts rest ≡ r → Section pairCount 2 rest r → ended ts r ≡ readable tasks pairs → Readable tasks pairs
-    second ts rest q h (got ps []) w k f =
-        let some = count-some (length ts) (h .counted) in
-        let kept : Readable ts ps = record {
-          some-task = some .0;
-          few-tasks = some .1;
-          few-pairs = leb-true (length ps) 16 (k .counted);
-          task = tasks-kept bytes ts rest q;
-          pair = pairs-kept ts rest ps [] w;
-        } in
-        let same-tasks : ts ≡ tasks = cc in
-        let same-pairs : ps ≡ pairs = cc in
-        subst₂ Readable same-tasks same-pairs kept
-    second ts rest q h (got ps (x ∷ tail)) w k f = absurd (never (cc))
-    second ts rest q h (refused number) w k f = absurd (never (cc))
+  -- Every readable request keeps the form.
+  pub readable-kept : reading bytes ≡ readable tasks pairs → Readable tasks pairs
+  unfolding tasksOf pairsOf
+  readable-kept e =
+      let h = reading-sections e in
+      let some = count-some (length tasks) (section-steps taskCount taskOf 2 bytes tasks (h .behind) (h .first) .allowed) in
+      record {
+        some-task = some .0;
+        few-tasks = some .1;
+        few-pairs = leb-true (length pairs) 16 (section-steps pairCount (pairOf tasks) 4 (h .behind) pairs [] (h .second) .allowed);
+        task = section-each taskCount taskOf 2 bytes tasks (h .behind) noTask TaskKept (λ b x r e. task-read b x r e .kept) (h .first);
+        pair = section-each pairCount (pairOf tasks) 4 (h .behind) pairs [] noPair (PairKept tasks) (λ b q r e. pair-read tasks b q r e .kept) (h .second);
+      }
 
-    first : (r : Parsed (List Task)) → tasksOf bytes ≡ r → Section taskCount 8 bytes r → afterTasks r ≡ readable tasks pairs → Readable tasks pairs
-    first (got ts rest) q h f = second ts rest q h (pairsOf ts rest) refl (pairs-section ts rest) f
-    first (refused number) q h f = absurd (never (cc))
-
--- A refusal has a number.
-pub unreadable-number : (bytes : List ℕ) (number : ℕ) → reading bytes ≡ unreadable number → 0 < number
+-- The number of a refusal is from 1 to 6.
+pub unreadable-number : (bytes : List ℕ) (number : ℕ) → reading bytes ≡ unreadable number → (1 ≤ number) × (number ≤ 6)
 unfolding reading
 unreadable-number bytes number e = first (tasksOf bytes) (tasks-section bytes) e
   where
-    second : (ts : List Task) (rest : List ℕ) (r : Parsed (List Pair)) → Section pairCount 2 rest r → ended ts r ≡ unreadable number → 0 < number
+    second : (ts : List Task) (rest : List ℕ) (r : Parsed (List Pair)) → Section PairNumber pairCount 2 rest r → ended ts r ≡ unreadable number → (1 ≤ number) × (number ≤ 6)
     second ts rest (got ps []) k f = absurd (never (cc))
-    second ts rest (got ps (x ∷ tail)) k f = let six : 6 ≡ number = cc in omega arith
+    second ts rest (got ps (b ∷ tail)) k f = let six : 6 ≡ number = cc in omega arith
     second ts rest (refused m) k f = let same : m ≡ number = cc in omega arith
 
-    first : (r : Parsed (List Task)) → Section taskCount 8 bytes r → afterTasks r ≡ unreadable number → 0 < number
+    first : (r : Parsed (List Task)) → Section TaskNumber taskCount 8 bytes r → afterTasks r ≡ unreadable number → (1 ≤ number) × (number ≤ 6)
     first (got ts rest) h f = second ts rest (pairsOf ts rest) (pairs-section ts rest) f
     first (refused m) h f = let same : m ≡ number = cc in omega arith

@@ -1,5 +1,5 @@
 -- The request file: what its bytes say, or the number that they are refused with.
-use Prim.Native.Nat.{ℕ, suc}
+use Prim.Native.Nat.{ℕ}
 use mathlib.Core.List.{List, [], _∷_}
 use mathlib.Core.Bool.{Bool}
 use lib.ListN.{length, getD}
@@ -31,9 +31,17 @@ taskOf bytes =
     then (wordOf 1 rest) (λ d rest.
     then (wordOf 1 rest) (λ p rest. judgedTask (record { c = c; t = t; d = d; p = p }) rest))))
 
--- "task count n (one byte, 1 to 16), then n records"; 1: bytes end inside a section or before its count; 2: n is 0 or above 16
+-- "Sections stand in a fixed order, each after its count.": a count that `test` lets through, or `number`, and then as many records;
+-- 1: bytes end inside a section or before its count
+abbrev pub section : {A : Type 0} → (ℕ → Bool) → (List ℕ → Parsed A) → ℕ → List ℕ → Parsed (List A)
+section test one number bytes = then (byteOf 1 bytes) (λ n rest. pick (test n) (records one n [] rest) (refused number))
+
+-- "First: task count n (one byte, 1 to 16), then n records"; 2: n is 0 or above 16
+abbrev pub taskCount : ℕ → Bool
+taskCount n = both (leb 1 n) (leb n 16)
+
 unfoldable pub tasksOf : List ℕ → Parsed (List Task)
-tasksOf bytes = then (byteOf 1 bytes) (λ n rest. pick (both (leb 1 n) (leb n 16)) (records taskOf n [] rest) (refused 2))
+tasksOf bytes = section taskCount taskOf 2 bytes
 
 -- the period of task i
 abbrev pub periodOf : List Task → ℕ → ℕ
@@ -50,9 +58,12 @@ judgedPair tasks a b rest = pick (pairRule tasks a b) (got (record { a = a; b = 
 unfoldable pub pairOf : List Task → List ℕ → Parsed Pair
 pairOf tasks bytes = then (byteOf 1 bytes) (λ a rest. then (byteOf 1 rest) (λ b rest. judgedPair tasks a b rest))
 
--- "pair count (one byte, 0 to 16), then pairs"; 4: pair count above 16
+-- "Second: pair count (one byte, 0 to 16), then pairs"; 4: pair count above 16
+abbrev pub pairCount : ℕ → Bool
+pairCount m = leb m 16
+
 unfoldable pub pairsOf : List Task → List ℕ → Parsed (List Pair)
-pairsOf tasks bytes = then (byteOf 1 bytes) (λ m rest. pick (leb m 16) (records (pairOf tasks) m [] rest) (refused 4))
+pairsOf tasks bytes = section pairCount (pairOf tasks) 4 bytes
 
 -- what the bytes of a request say: its tasks and pairs, or the number from 1 to 6 of its refusal
 pub data Reading : Type 0 where
@@ -69,6 +80,6 @@ abbrev pub afterTasks : Parsed (List Task) → Reading
 afterTasks (got tasks rest) = ended tasks (pairsOf tasks rest)
 afterTasks (refused number) = unreadable number
 
--- "Sections stand in a fixed order, each after its count."
+-- the first section, and the second from the bytes behind it
 unfoldable pub reading : List ℕ → Reading
 reading bytes = afterTasks (tasksOf bytes)

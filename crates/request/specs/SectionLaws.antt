@@ -1,38 +1,28 @@
 -- The laws by which the readers of a section and of the whole request go: a section ends within the bytes, where its count says,
--- so the part of the bytes behind it is what the definition goes on with.
+-- so the part of the bytes behind it is what the definition goes on with. One law for the tasks and the pairs where they differ in the record alone.
 use Prim.Native.Nat.{ℕ, _+_, _-_, _*_, _≤_, _<_}
 use mathlib.Core.Path.{_≡_, refl, sym, ap, _∙_}
 use mathlib.Core.Bool.{Bool, true, false}
 use mathlib.Core.List.{List, [], _∷_}
 use native.Mathlib.Omega.{arith}
-use lib.ListN.{length, take, drop, length-drop}
+use lib.ListN.{length, getD, take, drop, length-drop}
 use lib.Seq.{drop-drop}
 use lib.Dec.{leb}
 use borrow.Author.Tests.{leb-true}
-use Rattle.cursor.specs.Choice.{pick, both}
+use Rattle.cursor.specs.Choice.{pick}
 use Rattle.cursor.specs.Parsed.{Parsed, got, refused, then, records}
-use Rattle.cursor.specs.ParsedLaws.{both-true}
-use Rattle.cursor.specs.Fields.{byteOf, wordOf, byteAt, wordAt}
-use Rattle.cursor.specs.FieldLaws.{byte-taken, word-taken}
-use Rattle.cursor.specs.Widths.{Wide, byte-wide, word-wide, then-wide, rule-wide, records-wide, records-count, record-taken, record-refused}
+use Rattle.cursor.specs.ParsedLaws.{then-got, rule-got, both-true}
+use Rattle.cursor.specs.Fields.{byteOf}
+use Rattle.cursor.specs.Widths.{Wide, byte-wide, records-wide, records-count}
+use Rattle.cursor.specs.RecordLaws.{records-each}
 use Rattle.cursor.specs.Padded.{padded, padded-length, take-padded}
-use Rattle.cursor.specs.declared.Cursor.{Cursor}
-use Rattle.cursor.specs.declared.ByteRead.the-variants.{Byte}
-use Rattle.cursor.specs.declared.WordRead.the-variants.{Word}
-use Rattle.request.specs.Request.{taskOf, judgedTask, taskRule, tasksOf, pairOf, judgedPair, pairRule, pairsOf, reading, ended, afterTasks, Reading, readable, unreadable, noTask, noPair}
-use Rattle.request.specs.Answers.{taskSection, pairSection, unread, answered}
+use Rattle.request.specs.Request.{section, taskCount, taskOf, tasksOf, pairCount, pairOf, pairsOf, reading, ended, afterTasks, readable, unreadable, noTask, noPair}
+use Rattle.request.specs.Answers.{sectionAnswer, taskAnswer, taskSection, pairAnswer, pairSection, unread, answered}
 use Rattle.request.specs.declared.Task.{Task}
-use Rattle.request.specs.declared.Pair.{Pair}
 use Rattle.request.specs.declared.Request.{Request}
 use Rattle.request.specs.declared.TaskSection.{TaskSection}
 use Rattle.request.specs.declared.PairSection.{PairSection}
-use Rattle.request.specs.declared.TaskRead.the-variants.{OneTask, NoTask}
-use Rattle.request.specs.declared.PairRead.the-variants.{OnePair, NoPair}
-use Rattle.request.specs.ReadingLaws.{pos, task-wide, pair-wide}
-
--- A section is its count and then records of one width; `test` judges the count, and `number` is its refusal.
-abbrev section : {A : Type 0} → (ℕ → Bool) → (List ℕ → Parsed A) → ℕ → List ℕ → Parsed (List A)
-section test one number bytes = then (byteOf 1 bytes) (λ n rest. pick (test n) (records one n [] rest) (refused number))
+use Rattle.request.specs.ReadingLaws.{TaskNumber, PairNumber, task-wide, pair-wide}
 
 -- a section that was read: its count was let through, and it ends within the bytes, where its count says
 pub record SectionRead {A : Type 0} (test : ℕ → Bool) (width : ℕ) (bytes : List ℕ) (xs : List A) (rest : List ℕ) : Type 0 where
@@ -40,60 +30,70 @@ pub record SectionRead {A : Type 0} (test : ℕ → Bool) (width : ℕ) (bytes :
   pub within : 1 + width * length xs ≤ length bytes
   pub behind : rest ≡ drop (1 + width * length xs) bytes
 
-abbrev pub Section : {A : Type 0} → (ℕ → Bool) → ℕ → List ℕ → Parsed (List A) → Type 0
-Section test width bytes (got xs rest) = SectionRead test width bytes xs rest
-Section test width bytes (refused number) = 0 < number
+-- a section, read or refused with one of its numbers
+abbrev pub Section : {A : Type 0} → (ℕ → Type 0) → (ℕ → Bool) → ℕ → List ℕ → Parsed (List A) → Type 0
+Section Number test width bytes (got xs rest) = SectionRead test width bytes xs rest
+Section Number test width bytes (refused number) = Number number
 
-section-read : {A : Type 0} (test : ℕ → Bool) (one : List ℕ → Parsed A) (width number : ℕ) → 0 < number
-    → ((bytes : List ℕ) → Wide width bytes (one bytes)) → (bytes : List ℕ) → Section test width bytes (section test one number bytes)
-section-read {A} test one width number positive wide bytes = go (byteOf 1 bytes) (byte-wide 1 pos bytes)
-  where
-    read : (n : ℕ) (tail : List ℕ) → (1 ≤ length bytes) × (tail ≡ drop 1 bytes) → test n ≡ true → (r : Parsed (List A)) → records one n [] tail ≡ r → Wide (width * n) tail r → Section test width bytes r
-    read n tail here q (got xs rest) e h =
-        let size : length xs ≡ n = omega (arith, records-count one n [] tail xs rest e) in
-        let left : length tail ≡ length bytes - 1 = rw (here .1, length-drop) refl in
-        record {
-          counted = rw size q;
-          within = rw size (omega (arith, h .0, here .0));
-          behind = h .1 ∙ rw (here .1, drop-drop, size);
-        }
-    read n tail here q (refused m) e h = h
+module _ {A : Type 0} (Number : ℕ → Type 0) (test : ℕ → Bool) (one : List ℕ → Parsed A) (width number : ℕ) (bytes : List ℕ) where
+  section-read : Number 1 → Number number → ((bytes : List ℕ) → Wide Number width bytes (one bytes)) → Section Number test width bytes (section test one number bytes)
+  section-read short bad wide = go (byteOf 1 bytes) (byte-wide Number 1 short bytes)
+    where
+      read : (n : ℕ) (tail : List ℕ) → (1 ≤ length bytes) × (tail ≡ drop 1 bytes) → test n ≡ true → (r : Parsed (List A)) → records one n [] tail ≡ r
+          → Wide Number (width * n) tail r → Section Number test width bytes r
+      read n tail here q (got xs rest) e h =
+          let size : length xs ≡ n = omega (arith, records-count one n [] tail xs rest e) in
+          let left : length tail ≡ length bytes - 1 = rw (here .1, length-drop) refl in
+          record {
+            counted = rw size q;
+            within = rw size (omega (arith, h .0, here .0));
+            behind = h .1 ∙ rw (here .1, drop-drop, size);
+          }
+      read n tail here q (refused m) e h = h
 
-    judged : (n : ℕ) (tail : List ℕ) → (1 ≤ length bytes) × (tail ≡ drop 1 bytes) → (t : Bool) → test n ≡ t → Section test width bytes (pick t (records one n [] tail) (refused number))
-    judged n tail here true q = read n tail here q (records one n [] tail) refl (records-wide one width wide n [] tail)
-    judged n tail here false q = positive
+      judged : (n : ℕ) (tail : List ℕ) → (1 ≤ length bytes) × (tail ≡ drop 1 bytes) → (t : Bool) → test n ≡ t
+          → Section Number test width bytes (pick t (records one n [] tail) (refused number))
+      judged n tail here true q = read n tail here q (records one n [] tail) refl (records-wide Number one width wide n [] tail)
+      judged n tail here false q = bad
 
-    go : (r : Parsed ℕ) → Wide 1 bytes r → Section test width bytes (then r (λ n tail. pick (test n) (records one n [] tail) (refused number)))
-    go (got n tail) here = judged n tail here (test n) refl
-    go (refused m) here = here
-
-abbrev pub taskCount : ℕ → Bool
-taskCount n = both (leb 1 n) (leb n 16)
-
-abbrev pub pairCount : ℕ → Bool
-pairCount m = leb m 16
+      go : (r : Parsed ℕ) → Wide Number 1 bytes r → Section Number test width bytes (then r (λ n tail. pick (test n) (records one n [] tail) (refused number)))
+      go (got n tail) here = judged n tail here (test n) refl
+      go (refused m) here = here
 
 pub count-some : (n : ℕ) → taskCount n ≡ true → (1 ≤ n) × (n ≤ 16)
 count-some n e =
     let b = both-true (leb 1 n) (leb n 16) e in
     (leb-true 1 n (b .0), leb-true n 16 (b .1))
 
-pub tasks-section : (bytes : List ℕ) → Section taskCount 8 bytes (tasksOf bytes)
+pub tasks-section : (bytes : List ℕ) → Section TaskNumber taskCount 8 bytes (tasksOf bytes)
 unfolding tasksOf
-tasks-section = section-read taskCount taskOf 8 2 (omega arith) task-wide
+tasks-section bytes = section-read TaskNumber taskCount taskOf 8 2 bytes (omega arith) (omega arith) task-wide
 
-pub pairs-section : (tasks : List Task) (bytes : List ℕ) → Section pairCount 2 bytes (pairsOf tasks bytes)
+pub pairs-section : (tasks : List Task) (bytes : List ℕ) → Section PairNumber pairCount 2 bytes (pairsOf tasks bytes)
 unfolding pairsOf
-pairs-section tasks = section-read pairCount (pairOf tasks) 2 4 (omega arith) (pair-wide tasks)
+pairs-section tasks bytes = section-read PairNumber pairCount (pairOf tasks) 2 4 bytes (omega arith) (omega arith) (pair-wide tasks)
 
--- what a section is, by the number in its answer
-pub tasks-refused : (r : Parsed (List Task)) → (taskSection r .refusal ≡ 0 → ⊥) → r ≡ refused (taskSection r .refusal)
-tasks-refused (got tasks rest) ne = absurd (ne refl)
-tasks-refused (refused number) ne = refl
+-- the steps of a section that was read: its count, which is let through, and its records
+pub record SectionSteps {A : Type 0} (test : ℕ → Bool) (one : List ℕ → Parsed A) (bytes : List ℕ) (xs : List A) (rest : List ℕ) : Type 0 where
+  pub tail : List ℕ
+  pub count : byteOf 1 bytes ≡ got (length xs) tail
+  pub allowed : test (length xs) ≡ true
+  pub listed : records one (length xs) [] tail ≡ got xs rest
 
-pub pairs-refused : (r : Parsed (List Pair)) → (pairSection r .refusal ≡ 0 → ⊥) → r ≡ refused (pairSection r .refusal)
-pairs-refused (got pairs rest) ne = absurd (ne refl)
-pairs-refused (refused number) ne = refl
+module _ {A : Type 0} (test : ℕ → Bool) (one : List ℕ → Parsed A) (number : ℕ) (bytes : List ℕ) (xs : List A) (rest : List ℕ) where
+  pub section-steps : section test one number bytes ≡ got xs rest → SectionSteps test one bytes xs rest
+  section-steps e =
+      let s = then-got (byteOf 1 bytes) (λ n rest. pick (test n) (records one n [] rest) (refused number)) xs rest e in
+      let rule = rule-got (test (s .value)) (records one (s .value) [] (s .tail)) number xs rest (s .second) in
+      let size : length xs ≡ s .value = omega (arith, records-count one (s .value) [] (s .tail) xs rest (rule .1)) in
+      record { tail = s .tail; count = rw size (s .first); allowed = rw size (rule .0); listed = rw size (rule .1) }
+
+  -- what holds of every record that is read holds of all of them
+  pub section-each : (blank : A) (P : A → Type 0) → ((bytes : List ℕ) (x : A) (rest : List ℕ) → one bytes ≡ got x rest → P x)
+      → section test one number bytes ≡ got xs rest → (i : ℕ) → i < length xs → P (getD xs i blank)
+  section-each blank P judged e =
+      let s = section-steps e in
+      records-each one blank P judged (length xs) (s .tail) xs rest (s .listed)
 
 -- a section whose answer has no refusal number
 pub record SectionOf {A : Type 0} (test : ℕ → Bool) (width : ℕ) (bytes : List ℕ) (r : Parsed (List A)) : Type 0 where
@@ -102,32 +102,24 @@ pub record SectionOf {A : Type 0} (test : ℕ → Bool) (width : ℕ) (bytes : L
   pub is : r ≡ got items rest
   pub read : SectionRead test width bytes items rest
 
-pub tasks-got : (bytes : List ℕ) → taskSection (tasksOf bytes) .refusal ≡ 0 → SectionOf taskCount 8 bytes (tasksOf bytes)
-tasks-got bytes = go (tasksOf bytes) (tasks-section bytes)
-  where
-    go : (r : Parsed (List Task)) → Section taskCount 8 bytes r → taskSection r .refusal ≡ 0 → SectionOf taskCount 8 bytes r
-    go (got tasks rest) h e = record { items = tasks; rest = rest; is = refl; read = h }
-    go (refused number) h e = absurd (omega arith)
+-- What a section is, by its answer, whose refusal number `refusal` gives; and its answer, from its parts.
+module _ {A R : Type 0} (answer : ℕ → ℕ → List A → ℕ → R) (refusal : R → ℕ) (says : (number n : ℕ) (xs : List A) (end : ℕ) → refusal (answer number n xs end) ≡ number)
+    (blank : A) (width : ℕ) where
+  section-refused : (r : Parsed (List A)) → (refusal (sectionAnswer answer blank width r) ≡ 0 → ⊥) → r ≡ refused (refusal (sectionAnswer answer blank width r))
+  section-refused (got xs rest) ne = absurd (ne (says 0 (length xs) (padded 16 blank xs) (1 + width * length xs)))
+  section-refused (refused number) ne = rw says
 
-pub pairs-got : (tasks : List Task) (bytes : List ℕ) → pairSection (pairsOf tasks bytes) .refusal ≡ 0 → SectionOf pairCount 2 bytes (pairsOf tasks bytes)
-pairs-got tasks bytes = go (pairsOf tasks bytes) (pairs-section tasks bytes)
-  where
-    go : (r : Parsed (List Pair)) → Section pairCount 2 bytes r → pairSection r .refusal ≡ 0 → SectionOf pairCount 2 bytes r
-    go (got pairs rest) h e = record { items = pairs; rest = rest; is = refl; read = h }
-    go (refused number) h e = absurd (omega arith)
+  section-got : (Number : ℕ → Type 0) → (Number 0 → ⊥) → (test : ℕ → Bool) (bytes : List ℕ) (r : Parsed (List A)) → Section Number test width bytes r
+      → refusal (sectionAnswer answer blank width r) ≡ 0 → SectionOf test width bytes r
+  section-got Number some test bytes (got xs rest) h e = record { items = xs; rest = rest; is = refl; read = h }
+  section-got Number some test bytes (refused number) h e = let none : number ≡ 0 = rw says at e in absurd (some (rw none at h))
 
--- a section's answer, from its parts
-pub tasks-answer : (n at : ℕ) (places tasks : List Task) (rest : List ℕ) → length tasks ≡ n → places ≡ padded 16 noTask tasks → at ≡ 1 + 8 * n
-    → _≡_ {A = TaskSection} (record { refusal = 0; n = n; tasks = places; end = at }) (taskSection (got tasks rest))
-tasks-answer n at places tasks rest size stored end =
-    let bytes : at ≡ 1 + 8 * length tasks = omega (arith, size) in
-    λ i. record { refusal = 0; n = sym size i; tasks = stored i; end = bytes i }
-
-pub pairs-answer : (m at : ℕ) (places pairs : List Pair) (rest : List ℕ) → length pairs ≡ m → places ≡ padded 16 noPair pairs → at ≡ 1 + 2 * m
-    → _≡_ {A = PairSection} (record { refusal = 0; m = m; pairs = places; end = at }) (pairSection (got pairs rest))
-pairs-answer m at places pairs rest size stored end =
-    let bytes : at ≡ 1 + 2 * length pairs = omega (arith, size) in
-    λ i. record { refusal = 0; m = sym size i; pairs = stored i; end = bytes i }
+module _ {A R : Type 0} (answer : ℕ → ℕ → List A → ℕ → R) (blank : A) (width : ℕ) where
+  pub section-answer : (n at : ℕ) (places xs : List A) (rest : List ℕ) → length xs ≡ n → places ≡ padded 16 blank xs → at ≡ 1 + width * n
+      → answer 0 n places at ≡ sectionAnswer answer blank width (got xs rest)
+  section-answer n at places xs rest size stored end =
+      let bytes : at ≡ 1 + width * length xs = end ∙ rw size in
+      λ i. answer 0 (sym size i) (stored i) (bytes i)
 
 -- What is known of the first section once its answer has no refusal number.
 pub record FirstSection (s : List ℕ) (a : TaskSection) : Type 0 where
@@ -159,7 +151,8 @@ section-is s a tasks rest is read answer =
 
 pub first-section : (s : List ℕ) (a : TaskSection) → a ≡ taskSection (tasksOf s) → a .refusal ≡ 0 → FirstSection s a
 first-section s a e z =
-    let h = tasks-got s (ap (λ (x : TaskSection). x .refusal) (sym e) ∙ z) in
+    let none = ap (λ (x : TaskSection). x .refusal) (sym e) ∙ z in
+    let h = section-got taskAnswer (λ x. x .refusal) (λ number n xs end. refl) noTask 8 TaskNumber (λ k. omega arith) taskCount s (tasksOf s) (tasks-section s) none in
     section-is s a (h .items) (h .rest) (h .is) (h .read) (e ∙ ap taskSection (h .is))
 
 -- the request is refused in its first section
@@ -167,7 +160,7 @@ pub refused-first : (s : List ℕ) (a : TaskSection) → a ≡ taskSection (task
 unfolding reading
 refused-first s a e ne =
     let number = ap (λ (x : TaskSection). x .refusal) e in
-    let r = tasks-refused (tasksOf s) (λ z. ne (number ∙ z)) in
+    let r = section-refused taskAnswer (λ x. x .refusal) (λ number n xs end. refl) noTask 8 (tasksOf s) (λ z. ne (number ∙ z)) in
     rw number (sym (ap (λ (x : Parsed (List Task)). answered (afterTasks x)) r))
 
 module _ (s : List ℕ) (a : TaskSection) (h : FirstSection s a) (b : PairSection) (e : b ≡ pairSection (pairsOf (take (a .n) (a .tasks)) (drop (a .end) s))) where
@@ -182,12 +175,14 @@ module _ (s : List ℕ) (a : TaskSection) (h : FirstSection s a) (b : PairSectio
   pub refused-second : (b .refusal ≡ 0 → ⊥) → unread (b .refusal) ≡ answered (reading s)
   refused-second ne =
       let number = ap (λ (x : PairSection). x .refusal) b-is in
-      let r = pairs-refused (pairsOf (h .tasks) (h .rest)) (λ z. ne (number ∙ z)) in
+      let r = section-refused pairAnswer (λ x. x .refusal) (λ number m xs end. refl) noPair 2 (pairsOf (h .tasks) (h .rest)) (λ z. ne (number ∙ z)) in
       rw number (sym (ap answered (whole ∙ ap (ended (h .tasks)) r)))
 
   module _ (z : b .refusal ≡ 0) where
     second : SectionOf pairCount 2 (h .rest) (pairsOf (h .tasks) (h .rest))
-    second = pairs-got (h .tasks) (h .rest) (ap (λ (x : PairSection). x .refusal) (sym b-is) ∙ z)
+    second =
+        section-got pairAnswer (λ x. x .refusal) (λ number m xs end. refl) noPair 2 PairNumber (λ k. omega arith) pairCount (h .rest)
+        (pairsOf (h .tasks) (h .rest)) (pairs-section (h .tasks) (h .rest)) (ap (λ (x : PairSection). x .refusal) (sym b-is) ∙ z)
 
     b-got : b ≡ pairSection (got (second .items) (second .rest))
     b-got = b-is ∙ ap pairSection (second .is)

@@ -53,7 +53,7 @@ unfolding checker.checked
 read-plan request bytes tasks pairs h jobs within f frames e = go (decode bytes) refl (rw within at e)
   where
     go : (d : Decoded) → decode bytes ≡ d → checker.checked (cycle tasks pairs h jobs) d ≡ checker.plan f frames → IsPlan (instance tasks pairs h jobs) f frames
-    go (table t) is q = accepts-described tasks pairs h jobs request bytes t within is f frames .0 e .0
+    go (table t) is q = accepts-described request bytes (instance tasks pairs h jobs) t within is f frames .0 e .0
     go malformed is q = absurd (never (cc))
 
 -- a refusal of the check has a number

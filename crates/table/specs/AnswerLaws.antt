@@ -5,9 +5,9 @@ use mathlib.Core.List.{List, [], _∷_}
 use native.Mathlib.Omega.{arith}
 use lib.ListN.{length, getD}
 use borrow.Author.Tests.{lt-ltb}
-use Rattle.table.specs.Table.{Entry, Table, table, decode, rowOf}
-use Rattle.table.specs.WellFormed.{RisingFrom, AllRising, WellFormed}
-use Rattle.table.specs.Inverse.{rising-few}
+use Rattle.table.specs.Table.{Table, table, decode, rowOf}
+use Rattle.table.specs.WellFormed.{RisingFrom, WellFormed}
+use Rattle.table.specs.Inverse.{rising-at, rising-few}
 use Rattle.table.specs.Answers.{padded, rowGiven, rowAnswer}
 
 pub padded-length : (n : ℕ) (xs : List ℕ) → length (padded n xs) ≡ n
@@ -29,14 +29,8 @@ pub row-answered : (bytes : List ℕ) (t : Table) (k : ℕ) → decode bytes ≡
 unfolding rowAnswer
 row-answered bytes t k e h = rw (e, lt-ltb k (length (t .rows)) h)
 
-rising-at : (rows : List (List Entry)) (k : ℕ) → AllRising rows → RisingFrom 0 (getD rows k [])
-unfolding AllRising RisingFrom
-rising-at [] k h = tt
-rising-at (es ∷ rows) zero h = h .0
-rising-at (es ∷ rows) (suc k) h = rising-at rows k (h .1)
-
 pub row-rises : (t : Table) (k : ℕ) → WellFormed t → RisingFrom 0 (rowOf t k)
-row-rises t k w = rising-at (t .rows) k (w .rising)
+row-rises t k w = rising-at (t .rows) (w .rising) k
 
 pub row-few : (t : Table) (k : ℕ) → WellFormed t → length (rowOf t k) ≤ 16
 row-few t k w = omega (arith, rising-few (rowOf t k) 0 (omega arith) (row-rises t k w))

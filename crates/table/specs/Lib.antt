@@ -4,9 +4,9 @@ pub mod Answers
 pub mod Layout
 pub mod Steps
 pub mod Left
-pub mod Readings
 pub mod Inverse
 pub mod ReadLaws
 pub mod AnswerLaws
 pub mod WriteLaws
 pub mod LayoutLaws
+pub mod TableBytes

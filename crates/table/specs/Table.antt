@@ -1,12 +1,12 @@
 -- A table, its bytes, and what of the one is the other: 01, "Table file".
-use Prim.Native.Nat.{ℕ, zero, suc, _+_, _*_, _/_, _%_}
-use mathlib.Core.List.{List, [], _∷_, _++_}
+use Prim.Native.Nat.{ℕ, zero, suc, _+_, _*_, _%_}
+use mathlib.Core.List.{List, [], _∷_, _++_, flatMap}
 use mathlib.Core.Bool.{Bool}
 use lib.ListN.{length, getD}
 use lib.Dec.{leb, ltb, eqb}
 use Rattle.cursor.specs.Choice.{pick, both}
 use Rattle.cursor.specs.Parsed.{Parsed, got, refused, then, records}
-use Rattle.cursor.specs.Fields.{byteOf, wordOf}
+use Rattle.cursor.specs.Fields.{byteOf, wordOf, wordBytes}
 
 pub record Entry : Type 0 where
   pub task : ℕ
@@ -83,10 +83,6 @@ ended (refused n) = malformed
 unfoldable pub decode : List ℕ → Decoded
 decode bytes = ended (then (sizesFrom bytes) rowsFrom)
 
--- "A u16 is two bytes, low byte first."
-unfoldable pub wordBytes : ℕ → List ℕ
-wordBytes w = (w % 256) ∷ (w / 256) ∷ []
-
 unfoldable pub entriesBytes : List Entry → List ℕ
 entriesBytes [] = []
 entriesBytes (e ∷ es) = e .task ∷ jobByte e ∷ entriesBytes es
@@ -94,9 +90,8 @@ entriesBytes (e ∷ es) = e .task ∷ jobByte e ∷ entriesBytes es
 unfoldable pub rowBytes : List Entry → List ℕ
 rowBytes es = length es ∷ entriesBytes es
 
-unfoldable pub rowsBytes : List (List Entry) → List ℕ
-rowsBytes [] = []
-rowsBytes (es ∷ rows) = rowBytes es ++ rowsBytes rows
+abbrev pub rowsBytes : List (List Entry) → List ℕ
+rowsBytes rows = flatMap rowBytes rows
 
 -- the sizes and F
 unfoldable pub headBytes : ℕ → ℕ → ℕ → List ℕ

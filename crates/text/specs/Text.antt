@@ -1,9 +1,17 @@
--- A buffer that is filled from the front, and a number's decimal digits.
-use Prim.Native.Nat.{ℕ, zero, suc, _+_, _/_, _%_}
+-- Text as bytes, a number's decimal digits, and a buffer that is filled from the front.
+use Prim.Native.Nat.{ℕ, zero, suc, _+_, _/_, _%_, min}
+use Prim.Native.Char.{code}
+use Prim.Native.String.{String, [] as empty, _∷_ as before}
+use mathlib.Core.Path.{_≡_}
 use mathlib.Core.Bool.{cond}
 use mathlib.Core.List.{List, [], _∷_, _++_}
 use lib.Dec.{ltb}
-use lib.ListN.{length, set}
+use lib.ListN.{length, set, take, drop}
+
+-- the bytes of a text, one for each character
+abbrev pub ascii : String → List ℕ
+ascii empty = []
+ascii (before c s) = code c ∷ ascii s
 
 -- the buffer's bytes and the place where the next one goes
 pub record Filled : Type 0 where
@@ -29,3 +37,12 @@ decimalSteps (suc k) n = cond (ltb n 10) ((48 + n) ∷ []) (decimalSteps k (n / 
 -- the decimal digits of n in ASCII, the most significant first
 unfoldable pub decimalOf : ℕ → List ℕ
 decimalOf n = decimalSteps n n
+
+-- what a buffer holds once a text was put into it from the front: as much of the text as there is room for, and behind it the old bytes
+unfoldable pub laid : List ℕ → List ℕ → List ℕ
+laid text out = take (length out) text ++ drop (length text) out
+
+-- `text` was put into the buffer `old` from the front: where it ends, and what the buffer holds. The last part follows from the others, and is stated so
+-- that the proof that Rattle makes of `&out[..end]` finds it.
+abbrev pub PutIn : List ℕ → List ℕ → ℕ → List ℕ → Type 0
+PutIn text old end new = (end ≡ min (length text) (length old)) × (new ≡ laid text old) × (end ≡ length (take end new))

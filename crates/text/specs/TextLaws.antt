@@ -1,17 +1,17 @@
--- Putting two texts one after the other, and the two laws of the decimal digits: a number below 10 is one digit, and any other has
--- the digits of its tenth and then its last one.
-use Prim.Native.Nat.{ℕ, zero, suc, _+_, _/_, _%_, _≤_, _<_}
+-- Putting two texts one after the other; what a buffer holds after a text was put into it from the front; and the two laws of the
+-- decimal digits: a number below 10 is one digit, and any other has the digits of its tenth and then its last one.
+use Prim.Native.Nat.{ℕ, zero, suc, _+_, _-_, _/_, _%_, _≤_, _<_, min}
 use mathlib.Core.Path.{_≡_, refl, sym, ap, _∙_}
-use mathlib.Core.List.{List, [], _∷_, _++_}
+use mathlib.Core.List.{List, [], _∷_, _++_, append-nil}
 use mathlib.Core.Bool.{Bool, true, false}
 use native.Mathlib.Omega.{arith}
-use native.Mathlib.Nat.{le-refl}
+use native.Mathlib.Nat.{le-refl, zero-add}
 use native.Mathlib.Numerals.{add-one}
 use borrow.Author.Tests.{lt-ltb, le-ltb, ltb-false}
 use lib.Dec.{ltb}
-use lib.ListN.{length, drop, getD, drop-of-length-le}
-use lib.Seq.{drop-cons}
-use Rattle.text.specs.Text.{Filled, filledTo, putOf, putAllOf, decimalSteps, decimalOf}
+use lib.ListN.{length, drop, getD, length-append, length-take, length-drop, drop-of-length-le}
+use lib.Seq.{drop-cons, drop-nil, take-nil, take-all, length-take-le, set-append-seam, append-snoc}
+use Rattle.text.specs.Text.{Filled, filledTo, putOf, putAllOf, laid, PutIn, decimalSteps, decimalOf}
 
 pub put-none : (x : Filled) → putAllOf x [] ≡ x
 unfolding putAllOf
@@ -69,3 +69,40 @@ put-short x n h = rw (decimal-short n h) (sym (put-one x (48 + n)))
 
 pub put-long : (x : Filled) (n : ℕ) → 10 ≤ n → putOf (putAllOf x (decimalOf (n / 10))) (48 + n % 10) ≡ putAllOf x (decimalOf n)
 put-long x n h = rw (decimal-long n h, put-append x) (sym (put-one _ _))
+
+-- a text put behind the bytes p of a buffer
+put-behind : (text p rest : List ℕ) → putAllOf (filledTo (length p) (p ++ rest)) text ≡ filledTo (length p + min (length text) (length rest)) (p ++ laid text rest)
+unfolding putAllOf putOf laid
+put-behind [] p rest =
+    let end : length p + min 0 (length rest) ≡ length p = omega arith in
+    rw (end, take-nil)
+put-behind (b ∷ text) p [] =
+    let end : length p + min (length (b ∷ text)) 0 ≡ length p + min (length text) 0 = omega arith in
+    let full : ltb (length p) (length (p ++ [])) ≡ false = le-ltb (length p) (length (p ++ [])) (omega (arith, length-append p [])) in
+    rw (full, end) (put-behind text p [] ∙ rw (drop-nil (length text)))
+put-behind (b ∷ text) p (r ∷ rest) =
+    let room : ltb (length p) (length (p ++ r ∷ rest)) ≡ true = lt-ltb (length p) (length (p ++ r ∷ rest)) (omega (arith, length-append p (r ∷ rest))) in
+    let one : length (p ++ (b ∷ [])) ≡ length p + 1 = length-append p (b ∷ []) in
+    let end : length p + 1 + min (length text) (length rest) ≡ length p + min (length (b ∷ text)) (length (r ∷ rest)) = omega arith in
+    rw (room, set-append-seam p r rest b, ← append-snoc p b rest, ← one) (put-behind text (p ++ (b ∷ [])) rest ∙ rw (one, end, append-snoc p b (laid text rest)))
+
+-- a text put into a buffer from the front
+pub put-laid : (out text : List ℕ) → putAllOf (filledTo 0 out) text ≡ filledTo (min (length text) (length out)) (laid text out)
+put-laid out text = put-behind text [] out ∙ rw (zero-add (min (length text) (length out)))
+
+-- where the buffer is long enough the text stands in it whole
+pub laid-whole : (text out : List ℕ) → length text ≤ length out → laid text out ≡ text ++ drop (length text) out
+unfolding laid
+laid-whole text out h = rw (take-all (length out) text h)
+
+pub laid-length : (text out : List ℕ) → length (laid text out) ≡ length out
+unfolding laid
+laid-length text out = simp (length-append, length-take, length-drop) (omega arith)
+
+pub put-front : (text old new : List ℕ) (end : ℕ) → filledTo end new ≡ putAllOf (filledTo 0 old) text → PutIn text old end new
+put-front text old new end e =
+    let whole = e ∙ put-laid old text in
+    let ends : end ≡ min (length text) (length old) = ap (λ (x : Filled). x .end) whole in
+    let holds : new ≡ laid text old = ap (λ (x : Filled). x .bytes) whole in
+    let long : length new ≡ length old = ap length holds ∙ laid-length text old in
+    (ends, holds, sym (length-take-le end new (omega arith)))

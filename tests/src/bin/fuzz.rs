@@ -74,11 +74,11 @@ impl Corpus {
         corpus
     }
 
-    /// Adds a new request, and its table if it has one.
-    fn learn(&mut self, rng: &mut Random) {
+    /// Adds a new request, and its table if it has one; false if its search is too long.
+    fn learn(&mut self, rng: &mut Random) -> bool {
         let request = request::write(&generate::valid_request(rng));
         if tries_within(&request, MOST_TRIES).is_none() {
-            return;
+            return false;
         }
         if let Ok(table) = planned(&request) {
             let mut disturbed = table.clone();
@@ -90,6 +90,7 @@ impl Corpus {
         if self.tables.is_empty() {
             keep(&mut self.tables, vec![2]);
         }
+        true
     }
 
     /// A request and a table that may belong together.
@@ -218,8 +219,9 @@ fn main() {
     let end = Instant::now() + Duration::from_secs(seconds);
     while Instant::now() < end {
         if rng.chance(2) {
-            corpus.learn(&mut rng);
-            tally.requests += 1;
+            let learnt = corpus.learn(&mut rng);
+            tally.requests += u64::from(learnt);
+            tally.left_out += u64::from(!learnt);
         }
         let call = some_call(&mut rng, &corpus);
         if !bounded(&call) {

@@ -1,4 +1,4 @@
-//! What the program `plan` prints.
+//! What the programs print about a table, from docs/FORMATS.md.
 
 use super::cycle::Cycle;
 use super::table::{Entry, Table};
@@ -25,4 +25,35 @@ pub fn of_table(cycle: &Cycle, table: &Table) -> String {
         text.push_str(&format!("{number} {busy}{entries}\n"));
     }
     text
+}
+
+const CYCLES_FLOWN: usize = 3;
+
+/// A row's entries in cycle q, each with the cycle of its job; there is none before cycle 0.
+fn served(row: &[Entry], q: usize) -> String {
+    row.iter()
+        .filter(|entry| q > 0 || !entry.carry)
+        .map(|entry| {
+            let cycle_of_job = if entry.carry { q - 1 } else { q };
+            format!(" {}.{}@{cycle_of_job}", entry.task, entry.job)
+        })
+        .collect()
+}
+
+/// The first three cycles of a table: a line for each frame.
+pub fn of_flight(table: &Table) -> String {
+    let mut text = String::new();
+    let mut m = 0;
+    for q in 0..CYCLES_FLOWN {
+        for row in &table.rows {
+            let start = m * table.f;
+            text.push_str(&format!("frame {m} start {start}{}\n", served(row, q)));
+            m += 1;
+        }
+    }
+    text
+}
+
+pub fn of_refusal(number: i32) -> String {
+    format!("refused {number}\n")
 }

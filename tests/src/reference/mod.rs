@@ -6,6 +6,7 @@ pub mod cycle;
 pub mod dispatch;
 pub mod listing;
 pub mod model;
+pub mod printed;
 pub mod request;
 pub mod search;
 pub mod table;
@@ -50,7 +51,7 @@ pub fn listing(bytes: &[u8]) -> String {
             let cycle = read_cycle(bytes).expect("it was planned");
             listing::of_table(&cycle, &table)
         }
-        Err(number) => format!("refused {number}\n"),
+        Err(number) => listing::of_refusal(number),
     }
 }
 

@@ -1,6 +1,10 @@
 //! What several test files share.
 #![allow(dead_code)]
 
+use std::fs;
+use std::io::{stdout, Write};
+use std::path::PathBuf;
+
 use bus_tests::bus::Bus;
 use bus_tests::reference::table::{encode, Entry, Table};
 use bus_tests::reference::Reference;
@@ -91,4 +95,33 @@ pub fn checks_as(request: &[u8], table: &[u8], answer: i32) {
     for (name, bus) in subjects() {
         assert_eq!(bus.check(request, table), answer, "{name}");
     }
+}
+
+fn examples_folder() -> PathBuf {
+    PathBuf::from(concat!(env!("CARGO_MANIFEST_DIR"), "/../examples"))
+}
+
+/// The names of the files in the folder `examples`.
+pub fn examples() -> Vec<String> {
+    fs::read_dir(examples_folder())
+        .expect("the folder can be read")
+        .map(|file| file.expect("it can be listed").file_name())
+        .map(|name| name.into_string().expect("plain names"))
+        .collect()
+}
+
+/// The bytes of a file in the folder `examples`.
+pub fn example(name: &str) -> Vec<u8> {
+    fs::read(examples_folder().join(name)).unwrap_or_else(|reason| panic!("{name}: {reason}"))
+}
+
+/// Says how many requests were compared and how many not, since their search needs more tries
+/// than `most`. It is written past the capture of `cargo test`, so that every run shows it.
+pub fn tell_left_out(what: &str, compared: u64, left_out: u64, most: u64) {
+    let line = format!(
+        "{what}: {compared} requests, {left_out} more left out as too long (above {most} tries)\n"
+    );
+    stdout()
+        .write_all(line.as_bytes())
+        .expect("a line is written");
 }

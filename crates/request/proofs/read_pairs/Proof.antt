@@ -10,9 +10,9 @@ use Rattle.cursor.specs.FieldLaws.{byte-taken, byte-missing}
 use Rattle.cursor.specs.Padded.{padded}
 use Rattle.cursor.specs.RecordLaws.{SoFar, none-read, one-read, one-refused, all-read}
 use Rattle.request.specs.Request.{noPair, pairOf, pairsOf}
-use Rattle.request.specs.Answers.{pairSection}
+use Rattle.request.specs.Answers.{pairAnswer, pairSection}
 use Rattle.request.specs.ReadingLaws.{pair-taken, pair-refused}
-use Rattle.request.specs.SectionLaws.{pairs-answer}
+use Rattle.request.specs.SectionLaws.{section-answer}
 use Rattle.request.proofs.read_pairs.Statement.{statement}
 use Rattle.request.proofs.read_pairs.Tie as tie
 
@@ -105,7 +105,7 @@ returns-4 c =
     let l = c .before .loop in
     let so-far = l .inv .3 in
     let end = c .loop-test .left in
-    pairs-answer _ (l .at) (l .pairs) (so-far .done) (drop (l .at) (c .before .before .before .before .before .before .before .before .args .s .now)) (omega (arith, so-far .count)) (so-far .stored) (omega arith)
+    section-answer pairAnswer noPair 2 _ (l .at) (l .pairs) (so-far .done) (drop (l .at) (c .before .before .before .before .before .before .before .before .args .s .now)) (omega (arith, so-far .count)) (so-far .stored) (omega arith)
     ∙ ap pairSection (sym (all-read (pairOf _) 16 noPair _ _ _ (l .i) (l .at) (l .pairs) so-far end))
 
 pub read-pairs-spec : {M : Type 1} → statement M

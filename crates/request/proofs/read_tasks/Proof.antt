@@ -10,9 +10,9 @@ use Rattle.cursor.specs.FieldLaws.{byte-taken, byte-missing}
 use Rattle.cursor.specs.Padded.{padded}
 use Rattle.cursor.specs.RecordLaws.{SoFar, none-read, one-read, one-refused, all-read}
 use Rattle.request.specs.Request.{noTask, taskOf, tasksOf}
-use Rattle.request.specs.Answers.{taskSection}
+use Rattle.request.specs.Answers.{taskAnswer, taskSection}
 use Rattle.request.specs.ReadingLaws.{task-taken, task-refused}
-use Rattle.request.specs.SectionLaws.{tasks-answer}
+use Rattle.request.specs.SectionLaws.{section-answer}
 use Rattle.request.proofs.read_tasks.Statement.{statement}
 use Rattle.request.proofs.read_tasks.Tie as tie
 
@@ -112,7 +112,7 @@ returns-5 c =
     let l = c .before .loop in
     let so-far = l .inv .3 in
     let end = c .loop-test .left in
-    tasks-answer _ (l .at) (l .tasks) (so-far .done) (drop (l .at) (c .before .before .before .before .before .before .before .before .before .args .s .now)) (omega (arith, so-far .count)) (so-far .stored) (omega arith)
+    section-answer taskAnswer noTask 8 _ (l .at) (l .tasks) (so-far .done) (drop (l .at) (c .before .before .before .before .before .before .before .before .before .args .s .now)) (omega (arith, so-far .count)) (so-far .stored) (omega arith)
     ∙ ap taskSection (sym (all-read taskOf 16 noTask _ _ _ (l .i) (l .at) (l .tasks) so-far end))
 
 pub read-tasks-spec : {M : Type 1} → statement M

@@ -1,0 +1,106 @@
+-- What planning comes to: a table of the right form with at most 256 rows and 128 entries, so of at most 519 bytes, or a number from 1 to 10. And how it
+-- stands in a buffer of 519 bytes or more, for a caller that reads it there.
+use Prim.Native.Nat.{ℕ, _≤_, _<_}
+use mathlib.Core.Path.{_≡_, refl, sym, ap, _∙_}
+use mathlib.Core.Bool.{Bool, true, false}
+use mathlib.Core.List.{List, _++_}
+use native.Mathlib.Omega.{arith}
+use lib.ListN.{length, take, drop}
+use lib.Seq.{take-append-seam}
+use lib.Dec.{ltb}
+use borrow.Author.Tests.{le-ltb, ltb-false}
+use Rattle.cursor.specs.Choice.{pick}
+use Rattle.cycle.specs.Cycle.{Cycle, cycle, noCycle, cycleOf}
+use Rattle.cycle.specs.LimitLaws.{cycle-within, no-cycle-number}
+use Rattle.table.specs.Table.{Table, encode}
+use Rattle.table.specs.WellFormed.{WellFormed}
+use Rattle.table.specs.Layout as table
+use Rattle.table.specs.declared.Written.{Written}
+use Rattle.model.specs.Plan.{Instance}
+use Rattle.model.specs.Good.{Good}
+use Rattle.model.specs.Answers.{instance, instance-good}
+use Rattle.model.specs.Chosen.{Choice, chosen, noPlan, noPlausible, choose, RightChoice}
+use Rattle.model.specs.ChosenLaws.{choose-right}
+use Rattle.model.specs.Described.{planTable}
+use Rattle.model.specs.PlanTable.{entriesIn, plan-entries, plan-table-describes, plan-table-length}
+use Rattle.planner.specs.Outcome.{Outcome, handed, refusal, byChoice, inCycle, outcome, answer, buffer}
+
+pub record GoodTable (t : Table) : Type 0 where
+  pub form : WellFormed t
+  pub few-entries : entriesIn (t .rows) ≤ 128
+  pub short : length (encode t) ≤ 519
+
+abbrev pub GoodOutcome : Outcome → Type 0
+GoodOutcome (handed t) = GoodTable t
+GoodOutcome (refusal number) = (0 < number) × (number ≤ 10)
+
+pub outcome-good : (request : List ℕ) → GoodOutcome (outcome request)
+unfolding outcome RightChoice
+outcome-good request = by-cycle (cycleOf request) refl
+  where
+    by-choice : (x : Instance) → Good x → x .h ≤ 10000 → (o : Choice) → RightChoice x o → GoodOutcome (byChoice x o)
+    by-choice x good few (chosen f frames) r =
+        let plan = r .is-plan in
+        record {
+          form = plan-table-describes x good f frames plan few .form;
+          few-entries = omega (arith, plan-entries x good f frames plan, good .few-jobs);
+          short = omega (arith, plan-table-length x good f frames plan, plan .few-rows, good .few-jobs);
+        }
+    by-choice x good few noPlan r = (omega arith, omega arith)
+    by-choice x good few noPlausible r = (omega arith, omega arith)
+
+    by-cycle : (c : Cycle) → cycleOf request ≡ c → GoodOutcome (inCycle c)
+    by-cycle (cycle tasks pairs h jobs) e =
+        let within = cycle-within request tasks pairs h jobs e in
+        let x = instance tasks pairs h jobs in
+        let good = instance-good tasks pairs h jobs within in
+        by-choice x good (within .h-few) (choose x) (choose-right x good)
+    by-cycle (noCycle number) e = let range = no-cycle-number request number e in (omega arith, omega arith)
+
+-- a table that fits is written, with the old bytes behind it
+module _ (t : Table) (out : List ℕ) (fits : length (encode t) ≤ length out) where
+  pub handed-answer : answer (handed t) out ≡ record { refusal = 0; length = length (encode t) }
+  unfolding answer table.written table.tooShort
+  handed-answer = rw (le-ltb (length out) (length (encode t)) fits)
+
+  pub handed-buffer : buffer (handed t) out ≡ encode t ++ drop (length (encode t)) out
+  unfolding buffer table.buffer table.tooShort
+  handed-buffer = rw (le-ltb (length out) (length (encode t)) fits)
+
+-- the table that was handed out stands in the first bytes of the buffer
+pub record ReadBack (o : Outcome) (size : ℕ) (bytes : List ℕ) : Type 0 where
+  pub t : Table
+  pub is : o ≡ handed t
+  pub good : GoodTable t
+  pub few : size ≤ 519
+  pub front : take size bytes ≡ encode t
+
+module _ (out : List ℕ) (room : 519 ≤ length out) (w : Written) where
+  pub read-back : (o : Outcome) → GoodOutcome o → w ≡ answer o out → w .refusal ≡ 0 → ReadBack o (w .length) (buffer o out)
+  unfolding answer
+  read-back (handed t) good e z =
+      let fits : length (encode t) ≤ length out = omega (arith, good .short) in
+      let size : w .length ≡ length (encode t) = ap (λ (x : Written). x .length) (e ∙ handed-answer t out fits) in
+      record {
+        t = t;
+        is = refl;
+        good = good;
+        few = omega (arith, good .short);
+        front = rw (size, handed-buffer t out fits) (take-append-seam (encode t) _);
+      }
+  read-back (refusal number) good e z = absurd (omega (arith, ap (λ (x : Written). x .refusal) e, good .0))
+
+  pub not-handed : (o : Outcome) → GoodOutcome o → w ≡ answer o out → (w .refusal ≡ 0 → ⊥) → o ≡ refusal (w .refusal)
+  unfolding answer
+  not-handed (handed t) good e ne = absurd (ne (ap (λ (x : Written). x .refusal) (e ∙ handed-answer t out (omega (arith, good .short)))))
+  not-handed (refusal number) good e ne = ap refusal (sym (ap (λ (x : Written). x .refusal) e))
+
+-- the answer's length is within the buffer
+pub answer-within : (o : Outcome) (out : List ℕ) → answer o out .length ≤ length out
+unfolding answer table.written table.tooShort
+answer-within (refusal number) out = omega arith
+answer-within (handed t) out = go (ltb (length out) (length (encode t))) refl
+  where
+    go : (b : Bool) → ltb (length out) (length (encode t)) ≡ b → pick {A = Written} b (record { refusal = 11; length = 0 }) (record { refusal = 0; length = length (encode t) }) .length ≤ length out
+    go true e = omega arith
+    go false e = ltb-false (length out) (length (encode t)) e

@@ -1,0 +1,44 @@
+/*
+ * Every call of include/bus.h once, on P1. This file is compiled as C99 and as C++11, with every
+ * warning an error: the header must be good in both languages, and its calls must link from both.
+ */
+#include "bus.h"
+/* A second time, as by two headers of a larger program. */
+#include "bus.h"
+
+#include <stdio.h>
+#include <string.h>
+
+static int faults;
+
+static void expect(const char *call, int32_t answer, int32_t expected)
+{
+    if (answer != expected) {
+        fprintf(stderr, "%s answered %ld for %ld\n", call, (long)answer, (long)expected);
+        faults++;
+    }
+}
+
+int main(void)
+{
+    static const uint8_t request[] = {
+        0x03, 0x05, 0x00, 0x14, 0x00, 0x14, 0x00, 0x00, 0x00, 0x05, 0x00, 0x14, 0x00,
+        0x14, 0x00, 0x00, 0x00, 0x0A, 0x00, 0x28, 0x00, 0x28, 0x00, 0x00, 0x00, 0x00,
+    };
+    uint8_t table[BUS_TABLE_BYTES], again[BUS_TABLE_BYTES];
+    uint8_t state[BUS_STATE_BYTES], entries[BUS_ENTRIES_BYTES];
+    int32_t length = bus_plan(request, sizeof request, table, sizeof table);
+    expect("bus_plan", length, 19);
+    if (faults)
+        return 1;
+    size_t used = (size_t)length;
+    expect("bus_check", bus_check(request, sizeof request, table, used), 0);
+    expect("bus_rewrite", bus_rewrite(request, sizeof request, table, used, again, used), 19);
+    expect("memcmp", memcmp(table, again, used), 0);
+    expect("bus_fresh", bus_fresh(state, sizeof state), 0);
+    expect("bus_next_frame", bus_next_frame(table, used, state, sizeof state, entries, sizeof entries), 3);
+    expect("bus_report", bus_report(request, sizeof request, 2, 11, state, sizeof state), 0);
+    expect("bus_report", bus_report(request, sizeof request, 3, 11, state, sizeof state), -16);
+    expect("bus_fresh", bus_fresh(state, sizeof state - 1), -BUS_NOT_A_STATE);
+    return faults != 0;
+}

@@ -1,0 +1,281 @@
+//! The built programs beside the second planner: every byte that they write to standard output
+//! and standard error. BUS_BIN_DIR names the folder of the programs.
+#![cfg(feature = "linked")]
+
+mod common;
+
+use std::collections::BTreeMap;
+use std::fs;
+use std::io::Write;
+use std::path::{Path, PathBuf};
+use std::process::Stdio;
+use std::thread;
+use std::time::Duration;
+
+use bus_tests::call::hex;
+use bus_tests::generate;
+use bus_tests::programs::{command, fed, given};
+use bus_tests::random::Random;
+use bus_tests::reference::printed::{by_check_table, by_fly, by_plan, by_plan_table, Printed};
+use bus_tests::reference::table::encode;
+use bus_tests::reference::{planned, request, tries_within};
+use bus_tests::rounds::MOST_TRIES;
+use bus_tests::sheet;
+use common::tell_left_out;
+
+const SEED: u64 = 51;
+const REQUESTS: u64 = 400;
+/// Every kind of output must come at least this often.
+const LEAST: u64 = 3;
+
+/// A file for the programs, with these bytes; tests that run at once use different names.
+fn file(name: &str, bytes: &[u8]) -> PathBuf {
+    let path = Path::new(env!("CARGO_TARGET_TMPDIR")).join(name);
+    fs::write(&path, bytes).unwrap_or_else(|reason| panic!("{}: {reason}", path.display()));
+    path
+}
+
+fn text(bytes: &[u8]) -> String {
+    String::from_utf8_lossy(bytes).into_owned()
+}
+
+fn same(program: &str, printed: &Printed, expected: &Printed, about: &str) {
+    assert!(
+        printed == expected,
+        "{program} wrote {:?} and {:?} for {:?} and {:?}: {about}",
+        text(&printed.out),
+        text(&printed.err),
+        text(&expected.out),
+        text(&expected.err)
+    );
+}
+
+/// How often each kind of output was seen.
+#[derive(Default)]
+struct Seen {
+    counts: BTreeMap<String, u64>,
+}
+
+impl Seen {
+    fn note(&mut self, program: &str, printed: &Printed) {
+        self.note_answer(program, printed);
+        if program == "plan" {
+            self.note_listing(printed);
+        }
+    }
+
+    fn count(&mut self, kind: String) {
+        *self.counts.entry(kind).or_default() += 1;
+    }
+
+    /// `refused N` and `accepted` are the whole of what a program writes, on either side.
+    fn note_answer(&mut self, program: &str, printed: &Printed) {
+        let written = text(&printed.out) + &text(&printed.err);
+        if written.starts_with("refused ") || written == "accepted\n" {
+            self.count(format!("{program}: {}", written.trim_end()));
+        }
+    }
+
+    /// The entries of the lines behind the first, which has the sizes.
+    fn note_listing(&mut self, listing: &Printed) {
+        for line in text(&listing.out).lines().skip(1) {
+            let entries: Vec<&str> = line.split(' ').skip(2).collect();
+            if entries.len() == 16 {
+                self.count("plan: a row with 16 entries".to_string());
+            }
+            entries.iter().for_each(|entry| self.note_entry(entry));
+        }
+    }
+
+    fn note_entry(&mut self, entry: &str) {
+        let (task, job) = entry.split_once('.').expect("task.job");
+        if job.ends_with('+') {
+            self.count("plan: a carried entry".to_string());
+        }
+        for (name, number) in [("task", task), ("job", job.trim_end_matches('+'))] {
+            if number.parse::<u32>().expect("a number") > 9 {
+                self.count(format!("plan: a {name} number above 9"));
+            }
+        }
+    }
+
+    fn judge(&self, kinds: &[String]) {
+        for kind in kinds {
+            let count = self.counts.get(kind).copied().unwrap_or(0);
+            assert!(count >= LEAST, "only {count} times {kind}");
+        }
+    }
+}
+
+/// The kinds that must be seen. No program gives 11: each lends 4,096 bytes for the table,
+/// and no table has more than 519.
+fn all_kinds() -> Vec<String> {
+    let mut kinds: Vec<String> = [
+        "plan: a row with 16 entries",
+        "plan: a task number above 9",
+        "plan: a job number above 9",
+        "plan: a carried entry",
+        "check_table: accepted",
+    ]
+    .map(String::from)
+    .to_vec();
+    for program in ["plan", "plan_table", "fly"] {
+        kinds.extend((1..=10).map(|number| format!("{program}: refused {number}")));
+    }
+    let of_check = (1..=8).chain(12..=14);
+    kinds.extend(of_check.map(|number| format!("check_table: refused {number}")));
+    kinds
+}
+
+/// What the programs write that take a request from standard input.
+fn by_planning(request: &[u8]) -> [(&'static str, Printed); 3] {
+    [
+        ("plan", by_plan(request)),
+        ("plan_table", by_plan_table(request)),
+        ("fly", by_fly(request)),
+    ]
+}
+
+fn plans_alike(input: &Path, request: &[u8]) -> [(&'static str, Printed); 3] {
+    by_planning(request).map(|(program, expected)| {
+        let printed = fed(program, input);
+        let about = format!("request [{}]", hex(request));
+        same(program, &printed, &expected, &about);
+        (program, printed)
+    })
+}
+
+fn checks_alike(files: [&Path; 2], request: &[u8], table: &[u8]) -> Printed {
+    let printed = given("check_table", &files);
+    let about = format!("request [{}] table [{}]", hex(request), hex(table));
+    let expected = by_check_table(request, table);
+    same("check_table", &printed, &expected, &about);
+    printed
+}
+
+/// One request in four is crowded; those with a long search are left out, and counted.
+fn some_request(rng: &mut Random, left_out: &mut u64) -> Vec<u8> {
+    loop {
+        let bytes = if rng.chance(25) {
+            request::write(&generate::crowded_request(rng))
+        } else {
+            generate::request_bytes(rng)
+        };
+        if tries_within(&bytes, MOST_TRIES).is_some() {
+            return bytes;
+        }
+        *left_out += 1;
+    }
+}
+
+#[test]
+fn programs_write_what_the_reference_writes() {
+    let mut rng = Random::new(SEED);
+    let mut seen = Seen::default();
+    let mut left_out = 0;
+    for _ in 0..REQUESTS {
+        let request = some_request(&mut rng, &mut left_out);
+        let input = file("seeded.req", &request);
+        for (program, printed) in plans_alike(&input, &request) {
+            seen.note(program, &printed);
+        }
+        let chosen = planned(&request).ok();
+        for table in generate::table_pool(&mut rng, &request, chosen.as_ref(), MOST_TRIES) {
+            let other = file("seeded.table", &table);
+            let printed = checks_alike([&input, &other], &request, &table);
+            seen.note("check_table", &printed);
+        }
+    }
+    for (kind, count) in &seen.counts {
+        println!("{count:6} {kind}");
+    }
+    tell_left_out("programs", REQUESTS, left_out, MOST_TRIES);
+    seen.judge(&all_kinds());
+}
+
+/// The sheet's requests, the smallest input, and inputs longer than any request or table.
+#[test]
+fn sheet_and_long_inputs() {
+    let mut long_request = sheet::p1();
+    long_request.resize(70_000, 0);
+    let table = planned(&sheet::p1()).expect("it has a table");
+    let mut long_table = encode(&table);
+    long_table.resize(70_000, 0);
+    let requests = [
+        sheet::p1(),
+        sheet::p2(),
+        sheet::p3(),
+        sheet::p5(),
+        sheet::p6(),
+        sheet::p7(),
+        sheet::p8(),
+        sheet::p9(),
+        sheet::p10(),
+        sheet::p11(),
+        sheet::p12(),
+        sheet::p12_long(),
+        sheet::request(&[(10_000, 10_000, 10_000, 0)], &[]),
+        Vec::new(),
+        long_request,
+    ];
+    for request in &requests {
+        let input = file("sheet.req", request);
+        plans_alike(&input, request);
+        for table in [&long_table, &Vec::new()] {
+            let other = file("sheet.table", table);
+            checks_alike([&input, &other], request, table);
+        }
+    }
+}
+
+/// A request that comes through a pipe in pieces is read to its end.
+#[test]
+fn a_request_in_pieces() {
+    let request = sheet::p3();
+    for (program, expected) in by_planning(&request) {
+        let mut started = command(program)
+            .stdin(Stdio::piped())
+            .stdout(Stdio::piped())
+            .stderr(Stdio::piped())
+            .spawn()
+            .unwrap_or_else(|reason| panic!("{program}: {reason}"));
+        let mut pipe = started.stdin.take().expect("it was asked for");
+        for piece in request.chunks(9) {
+            pipe.write_all(piece).expect("the program reads on");
+            thread::sleep(Duration::from_millis(20));
+        }
+        drop(pipe);
+        let done = started.wait_with_output().expect("it ends");
+        assert!(done.status.success(), "{program}: {}", done.status);
+        let printed = Printed {
+            out: done.stdout,
+            err: done.stderr,
+        };
+        same(program, &printed, &expected, "P3 in pieces");
+    }
+}
+
+/// A file that is not there is named on standard error, and nothing is said of the table.
+#[test]
+fn files_that_are_not_there() {
+    let there = file("there.req", &sheet::p1());
+    let missing = Path::new(env!("CARGO_TARGET_TMPDIR")).join("missing");
+    let reason = format!("{}: No such file or directory\n", missing.display());
+    let expected = Printed {
+        out: Vec::new(),
+        err: reason.into_bytes(),
+    };
+    for files in [[&missing, &there], [&there, &missing]] {
+        let printed = given("check_table", &files.map(PathBuf::as_path));
+        same("check_table", &printed, &expected, "a missing file");
+    }
+    for files in [vec![], vec![there.as_path()]] {
+        let printed = given("check_table", &files);
+        assert_eq!(text(&printed.out), "");
+        let usage = text(&printed.err);
+        assert!(
+            usage.starts_with("usage: check_table REQUEST TABLE"),
+            "{usage}"
+        );
+    }
+}
