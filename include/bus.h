@@ -30,7 +30,7 @@ extern "C" {
 #define BUS_TABLE_BYTES 519
 
 /* A state or entries buffer that is too short, or a state whose mark is neither 0 nor 1. */
-#define BUS_NOT_A_STATE 99
+#define BUS_BAD_BUFFER 99
 
 /*
  * Plans a request and writes the table of the chosen plan to the front of `out`. The bytes behind

@@ -1,13 +1,11 @@
-//! With the feature `linked`, link libbus.a from the directory BUS_LIB_DIR.
+//! With the feature `linked`, link libbus.a from the directory BUS_LIB_DIR, and the search in C
+//! into the program that measures.
 
 use std::env;
 use std::path::Path;
+use std::process::Command;
 
-fn main() {
-    println!("cargo:rerun-if-env-changed=BUS_LIB_DIR");
-    if env::var_os("CARGO_FEATURE_LINKED").is_none() {
-        return;
-    }
+fn link_library() {
     let dir =
         env::var("BUS_LIB_DIR").expect("set BUS_LIB_DIR to the directory that holds libbus.a");
     let archive = Path::new(&dir).join("libbus.a");
@@ -15,4 +13,26 @@ fn main() {
     println!("cargo:rerun-if-changed={}", archive.display());
     println!("cargo:rustc-link-search=native={dir}");
     println!("cargo:rustc-link-lib=static=bus");
+}
+
+fn link_search_in_c() {
+    let source = "../bench/search.c";
+    let object = Path::new(&env::var("OUT_DIR").expect("cargo sets it")).join("search.o");
+    let compiled = Command::new("gcc")
+        .args(["-std=c99", "-O2", "-Wall", "-Wextra", "-Werror"])
+        .args(["-c", source, "-o"])
+        .arg(&object)
+        .status()
+        .expect("gcc is needed");
+    assert!(compiled.success(), "{source} does not compile");
+    println!("cargo:rerun-if-changed={source}");
+    println!("cargo:rustc-link-arg-bin=bench={}", object.display());
+}
+
+fn main() {
+    println!("cargo:rerun-if-env-changed=BUS_LIB_DIR");
+    if env::var_os("CARGO_FEATURE_LINKED").is_some() {
+        link_library();
+        link_search_in_c();
+    }
 }

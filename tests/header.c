@@ -39,6 +39,6 @@ int main(void)
     expect("bus_next_frame", bus_next_frame(table, used, state, sizeof state, entries, sizeof entries), 3);
     expect("bus_report", bus_report(request, sizeof request, 2, 11, state, sizeof state), 0);
     expect("bus_report", bus_report(request, sizeof request, 3, 11, state, sizeof state), -16);
-    expect("bus_fresh", bus_fresh(state, sizeof state - 1), -BUS_NOT_A_STATE);
+    expect("bus_fresh", bus_fresh(state, sizeof state - 1), -BUS_BAD_BUFFER);
     return faults != 0;
 }

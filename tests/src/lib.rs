@@ -5,6 +5,7 @@ pub mod bus;
 pub mod call;
 pub mod clock;
 pub mod generate;
+pub mod hard;
 #[cfg(feature = "linked")]
 pub mod library;
 pub mod plain;
@@ -14,3 +15,4 @@ pub mod reference;
 pub mod rounds;
 pub mod sheet;
 pub mod simulate;
+pub mod timing;

@@ -242,8 +242,15 @@ struct Search<'a> {
     place: [u16; MOST_JOBS],
     load: [u16; MOST_ROWS],
     partners: &'a Partners,
-    tries: u64,
+    effort: Effort,
     allowed: u64,
+}
+
+/// What a search takes: tests of a job in a frame, and how many of them placed the job.
+#[derive(Clone, Copy, Default)]
+pub struct Effort {
+    pub tries: u64,
+    pub placings: u64,
 }
 
 impl Search<'_> {
@@ -272,17 +279,20 @@ impl Search<'_> {
         let mut k = self.first[i];
         while k < self.last[i] {
             if COUNT {
-                if self.tries >= self.allowed {
-                    self.tries = u64::MAX;
+                if self.effort.tries >= self.allowed {
+                    self.effort.tries = u64::MAX;
                     return true;
                 }
-                self.tries += 1;
+                self.effort.tries += 1;
             }
             let row = usize::from(k % self.rows);
             let load = self.load[row];
             if load <= self.f - cost && low <= k && k <= high {
                 self.load[row] = load + cost;
                 self.place[i] = k;
+                if COUNT {
+                    self.effort.placings += 1;
+                }
                 if self.place_job::<COUNT>(i + 1) {
                     return true;
                 }
@@ -312,7 +322,7 @@ fn search<'a>(cycle: &Cycle, partners: &'a Partners, f: u16) -> Search<'a> {
         place: [0; MOST_JOBS],
         load: [0; MOST_ROWS],
         partners,
-        tries: 0,
+        effort: Effort::default(),
         allowed: 0,
     };
     for (i, job) in cycle.jobs().iter().enumerate() {
@@ -328,10 +338,13 @@ struct Plan {
     place: [u16; MOST_JOBS],
 }
 
-/// The chosen plan, 9 or 10. When counting, `tries` begins as the tries allowed and becomes the
-/// tries made, or the largest number if more would be needed.
-fn choose<const COUNT: bool>(cycle: &Cycle, tries: &mut u64) -> Result<Plan, i32> {
-    let allowed = std::mem::take(tries);
+/// The chosen plan, 9 or 10. When counting, `effort` becomes that of all lengths, with the largest
+/// number of tries if more than `allowed` would be needed.
+fn choose<const COUNT: bool>(
+    cycle: &Cycle,
+    allowed: u64,
+    effort: &mut Effort,
+) -> Result<Plan, i32> {
     let partners = partners(cycle);
     let mut some = false;
     let mut f = cycle.h;
@@ -339,9 +352,9 @@ fn choose<const COUNT: bool>(cycle: &Cycle, tries: &mut u64) -> Result<Plan, i32
         if plausible(cycle, f) {
             some = true;
             let mut search = search(cycle, &partners, f);
-            (search.tries, search.allowed) = (*tries, allowed);
+            (search.effort, search.allowed) = (*effort, allowed);
             let found = search.place_job::<COUNT>(0);
-            *tries = search.tries;
+            *effort = search.effort;
             if found {
                 return Ok(Plan {
                     f,
@@ -398,20 +411,24 @@ fn answer(result: Result<i32, i32>) -> i32 {
 /// The length of the chosen table, or a refusal.
 pub fn plan(request: &[u8], out: &mut [u8]) -> i32 {
     let planned = cycle(request).and_then(|cycle| {
-        let plan = choose::<false>(&cycle, &mut 0)?;
+        let plan = choose::<false>(&cycle, 0, &mut Effort::default())?;
         write(&cycle, &plan, out)
     });
     answer(planned)
 }
 
+/// What planning takes, if at most `allowed` tries.
+pub fn effort_within(request: &[u8], allowed: u64) -> Option<Effort> {
+    let mut effort = Effort::default();
+    if let Ok(cycle) = cycle(request) {
+        let _ = choose::<true>(&cycle, allowed, &mut effort);
+    }
+    (effort.tries <= allowed).then_some(effort)
+}
+
 /// How many tests of a job in a frame planning makes, if at most `allowed`.
 pub fn tries_within(request: &[u8], allowed: u64) -> Option<u64> {
-    let Ok(cycle) = cycle(request) else {
-        return Some(0);
-    };
-    let mut tries = allowed;
-    let _ = choose::<true>(&cycle, &mut tries);
-    (tries <= allowed).then_some(tries)
+    effort_within(request, allowed).map(|effort| effort.tries)
 }
 
 /// A table of the right form: where each row's count stands.
@@ -521,7 +538,8 @@ fn keeps_capacity(cycle: &Cycle, table: &Table) -> bool {
     })
 }
 
-fn checked(request: &[u8], bytes: &[u8]) -> Result<i32, i32> {
+/// The cycle of the request and the plan that the table describes.
+fn checked(request: &[u8], bytes: &[u8]) -> Result<(Cycle, Plan), i32> {
     let cycle = cycle(request)?;
     let table = table(bytes).ok_or(12)?;
     if table.h != cycle.h || !plausible(&cycle, table.f) {
@@ -541,7 +559,7 @@ fn checked(request: &[u8], bytes: &[u8]) -> Result<i32, i32> {
         place[i] = k;
     }
     if keeps_capacity(&cycle, &table) && keeps_order(&cycle, &place) {
-        Ok(0)
+        Ok((cycle, Plan { f: table.f, place }))
     } else {
         Err(14)
     }
@@ -549,7 +567,13 @@ fn checked(request: &[u8], bytes: &[u8]) -> Result<i32, i32> {
 
 /// 0 if the table describes a plan of the request, or a refusal.
 pub fn check(request: &[u8], table: &[u8]) -> i32 {
-    answer(checked(request, table))
+    answer(checked(request, table).map(|_| 0))
+}
+
+/// The length of the table written again, or a refusal.
+pub fn rewrite(request: &[u8], table: &[u8], out: &mut [u8]) -> i32 {
+    let written = checked(request, table).and_then(|(cycle, plan)| write(&cycle, &plan, out));
+    answer(written)
 }
 
 fn served(bytes: &[u8], state: &mut [u8], entries: &mut [u8]) -> Result<i32, i32> {

@@ -1,6 +1,6 @@
 -- The least common multiple, from the gcd: a multiple of both, a divisor of every common multiple, and so the least.
-use mathlib.Core.Path.{_≡_, refl, sym, ap, _∙_}
-use Prim.Native.Nat.{ℕ, zero, _+_, _*_, _/_, _≤_, _<_, _∣_}
+use mathlib.Core.Path.{_≡_, ap}
+use Prim.Native.Nat.{ℕ, _+_, _*_, _/_, _≤_, _<_, _∣_}
 use native.Mathlib.Nat.{
   dvd-add,
   dvd-add-iff-left,
@@ -48,7 +48,10 @@ pub lcm-dvd : (a b m : ℕ) → 0 < a → a ∣ m → b ∣ m → lcmOf a b ∣ 
 lcm-dvd a b m pos p q =
     let g = gcdOf a b in
     let (u, v, u', v', e) = bezout a b in
-    let sums : (x y : ℕ) → a * b ∣ x * (a * m) + y * (b * m) = λ x y. dvd-add (a * b) (dvd-mul-left-of-dvd (a * b) (mul-dvd-mul-left b a q) x) (dvd-mul-left-of-dvd (a * b) (rw (mul-comm a b) (mul-dvd-mul-left a b p)) y) in
+    let by-a : a * b ∣ a * m = mul-dvd-mul-left b a q in
+    let by-b : a * b ∣ b * m = rw (mul-comm a b) (mul-dvd-mul-left a b p) in
+    let sums : (x y : ℕ) → a * b ∣ x * (a * m) + y * (b * m) =
+    λ x y. dvd-add (a * b) (dvd-mul-left-of-dvd (a * b) by-a x) (dvd-mul-left-of-dvd (a * b) by-b y) in
     let scaled : u * (a * m) + v * (b * m) ≡ m * g + (u' * (a * m) + v' * (b * m)) = omega (arith, ap (λ n. m * n) e) in
     dvd-of-mul-dvd-mul-right (lcmOf a b) (gcd-pos a b pos)
     (rw (lcm-gcd a b) (dvd-add-iff-left (a * b) (sums u' v') .1 (rw scaled at (sums u v))))

@@ -30,7 +30,8 @@ residue-reached (suc n) T P ρ below agrees =
     let g = gcdOf (suc n) T in
     let (w, x, y, e) = gcd-reached (suc n) T (omega arith) in
     let m = ρ / g + P / g * n in
-    let leads : P + m * w * T + m * x * suc n ≡ ρ + (m * y + P / g * g) * suc n = omega (arith, ap (λ z. m * z) e, div-add-mod' ρ g, div-add-mod' P g) in
+    let leads : P + m * w * T + m * x * suc n ≡ ρ + (m * y + P / g * g) * suc n =
+    omega (arith, ap (λ z. m * z) e, div-add-mod' ρ g, div-add-mod' P g) in
     (m * w, congruent (suc n) _ ρ _ _ leads ∙ mod-eq-of-lt below)
 
 -- The residue law.
@@ -39,5 +40,6 @@ pub residues-reached : (H f T P ρ : ℕ) → 0 < H → f ∣ H → T ∣ H → 
 residues-reached H f T P ρ pos fh th below agrees =
     let N = H / T in
     let (j, e) = residue-reached f T P ρ below agrees in
-    let cut : P + j % N * T + j / N * (H / f) * f ≡ P + j * T + 0 * f = omega (arith, ap (λ z. z * T) (div-add-mod' j N), ap (λ z. j / N * z) (periods-frames H f T fh th)) in
+    let cut : P + j % N * T + j / N * (H / f) * f ≡ P + j * T + 0 * f =
+    omega (arith, ap (λ z. z * T) (div-add-mod' j N), ap (λ z. j / N * z) (periods-frames H f T fh th)) in
     (j % N, mod-lt j (quotient-pos H T pos th), congruent f _ _ _ 0 cut ∙ e)

@@ -1,5 +1,6 @@
-// Greatest common divisor and least common multiple.
+// Greatest common divisor, least common multiple, and the smaller of two.
 ghost use mathlib.Core.Path.{_≡_};
+ghost use Prim.Native.Nat.{min};
 ghost use Rattle.arith.specs.Gcd.{gcdOf};
 ghost use Rattle.arith.specs.Lcm.{lcmOf};
 
@@ -19,4 +20,11 @@ pub fn lcm(a: u16, b: u16) -> u32
     }
     let parts = a / g;
     (parts as u32) * (b as u32)
+}
+
+// The smaller of the two.
+pub fn at_most(n: usize, limit: usize) -> usize
+    ensures { λ r. ⌜ r ≡ min n limit ⌝ }
+{
+    if n < limit { n } else { limit }
 }

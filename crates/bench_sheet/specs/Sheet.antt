@@ -35,32 +35,36 @@ use Rattle.table.specs.Table.{
 use Rattle.table.specs.Answers as table
 use Rattle.search.specs.Search.{orElse, when, firstOf, search}
 use Rattle.search.specs.Placing.{row-sum, all-kept, fits, plan}
-use Rattle.model.specs.Window.{firstFrame}
+use Rattle.model.specs.Window.{firstFrom}
 use Rattle.model.specs.Plan.{Instance, slot, costOf, costs, IsPlan}
 use Rattle.model.specs.Plausible.{frameRule, frameRules, plausible}
-use Rattle.model.specs.Links.{isJob, placeFrom, placeBefore, linkIf, linkBy, linksBy, linksOfJob, linksFrom, allLinks, inPlaces, linkCounts, linkPlaces}
+use Rattle.model.specs.Named.{isJob}
+use Rattle.model.specs.Links.{placeFrom, placeBefore, linkIf, linkBy, linksBy, linksOfJob, linksFrom, allLinks, inPlaces, linkCounts, linkPlaces}
 use Rattle.model.specs.Chosen.{firstFrameOf, endFrameOf, problemAt, isTried, foundOr, chooseFrom, choose}
 use Rattle.model.specs.Described.{rowFor, entryFor, placesOf, placesFrom, placesByTask, placesIn, planRows, planTable}
-use Rattle.planner.specs.Outcome.{Outcome, handed, refusal, outcome}
+use Rattle.planned_table.specs.Outcome.{Outcome, handed, refusal}
+use Rattle.planner.specs.Outcome.{outcome}
+use Rattle.rules.specs.Every as every
+use Rattle.rules.specs.Rules as rules
 use Rattle.checker.specs.Checked as checker
 use Rattle.dispatcher.specs.declared.State.{State}
 use Rattle.dispatcher.specs.declared.Frame.{Frame}
-use Rattle.dispatcher.specs.Dispatch.{freshState, uncarried, moved, nextFrame, entriesAt, entriesOf}
+use Rattle.dispatcher.specs.Dispatch.{freshState, uncarried, moved, nextFrame, entriesOf}
 
 -- Requests and tables, as 01 writes them.
 
 -- "Tasks as (C,T,D,P)."
-abbrev task : ℕ → ℕ → ℕ → ℕ → Task
+abbrev pub task : ℕ → ℕ → ℕ → ℕ → Task
 task c t d p = record { c = c; t = t; d = d; p = p }
 
-abbrev pair : ℕ → ℕ → Pair
+abbrev pub pair : ℕ → ℕ → Pair
 pair a b = record { a = a; b = b }
 
 -- an entry as task.job, and one with carry
-abbrev _·_ : ℕ → ℕ → Entry
+abbrev pub _·_ : ℕ → ℕ → Entry
 _·_ i j = record { task = i; number = j; carried = false }
 
-abbrev carried : ℕ → ℕ → Entry
+abbrev pub carried : ℕ → ℕ → Entry
 carried i j = record { task = i; number = j; carried = true }
 
 -- a line of the sheet: a request, and what planning it comes to
@@ -73,20 +77,20 @@ pub record Line : Type 0 where
 abbrev pub bytesOf : Line → List ℕ
 bytesOf p = requestBytes (p .tasks) (p .pairs)
 
-abbrev line : List Task → List Pair → Outcome → Line
+abbrev pub line : List Task → List Pair → Outcome → Line
 line tasks pairs o = record { tasks = tasks; pairs = pairs; comes-to = o }
 
 -- a table with f, H and these rows
-abbrev tabled : ℕ → ℕ → List (List Entry) → Outcome
+abbrev pub tabled : ℕ → ℕ → List (List Entry) → Outcome
 tabled f h rows = handed (record { f = f; h = h; rows = rows })
 
-abbrev P1-table : Table
+abbrev pub P1-table : Table
 P1-table = record { f = 20; h = 40; rows = (_·_ 0 0 ∷ _·_ 1 0 ∷ _·_ 2 0 ∷ []) ∷ (_·_ 0 1 ∷ _·_ 1 1 ∷ []) ∷ [] }
 
-abbrev P1 : Line
+abbrev pub P1 : Line
 P1 = line (task 5 20 20 0 ∷ task 5 20 20 0 ∷ task 10 40 40 0 ∷ []) [] (handed P1-table)
 
-abbrev P2 : Line
+abbrev pub P2 : Line
 P2 = line (task 2 6 6 0 ∷ task 2 8 8 0 ∷ task 8 24 24 0 ∷ []) [] (refusal 9)
 
 abbrev P3 : Line
@@ -102,10 +106,10 @@ P6 =
     line (task 14 60 40 10 ∷ task 15 60 45 15 ∷ task 5 20 20 0 ∷ []) []
     (tabled 20 60 ((_·_ 2 0 ∷ []) ∷ (_·_ 0 0 ∷ _·_ 2 1 ∷ []) ∷ (_·_ 1 0 ∷ _·_ 2 2 ∷ []) ∷ []))
 
-abbrev P7-table : Table
+abbrev pub P7-table : Table
 P7-table = record { f = 5; h = 10; rows = (carried 0 0 ∷ []) ∷ [] ∷ [] }
 
-abbrev P7 : Line
+abbrev pub P7 : Line
 P7 = line (task 2 10 9 6 ∷ []) [] (handed P7-table)
 
 abbrev P8 : Line
@@ -132,7 +136,7 @@ abbrev pub sheet : List Line
 sheet = P1 ∷ P2 ∷ P3 ∷ P5 ∷ P6 ∷ P7 ∷ P8 ∷ P9 ∷ P10 ∷ P11 ∷ P12 ∷ P12-longer ∷ []
 
 -- P1's request and table, as 01 prints them
-abbrev P1-printed : List ℕ
+abbrev pub P1-printed : List ℕ
 P1-printed =
     0x03 ∷
     0x05 ∷ 0x00 ∷ 0x14 ∷ 0x00 ∷ 0x14 ∷ 0x00 ∷ 0x00 ∷ 0x00 ∷
@@ -180,17 +184,17 @@ pub record SheetHolds : Type 0 where
 pub sheet-holds : SheetHolds
 unfolding outcome cycleOf reading tasksOf taskOf judgedTask taskRule pairsOf pairOf judgedPair pairRule records byteOf wordOf
     requestBytes sectionBytes taskBytes pairBytes wordBytes flatMap
-    choose chooseFrom isTried foundOr problemAt firstFrameOf endFrameOf firstFrame costs costOf slot plausible frameRules frameRule
+    choose chooseFrom isTried foundOr problemAt firstFrameOf endFrameOf firstFrom costs costOf slot plausible frameRules frameRule
     linkCounts linkPlaces inPlaces allLinks linksFrom linksOfJob linksBy linkBy linkIf placeBefore placeFrom isJob padded
     plan search firstOf when orElse fits all-kept row-sum
     planned inOrder insert before allJobs jobsOf jobsFrom jobOf jobsIn hyperperiod lcmWith lcmOf gcdOf gcdSteps
     planTable planRows placesIn placesByTask placesFrom placesOf entryFor rowFor
     encode headBytes rowBytes entriesBytes jobByte decode rowsFrom heightFits sizesFrom rowFrom entriesFrom entryFrom entryOf
-    checker.checked checker.judged checker.planOf checker.rulesRight checker.orderRight checker.capacityRight checker.windowsRight checker.entriesRight
-    checker.capacityKept checker.rowsKept checker.rowKept checker.entryKept checker.pairKept checker.oneKept checker.otherKept checker.windowKept
-    checker.isThere checker.inWindow checker.isPlaced checker.framesIn checker.frameIn checker.frameFor checker.placeIn checker.placeInRow checker.isJob
-    checker.someFrom checker.allFrom
-    nextFrame moved uncarried entriesAt table.rowGiven table.padded
+    checker.checked checker.judged checker.planOf rules.rulesRight rules.heightRight rules.orderRight rules.capacityRight rules.windowsRight checker.entriesRight
+    rules.capacityKept checker.rowsKept checker.rowKept checker.entryKept rules.pairKept rules.oneKept rules.otherKept rules.windowKept
+    checker.isThere rules.inWindow checker.isPlaced checker.framesIn checker.frameIn checker.frameFor checker.placeIn checker.placeInRow
+    every.someFrom every.allFrom
+    nextFrame moved uncarried table.entriesAt table.rowGiven
 sheet-holds = record {
   planned-as = refl;
   P1-request-bytes = refl;

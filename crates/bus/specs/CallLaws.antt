@@ -1,40 +1,26 @@
 -- Each way out of a call, as its definition has it; and that the lengths and numbers of entries are small.
-use Prim.Native.Nat.{ℕ, _+_, _*_, _≤_, _<_}
-use mathlib.Core.Path.{_≡_, refl, sym, ap, _∙_}
+use Prim.Native.Nat.{ℕ, _≤_, _<_}
+use mathlib.Core.Path.{_≡_, ap, _∙_}
 use mathlib.Core.Bool.{Bool, true, false}
 use mathlib.Core.List.{List, _++_}
 use native.Mathlib.Omega.{arith}
 use lib.IntN.{ℤ, pos}
 use lib.ListN.{length, drop}
-use lib.Dec.{ltb}
 use borrow.Author.Tests.{lt-ltb, le-ltb}
-use Rattle.cursor.specs.Choice.{pick, both}
-use Rattle.request.specs.Request.{reading}
-use Rattle.cycle.specs.Cycle.{Cycle, cycle, noCycle, cycleOf}
-use Rattle.cycle.specs.LimitLaws.{cycle-within}
-use Rattle.table.specs.Table.{Table, Decoded, table, malformed, decode, encode, rowOf}
+use Rattle.cursor.specs.Choice.{pick}
+use Rattle.table.specs.Table.{Table, encode}
 use Rattle.table.specs.Layout as layout
-use Rattle.table.specs.Inverse.{rising-few, decode-wellformed}
-use Rattle.table.specs.Answers.{rowGiven}
-use Rattle.table.specs.AnswerLaws.{row-rises}
 use Rattle.table.specs.declared.Written.{Written}
-use Rattle.model.specs.Plan.{Instance}
-use Rattle.model.specs.Good.{Good}
-use Rattle.model.specs.Answers.{instance, instance-good}
-use Rattle.model.specs.Chosen.{Choice, chosen, noPlan, noPlausible, choose, RightChoice}
-use Rattle.model.specs.ChosenLaws.{choose-right}
-use Rattle.model.specs.Described.{planTable}
-use Rattle.model.specs.PlanTable.{plan-table-length}
-use Rattle.planner.specs.Outcome.{Outcome, handed, refusal, outcome, inCycle, byChoice, answer}
+use Rattle.planned_table.specs.Outcome.{Outcome, handed, refusal, answer}
+use Rattle.planner.specs.Outcome.{outcome}
+use Rattle.planner.specs.TableLaws.{GoodOutcome, outcome-good}
 use Rattle.checker.specs.Checked.{checkNumber}
-use Rattle.dispatcher.specs.Dispatch.{served, moved, noFrame, shown, nextFrame, freshState, reported}
-use Rattle.dispatcher.specs.FrameLaws.{served-rises}
-use Rattle.dispatcher.specs.declared.State.{State}
+use Rattle.dispatcher.specs.Dispatch.{freshState}
 use Rattle.dispatcher.specs.declared.Frame.{Frame}
 use Rattle.dispatcher.specs.declared.Reported.{Reported}
-use Rattle.bus.specs.Reply.{refused, reply, after}
+use Rattle.bus.specs.Reply.{refused, reply}
 use Rattle.bus.specs.ReplyLaws.{reply-refused, reply-value, after-refusal, after-value}
-use Rattle.bus.specs.State.{isState, stateOf, stateBytes, pairBytes, zeros}
+use Rattle.bus.specs.State.{isState, stateBytes, zeros}
 use Rattle.bus.specs.Calls.{planReply, checkReply, freshReply, freshBytes, frameOf, canServe, frameReply, frameState, shownBytes, frameEntries, reportOf, reportReply, reportState}
 
 -- bus_plan
@@ -47,23 +33,13 @@ written-few t out h = go (layout.tooShort t out)
     go true = omega arith
     go false = h
 
--- 7 + F + 2·(number of jobs), of at most 256 rows and 128 jobs
 pub plan-few : (request out : List ℕ) → answer (outcome request) out .length < 65536
-unfolding answer outcome RightChoice
-plan-few request out = by-cycle (cycleOf request) refl
+unfolding answer
+plan-few request out = go (outcome request) (outcome-good request)
   where
-    by-choice : (x : Instance) → Good x → (o : Choice) → RightChoice x o → answer (byChoice x o) out .length < 65536
-    by-choice x good (chosen f frames) r =
-        written-few (planTable x f frames) out
-        (omega (arith, plan-table-length x good f frames (r .is-plan), r .is-plan .few-rows, good .few-jobs))
-    by-choice x good noPlan r = omega arith
-    by-choice x good noPlausible r = omega arith
-
-    by-cycle : (c : Cycle) → cycleOf request ≡ c → answer (inCycle c) out .length < 65536
-    by-cycle (cycle tasks pairs h jobs) e =
-        let good = instance-good tasks pairs h jobs (cycle-within request tasks pairs h jobs e) in
-        by-choice (instance tasks pairs h jobs) good (choose (instance tasks pairs h jobs)) (choose-right (instance tasks pairs h jobs) good)
-    by-cycle (noCycle number) e = omega arith
+    go : (o : Outcome) → GoodOutcome o → answer o out .length < 65536
+    go (handed t) good = written-few t out (omega (arith, good .short))
+    go (refusal number) good = omega arith
 
 module _ (request out : List ℕ) (w : Written) (e : w ≡ answer (outcome request) out) where
   pub plan-refused : (w .refusal ≡ 0 → ⊥) → refused (w .refusal) ≡ planReply request out
@@ -98,35 +74,19 @@ module _ (state : List ℕ) where
 
 -- bus_next_frame
 
--- at most 16 entries
-pub frame-few : (bytes : List ℕ) (s : State) → nextFrame (decode bytes) s .count < 65536
-unfolding nextFrame rowGiven
-frame-few bytes s = go (decode bytes) refl
-  where
-    below : (t : Table) → decode bytes ≡ table t → (b : Bool) → pick b (shown (served (s .first) (rowOf t (s .row))) (moved (length (t .rows)) s)) (noFrame 15 s) .count < 65536
-    below t is true =
-        let es = served (s .first) (rowOf t (s .row)) in
-        let rises = served-rises (s .first) (rowOf t (s .row)) (row-rises t (s .row) (decode-wellformed bytes t is)) in
-        omega (arith, rising-few es 0 (omega arith) rises)
-    below t is false = omega arith
-
-    go : (d : Decoded) → decode bytes ≡ d → nextFrame d s .count < 65536
-    go (table t) is = below t is (ltb (s .row) (length (t .rows)))
-    go malformed is = omega arith
-
 module _ (bytes state entries : List ℕ) where
-  abbrev pub Answered : ℤ → List ℕ → List ℕ → Type 0
-  Answered z state′ entries′ = (z ≡ frameReply bytes state entries) × (state′ ≡ frameState bytes state entries) × (entries′ ≡ frameEntries bytes state entries)
+  abbrev pub FrameAnswered : ℤ → List ℕ → List ℕ → Type 0
+  FrameAnswered z state′ entries′ = (z ≡ frameReply bytes state entries) × (state′ ≡ frameState bytes state entries) × (entries′ ≡ frameEntries bytes state entries)
 
-  not-served : canServe state entries ≡ false → Answered (refused 99) state entries
+  not-served : canServe state entries ≡ false → FrameAnswered (refused 99) state entries
   unfolding frameReply frameState frameEntries
   not-served e = (rw e, rw e, rw e)
 
-  pub no-state : isState state ≡ false → Answered (refused 99) state entries
+  pub no-state : isState state ≡ false → FrameAnswered (refused 99) state entries
   unfolding canServe
   no-state e = not-served (rw e)
 
-  pub no-room : isState state ≡ true → length entries < 32 → Answered (refused 99) state entries
+  pub no-room : isState state ≡ true → length entries < 32 → FrameAnswered (refused 99) state entries
   unfolding canServe
   no-room e h = not-served (rw (e, lt-ltb (length entries) 32 h))
 
@@ -135,7 +95,7 @@ module _ (bytes state entries : List ℕ) where
     unfolding canServe
     can = rw (is, le-ltb (length entries) 32 room)
 
-    pub frame-refused : (frame .refusal ≡ 0 → ⊥) → Answered (refused (frame .refusal)) state entries
+    pub frame-refused : (frame .refusal ≡ 0 → ⊥) → FrameAnswered (refused (frame .refusal)) state entries
     unfolding frameReply frameState frameEntries
     frame-refused h = rw (can, ← e) (
       reply-refused (frame .refusal) (frame .count) h,
@@ -143,7 +103,7 @@ module _ (bytes state entries : List ℕ) where
       after-refusal (frame .refusal) (shownBytes frame entries) entries h,
     )
 
-    pub frame-made : frame .refusal ≡ 0 → Answered (pos (frame .count)) (stateBytes (frame .state) state) (shownBytes frame entries)
+    pub frame-made : frame .refusal ≡ 0 → FrameAnswered (pos (frame .count)) (stateBytes (frame .state) state) (shownBytes frame entries)
     unfolding frameReply frameState frameEntries
     frame-made h = rw (can, ← e) (
       reply-value (frame .refusal) (frame .count) h,

@@ -7,10 +7,10 @@ use lib.ListN.{length, drop}
 use lib.Dec.{ltb}
 use Rattle.cursor.specs.Choice.{pick, both}
 use Rattle.request.specs.Request.{reading}
-use Rattle.cycle.specs.Cycle.{cycleOf}
 use Rattle.table.specs.Table.{decode}
 use Rattle.checker.specs.Checked.{checkNumber}
-use Rattle.planner.specs.Outcome.{outcome, answer, buffer}
+use Rattle.planned_table.specs.Outcome.{answer, buffer}
+use Rattle.planner.specs.Outcome.{outcome}
 use Rattle.dispatcher.specs.Dispatch.{freshState, nextFrame, reported}
 use Rattle.dispatcher.specs.declared.Frame.{Frame}
 use Rattle.dispatcher.specs.declared.Reported.{Reported}

@@ -1,8 +1,8 @@
 -- Numbers in C's int32_t: what is small enough is kept, with its sign.
 use Prim.Native.Nat.{ℕ, zero, suc, _^_, _<_}
-use mathlib.Core.Path.{_≡_, refl, sym, ap, _∙_}
+use mathlib.Core.Path.{_≡_, ap, _∙_}
 use native.Mathlib.Omega.{arith}
-use lib.IntN.{ℤ, pos, negℤ, _-ℤ_, +ℤ-idl}
+use lib.IntN.{ℤ, pos, _-ℤ_, +ℤ-idl}
 use borrow.Author.Tests.{eq-eqb, ne-eqb}
 use lib.Signed.{mag}
 use mir.Syntax.{w32}

@@ -1,21 +1,23 @@
 -- bus_rewrite: what it answers and leaves in the buffer, its two ways out, and that the length is small.
-use Prim.Native.Nat.{ℕ, _+_, _*_, _≤_, _<_}
-use mathlib.Core.Path.{_≡_, refl, sym, ap, _∙_}
+use Prim.Native.Nat.{ℕ, _<_}
+use mathlib.Core.Path.{_≡_, refl, ap, _∙_}
 use mathlib.Core.List.{List}
 use native.Mathlib.Omega.{arith}
 use lib.IntN.{ℤ, pos}
 use lib.ListN.{length}
-use Rattle.cycle.specs.Cycle.{Cycle, cycle, noCycle, cycleOf}
-use Rattle.cycle.specs.LimitLaws.{cycle-within}
+use Rattle.cycle.specs.Cycle.{cycleOf}
 use Rattle.table.specs.Table.{decode}
 use Rattle.table.specs.declared.Written.{Written}
-use Rattle.model.specs.Answers.{instance, instance-good}
+use Rattle.model.specs.Plan.{Instance, IsPlan}
+use Rattle.model.specs.Good.{Good}
+use Rattle.model.specs.Within.{within-good}
 use Rattle.model.specs.Described.{planTable}
 use Rattle.model.specs.PlanTable.{plan-table-length}
-use Rattle.planner.specs.Outcome.{answer, buffer}
+use Rattle.planned_table.specs.Outcome.{Outcome, handed, answer, buffer}
 use Rattle.checker.specs.Checked as checker
-use Rattle.rewriter.specs.Rewritten.{planRead, rewritten}
-use Rattle.rewriter.specs.RewriteLaws.{read-plan}
+use Rattle.checker.specs.Verdicts.{plan-read}
+use Rattle.rewriter.specs.Rewritten.{rewritten}
+use Rattle.rewriter.specs.RewriteLaws.{rewritten-plan, rewritten-refused}
 use Rattle.bus.specs.Reply.{refused, reply}
 use Rattle.bus.specs.ReplyLaws.{reply-refused, reply-value}
 use Rattle.bus.specs.CallLaws.{written-few}
@@ -27,18 +29,17 @@ unfoldable pub rewriteBuffer : List ℕ → List ℕ → List ℕ → List ℕ
 rewriteBuffer request table out = buffer (rewritten request table) out
 
 pub rewrite-few : (request bytes out : List ℕ) → answer (rewritten request bytes) out .length < 65536
-unfolding answer rewritten
-rewrite-few request bytes out = go (cycleOf request) refl (checker.checked (cycleOf request) (decode bytes)) refl
+unfolding answer
+rewrite-few request bytes out = go (checker.checked (cycleOf request) (decode bytes)) refl
   where
-    go : (c : Cycle) → cycleOf request ≡ c → (v : checker.Verdict) → checker.checked (cycleOf request) (decode bytes) ≡ v → answer (planRead c v) out .length < 65536
-    go (cycle tasks pairs h jobs) within (checker.plan f frames) is =
-        let plan = read-plan request bytes tasks pairs h jobs within f frames is in
-        let good = instance-good tasks pairs h jobs (cycle-within request tasks pairs h jobs within) in
-        written-few (planTable (instance tasks pairs h jobs) f frames) out
-        (omega (arith, plan-table-length (instance tasks pairs h jobs) good f frames plan, plan .few-rows, good .few-jobs))
-    go (cycle tasks pairs h jobs) within (checker.refusal n) is = omega arith
-    go (noCycle k) within (checker.plan f frames) is = omega arith
-    go (noCycle k) within (checker.refusal n) is = omega arith
+    plan-few : (f : ℕ) (frames : List ℕ) (o : Outcome) (x : Instance) → Good x → IsPlan x f frames → o ≡ handed (planTable x f frames) → answer o out .length < 65536
+    plan-few f frames o x good plan e = rw e (written-few (planTable x f frames) out (omega (arith, plan-table-length x good f frames plan, plan .few-rows, good .few-jobs)))
+
+    go : (v : checker.Verdict) → checker.checked (cycleOf request) (decode bytes) ≡ v → answer (rewritten request bytes) out .length < 65536
+    go (checker.plan f frames) is =
+        let p = plan-read request bytes f frames is in
+        plan-few f frames (rewritten request bytes) (p .x) (within-good request (p .x) (p .within)) (p .is-plan) (rewritten-plan request bytes f frames is)
+    go (checker.refusal n) is = rw (rewritten-refused request bytes n is) (omega arith)
 
 module _ (request bytes out : List ℕ) (w : Written) (e : w ≡ answer (rewritten request bytes) out) where
   pub rewrite-refused : (w .refusal ≡ 0 → ⊥) → refused (w .refusal) ≡ rewriteReply request bytes out

@@ -1,18 +1,18 @@
 -- The lent bytes: when 64 are there, and what stores one behind the other come to.
-use Prim.Native.Nat.{ℕ, zero, suc, _+_, _-_, _%_, _/_, _≤_, _<_}
-use mathlib.Core.Path.{_≡_, refl, sym, ap, _∙_}
+use Prim.Native.Nat.{ℕ, _+_, _-_, _%_, _/_, _≤_, _<_}
+use mathlib.Core.Path.{_≡_, refl, ap}
 use mathlib.Core.Bool.{Bool, true, false, false≢true}
 use mathlib.Core.List.{List, [], _∷_, _++_}
 use native.Mathlib.Omega.{arith}
 use lib.ListN.{length, getD, set, drop, length-replicate}
 use lib.Seq.{sets-eq}
 use lib.Dec.{ltb}
-use borrow.Author.Tests.{ltb-true, ltb-false, lt-ltb, le-ltb}
+use borrow.Author.Tests.{ltb-false, lt-ltb, le-ltb}
 use mir.Val.{boolByte}
 use Rattle.cursor.specs.Choice.{pick}
 use Rattle.cursor.specs.Fields.{wordBytes}
+use Rattle.cursor.specs.Pieces.{PartWay, part-start, part-more, part-end, two-stored}
 use Rattle.table.specs.Left.{less-one, none-left}
-use Rattle.table.specs.WriteLaws.{PartWay, part-start, part-more, part-end, two-stored}
 use Rattle.dispatcher.specs.declared.State.{State}
 use Rattle.bus.specs.State.{isState, markByte, stateBytes, pairBytes, zeros}
 
@@ -59,7 +59,7 @@ module _ (old : List ℕ) where
         part-more (zeros 64) old out (zeros (64 - i)) i so (0 ∷ []) (zeros (64 - (i + 1))) (set out i 0) left (sets-eq (0 ∷ []) out i (omega (arith, cleared-room h)))
 
     pub cleared-end : 64 ≤ i → out ≡ zeros 64 ++ drop 64 old
-    cleared-end h = part-end (zeros 64) old out (zeros (64 - i)) i so [] (zeros 64) old refl refl (rw (none-left 64 i h)) .whole
+    cleared-end h = part-end (zeros 64) old out (zeros (64 - i)) i so (rw (none-left 64 i h)) .whole
 
 -- 16 pairs: i are stored
 
@@ -83,4 +83,4 @@ module _ (tasks jobs old : List ℕ) where
 
     pub pairs-end : 16 ≤ i → out ≡ pairBytes tasks jobs 16 0 ++ drop 32 old
     unfolding pairBytes
-    pairs-end h = part-end (pairBytes tasks jobs 16 0) old out (pairBytes tasks jobs (16 - i) i) at so [] (pairBytes tasks jobs 16 0) old refl refl (rw (none-left 16 i h)) .whole
+    pairs-end h = part-end (pairBytes tasks jobs 16 0) old out (pairBytes tasks jobs (16 - i) i) at so (rw (none-left 16 i h)) .whole

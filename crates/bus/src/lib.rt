@@ -142,7 +142,9 @@ fn write_pairs(entries: &mut [u8], tasks: [u8; 16], jobs: [u8; 16])
 // The entries to serve in the next frame, and the state after it: their number, or 99, 12 or 15 negated and nothing changed.
 #[no_mangle]
 pub extern "C" fn bus_next_frame(table: &[u8], state: &mut [u8], entries: &mut [u8]) -> i32
-    ensures { λ r. ⌜ (r ≡ frameReply (now (table .entry)) (now (state .entry)) (now (entries .entry))) × (now (state .exit) ≡ frameState (now (table .entry)) (now (state .entry)) (now (entries .entry))) × (now (entries .exit) ≡ frameEntries (now (table .entry)) (now (state .entry)) (now (entries .entry))) ⌝ }
+    ensures { λ r. ⌜ (r ≡ frameReply (now (table .entry)) (now (state .entry)) (now (entries .entry)))
+        × (now (state .exit) ≡ frameState (now (table .entry)) (now (state .entry)) (now (entries .entry)))
+        × (now (entries .exit) ≡ frameEntries (now (table .entry)) (now (state .entry)) (now (entries .entry))) ⌝ }
 {
     if !is_state(state) {
         return refusal(99);

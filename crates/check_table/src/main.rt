@@ -30,9 +30,9 @@ fn print(refusal: u8) {
         io::write_all(STDOUT_FILENO, b"accepted\n");
         return;
     }
-    io::write_all(STDOUT_FILENO, b"refused ");
-    io::print_decimal(STDOUT_FILENO, refusal as u64);
-    io::write_all(STDOUT_FILENO, b"\n");
+    let mut line = io::buffer();
+    let end = listing::refused(refusal, &mut line);
+    io::write_all(STDOUT_FILENO, &line[..end]);
 }
 
 fn main() {
@@ -44,7 +44,7 @@ fn main() {
     let FileRead::FileBytes(m) = read_file(2, &mut table) else {
         return;
     };
-    let request_end = model::at_most(n, 4096);
-    let table_end = model::at_most(m, 65536);
+    let request_end = arith::at_most(n, 4096);
+    let table_end = arith::at_most(m, 65536);
     print(checker::check(&request[..request_end], &table[..table_end]));
 }

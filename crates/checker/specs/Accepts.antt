@@ -20,21 +20,25 @@ use Rattle.cycle.specs.declared.Job.{Job}
 use Rattle.table.specs.Table.{Entry, Table, table, decode, rowOf}
 use Rattle.table.specs.WellFormed.{WellFormed}
 use Rattle.table.specs.Inverse.{decode-wellformed}
-use Rattle.search.specs.Placing.{row-sum}
-use Rattle.model.specs.Plan.{Instance, jobAt, pairAt, rowsAt, frameAt, costs, PairsKept, IsPlan}
+use Rattle.model.specs.Plan.{Instance, jobAt, rowsAt, frameAt, IsPlan}
+use Rattle.model.specs.Named.{isJob, Named, job-says, says-job}
 use Rattle.model.specs.Plausible.{plausible}
 use Rattle.model.specs.Good.{Good, same-place}
 use Rattle.model.specs.Within.{Within, within-good}
-use Rattle.model.specs.PlanLaws.{map-at}
+use Rattle.cursor.specs.Padded.{map-at}
 use Rattle.model.specs.PlausibleLaws.{IsPlausible, plausible-says, plausible-needed}
 use Rattle.model.specs.RowLaws.{frame-small}
 use Rattle.model.specs.Described.{Among, rowFor, entryFor, StandsIn, Describes}
 use Rattle.model.specs.PlanTable.{described-height}
-use Rattle.checker.specs.Checked.{every, isJob, placeIn, frameFor, isFound, frameAtPlace, frameIn, framesIn, isPlaced, isThere, inWindow, windowKept, otherKept, oneKept, pairKept, entryKept, rowsKept, capacityKept, entriesRight, windowsRight, capacityRight, orderRight, rulesRight, Verdict, plan, refusal, planOf, judged, checked}
-use Rattle.checker.specs.EveryLaws.{every-says, says-every, some-says, says-some}
-use Rattle.checker.specs.PlaceLaws.{IsJob, job-says, says-job, entryWith, RightIn, place-right, rows-say, say-rows}
-use Rattle.checker.specs.declared.Place.{Place}
-use Rattle.checker.specs.declared.Place.the-variants.{At, Nowhere}
+use Rattle.rules.specs.Every.{every}
+use Rattle.rules.specs.EveryLaws.{every-says, says-every, some-says, says-some}
+use Rattle.rules.specs.Rules.{rulesRight}
+use Rattle.rules.specs.RulesSay.{rules-say, say-rules}
+use Rattle.checker.specs.Checked.{placeIn, frameFor, isFound, frameAtPlace, frameIn, framesIn, isPlaced, isThere}
+use Rattle.checker.specs.Checked.{entryKept, rowsKept, entriesRight, Verdict, plan, refusal, planOf, judged, checked}
+use Rattle.checker.specs.PlaceLaws.{entryWith, RightIn, place-right, rows-say, say-rows}
+use Rattle.checker.specs.declared.walk.Place.{Place}
+use Rattle.checker.specs.declared.walk.Place.the-variants.{At, Nowhere}
 
 -- a frame below 2F, its row and its carry
 module _ (rows : ℕ) where
@@ -66,66 +70,15 @@ module _ (rows : ℕ) where
 -- the rules of a plan, and their tests
 
 module _ (jobs : List Job) (frames : List ℕ) (y : ℕ) where
-  there-says : (task number k : ℕ) → isThere jobs frames task number k y ≡ true → IsJob task number (getD jobs y noJob) × (frameAt frames y ≡ k)
+  there-says : (task number k : ℕ) → isThere jobs frames task number k y ≡ true → Named task number (getD jobs y noJob) × (frameAt frames y ≡ k)
   unfolding isThere
   there-says task number k e =
       let b = both-true (isJob task number (getD jobs y noJob)) (eqb (frameAt frames y) k) e in
       (job-says task number (getD jobs y noJob) (b .0), eqb-true (frameAt frames y) k (b .1))
 
-  says-there : (task number k : ℕ) → IsJob task number (getD jobs y noJob) → frameAt frames y ≡ k → isThere jobs frames task number k y ≡ true
+  says-there : (task number k : ℕ) → Named task number (getD jobs y noJob) → frameAt frames y ≡ k → isThere jobs frames task number k y ≡ true
   unfolding isThere
   says-there task number k v e = rw (says-job task number (getD jobs y noJob) v, eq-eqb (frameAt frames y) k e)
-
-module _ (x : Instance) (frames : List ℕ) where
-  windows-say : (f : ℕ) → windowsRight x f frames ≡ true → (y : ℕ) → y < length (x .jobs) → (jobAt x y .release ≤ frameAt frames y * f) × ((frameAt frames y + 1) * f ≤ jobAt x y .due)
-  unfolding windowsRight windowKept inWindow
-  windows-say f e y h =
-      let b = both-true (leb (jobAt x y .release) (frameAt frames y * f)) _ (every-says (windowKept (x .jobs) frames f) (length (x .jobs)) e y h) in
-      (leb-true (jobAt x y .release) (frameAt frames y * f) (b .0), leb-true ((frameAt frames y + 1) * f) (jobAt x y .due) (b .1))
-
-  say-windows : (f : ℕ) → ((y : ℕ) → y < length (x .jobs) → (jobAt x y .release ≤ frameAt frames y * f) × ((frameAt frames y + 1) * f ≤ jobAt x y .due)) → windowsRight x f frames ≡ true
-  unfolding windowsRight windowKept inWindow
-  say-windows f h =
-      says-every (windowKept (x .jobs) frames f) (length (x .jobs))
-      (λ y high. rw (le-leb _ _ (h y high .0), le-leb _ _ (h y high .1)))
-
-  capacity-says : (rows f : ℕ) → capacityRight x rows f frames ≡ true → (r : ℕ) → r < rows → row-sum rows (costs (x .tasks) (x .jobs)) frames r ≤ f
-  unfolding capacityRight capacityKept
-  capacity-says rows f e r h = leb-true _ f (every-says (capacityKept rows (costs (x .tasks) (x .jobs)) frames f) rows e r h)
-
-  says-capacity : (rows f : ℕ) → ((r : ℕ) → r < rows → row-sum rows (costs (x .tasks) (x .jobs)) frames r ≤ f) → capacityRight x rows f frames ≡ true
-  unfolding capacityRight capacityKept
-  says-capacity rows f h = says-every (capacityKept rows (costs (x .tasks) (x .jobs)) frames f) rows (λ r high. le-leb _ f (h r high))
-
-  order-says : orderRight x frames ≡ true → PairsKept x frames
-  unfolding orderRight pairKept oneKept otherKept
-  order-says e u hu y z hy hz ty tz num =
-      let n = length (x .jobs) in
-      let pair = every-says (pairKept (x .jobs) frames n (x .pairs)) (length (x .pairs)) e u hu in
-      let one = every-says (oneKept (x .jobs) frames n (pairAt x u .a) (pairAt x u .b)) n pair y hy in
-      let others = rw (eq-eqb (jobAt x y .task) (pairAt x u .a) ty) at one in
-      let other = every-says (otherKept (x .jobs) frames (pairAt x u .b) (jobAt x y .number) (frameAt frames y)) n others z hz in
-      leb-true (frameAt frames y) (frameAt frames z) (rw (says-job (pairAt x u .b) (jobAt x y .number) (jobAt x z) (record { task-is = tz; number-is = sym num })) at other)
-
-  says-order : PairsKept x frames → orderRight x frames ≡ true
-  unfolding orderRight pairKept oneKept otherKept
-  says-order kept =
-      says-every (pairKept (x .jobs) frames (length (x .jobs)) (x .pairs)) (length (x .pairs))
-      (λ u hu. says-every (oneKept (x .jobs) frames (length (x .jobs)) (pairAt x u .a) (pairAt x u .b)) (length (x .jobs)) (λ y hy. one u hu y hy (eqb (jobAt x y .task) (pairAt x u .a)) refl))
-    where
-      other : (u : ℕ) → u < length (x .pairs) → (y : ℕ) → y < length (x .jobs) → jobAt x y .task ≡ pairAt x u .a → (z : ℕ) → z < length (x .jobs)
-          → (b : Bool) → isJob (pairAt x u .b) (jobAt x y .number) (jobAt x z) ≡ b → pick b (leb (frameAt frames y) (frameAt frames z)) true ≡ true
-      other u hu y hy ty z hz true q =
-          let v = job-says (pairAt x u .b) (jobAt x y .number) (jobAt x z) q in
-          le-leb _ _ (kept u hu y z hy hz ty (v .task-is) (sym (v .number-is)))
-      other u hu y hy ty z hz false q = refl
-
-      one : (u : ℕ) → u < length (x .pairs) → (y : ℕ) → y < length (x .jobs) → (b : Bool) → eqb (jobAt x y .task) (pairAt x u .a) ≡ b
-          → pick b (every (length (x .jobs)) (otherKept (x .jobs) frames (pairAt x u .b) (jobAt x y .number) (frameAt frames y))) true ≡ true
-      one u hu y hy true q =
-          says-every (otherKept (x .jobs) frames (pairAt x u .b) (jobAt x y .number) (frameAt frames y)) (length (x .jobs))
-          (λ z hz. other u hu y hy (eqb-true (jobAt x y .task) (pairAt x u .a) q) z hz (isJob (pairAt x u .b) (jobAt x y .number) (jobAt x z)) refl)
-      one u hu y hy false q = refl
 
 -- what was picked, if it is a plan
 picked : (b : Bool) (v : Verdict) (number f : ℕ) (frames : List ℕ) → pick b v (refusal number) ≡ plan f frames → (b ≡ true) × (v ≡ plan f frames)
@@ -144,7 +97,7 @@ module _ (x : Instance) (t : Table) (form : WellFormed t) (same-h : t .h ≡ x .
 
   frame-read : (y : ℕ) → y < length (x .jobs) → frameAt frames y ≡ frameIn (t .rows) (jobAt x y)
   unfolding framesIn
-  frame-read y h = map-at (frameIn (t .rows)) (x .jobs) y h
+  frame-read y h = map-at (frameIn (t .rows)) 0 noJob (x .jobs) y h
 
   -- the entry of a job that the rows give a frame
   record Placed (y : ℕ) : Type 0 where
@@ -176,38 +129,46 @@ module _ (x : Instance) (t : Table) (form : WellFormed t) (same-h : t .h ≡ x .
         only = λ r h a m. only r h a (rows-say (x .jobs) frames (length (x .jobs)) (length (t .rows)) 0 (t .rows) (tests .1) r h a m);
       }
     where
-      tests : (every (length (x .jobs)) (isPlaced (t .rows) (x .jobs)) ≡ true) × (rowsKept (x .jobs) frames (length (x .jobs)) (length (t .rows)) 0 (t .rows) ≡ true)
-      tests = both-true (every (length (x .jobs)) (isPlaced (t .rows) (x .jobs))) (rowsKept (x .jobs) frames (length (x .jobs)) (length (t .rows)) 0 (t .rows)) e
+      tests : (every (length (x .jobs)) (isPlaced (t .rows) (x .jobs)) ≡ true)
+          × (rowsKept (x .jobs) frames (length (x .jobs)) (length (t .rows)) 0 (t .rows) ≡ true)
+      tests = both-true (every (length (x .jobs)) (isPlaced (t .rows) (x .jobs))) _ e
 
       each : (y : ℕ) → Placed y → Among (entryFor x (t .f) frames y) (rowOf t (rowFor x (t .f) frames y))
       each y p =
-          rw (← height, p .frame, frame-row (length (t .rows)) (p .row) (p .carried) (p .below), frame-carried (length (t .rows)) (p .row) (p .carried) (p .below)) (p .there)
+          let row-is = frame-row (length (t .rows)) (p .row) (p .carried) (p .below) in
+          let carry-is = frame-carried (length (t .rows)) (p .row) (p .carried) (p .below) in
+          rw (← height, p .frame, row-is, carry-is) (p .there)
 
-      only : (r : ℕ) → r < length (t .rows) → (a : Entry) → entryKept (x .jobs) frames (length (x .jobs)) (length (t .rows)) (0 + r) a ≡ true → (y : ℕ) × StandsIn x (t .f) frames r a y
+      only : (r : ℕ) → r < length (t .rows) → (a : Entry) → entryKept (x .jobs) frames (length (x .jobs)) (length (t .rows)) (0 + r) a ≡ true
+          → (y : ℕ) × StandsIn x (t .f) frames r a y
       only r h a q =
           let same : 0 + r ≡ r = omega arith in
-          let (y, within, there) = some-says (isThere (x .jobs) frames (a .task) (a .number) (frameFor (length (t .rows)) r (a .carried))) (length (x .jobs)) (rw same at q) in
-          let (job, frame) = there-says (x .jobs) frames y (a .task) (a .number) (frameFor (length (t .rows)) r (a .carried)) there in
+          let k : ℕ = frameFor (length (t .rows)) r (a .carried) in
+          let (y, within, there) = some-says (isThere (x .jobs) frames (a .task) (a .number) k) (length (x .jobs)) (rw same at q) in
+          let (job, frame) = there-says (x .jobs) frames y (a .task) (a .number) k there in
           let row-is : frameAt frames y % rowsAt x (t .f) ≡ r = rw (← height, frame) (frame-row (length (t .rows)) r (a .carried) h) in
-          let carry-is : leb (rowsAt x (t .f)) (frameAt frames y) ≡ a .carried = rw (← height, frame) (frame-carried (length (t .rows)) r (a .carried) h) in
-          (y, record { within = within; in-row = row-is; is-entry = λ i. record { task = sym (job .task-is) i; number = sym (job .number-is) i; carried = sym carry-is i } })
+          let carry-is : leb (rowsAt x (t .f)) (frameAt frames y) ≡ a .carried
+          = rw (← height, frame) (frame-carried (length (t .rows)) r (a .carried) h) in
+          let entry-is : a ≡ entryFor x (t .f) frames y
+          = λ i. record { task = sym (job .task-is) i; number = sym (job .number-is) i; carried = sym carry-is i } in
+          (y, record { within = within; in-row = row-is; is-entry = entry-is })
 
   is-plan : rulesRight x (length (t .rows)) (t .f) frames ≡ true → IsPlan x (t .f) frames
-  unfolding rulesRight framesIn
+  unfolding framesIn
   is-plan e =
-      let b = both-true (windowsRight x (t .f) frames) _ e in
-      let c = both-true (capacityRight x (length (t .rows)) (t .f) frames) (orderRight x frames) (b .1) in
+      let k = rules-say x (length (t .rows)) (t .f) frames e in
       record {
         divides = can .divides;
         few-rows = can .few-rows;
         all = length-map (x .jobs) (frameIn (t .rows));
-        not-early = λ y h. windows-say x frames (t .f) (b .0) y h .0;
-        not-late = λ y h. windows-say x frames (t .f) (b .0) y h .1;
-        capacity = rw (← height) (capacity-says x frames (length (t .rows)) (t .f) (c .0));
-        order = order-says x frames (c .1);
+        not-early = λ y h. k .window y h .0;
+        not-late = λ y h. k .window y h .1;
+        capacity = rw (← height) (k .capacity);
+        order = k .order;
       }
 
-judged-plan : (x : Instance) (t : Table) → WellFormed t → (f : ℕ) (frames : List ℕ) → judged x t ≡ plan f frames → IsPlan x f frames × Describes x f frames t
+judged-plan : (x : Instance) (t : Table) → WellFormed t → (f : ℕ) (frames : List ℕ) → judged x t ≡ plan f frames
+    → IsPlan x f frames × Describes x f frames t
 unfolding judged planOf
 judged-plan x t form f frames e =
     let one = picked (both (eqb (t .h) (x .h)) (plausible x (t .f))) (planOf x (t .f) (t .rows)) 13 f frames e in
@@ -227,7 +188,7 @@ module _ (x : Instance) (g : Good x) (t : Table) (frames : List ℕ) (v : IsPlan
   high = described-height x g (t .f) frames v t d
 
   -- an entry of row r that names the job at place y gives its frame
-  entry-frame : (y r : ℕ) (e : Entry) → y < length (x .jobs) → r < length (t .rows) → Among e (rowOf t r) → IsJob (e .task) (e .number) (jobAt x y)
+  entry-frame : (y r : ℕ) (e : Entry) → y < length (x .jobs) → r < length (t .rows) → Among e (rowOf t r) → Named (e .task) (e .number) (jobAt x y)
       → frameFor (length (t .rows)) r (e .carried) ≡ frameAt frames y
   unfolding rowFor entryFor
   entry-frame y r e hy h m names = let (z, stands) = d .only r h e m in go z stands
@@ -238,7 +199,8 @@ module _ (x : Instance) (g : Good x) (t : Table) (frames : List ℕ) (v : IsPlan
           let number : e .number ≡ jobAt x z .number = ap (λ a. a .number) (s .is-entry) in
           let carried : e .carried ≡ leb (rowsAt x (t .f)) (frameAt frames z) = ap (λ a. a .carried) (s .is-entry) in
           let here : y ≡ z = same-place x g y z hy (s .within) (names .task-is ∙ task) (names .number-is ∙ number) in
-          rw (high, ← s .in-row, carried, frame-is (rowsAt x (t .f)) (frameAt frames z) (frame-small x g (t .f) frames v z (s .within))) (ap (frameAt frames) (sym here))
+          let frame = frame-is (rowsAt x (t .f)) (frameAt frames z) (frame-small x g (t .f) frames v z (s .within)) in
+          rw (high, ← s .in-row, carried, frame) (ap (frameAt frames) (sym here))
 
   -- the walk for a job stops at its entry
   walked : (y : ℕ) → y < length (x .jobs) → (isPlaced (t .rows) (x .jobs) y ≡ true) × (frameIn (t .rows) (jobAt x y) ≡ frameAt frames y)
@@ -250,14 +212,15 @@ module _ (x : Instance) (g : Good x) (t : Table) (frames : List ℕ) (v : IsPlan
           let (j, is, low, m) = right in
           let same : r ≡ j = omega arith in
           (refl, rw same (entry-frame y j (entryWith (jobAt x y) carried) h low m (record { task-is = refl; number-is = refl })))
-      go Nowhere right = absurd (right (rowFor x (t .f) frames y) (entryFor x (t .f) frames y) (d .each y h) (record { task-is = refl; number-is = refl }))
+      go Nowhere right =
+          absurd (right (rowFor x (t .f) frames y) (entryFor x (t .f) frames y) (d .each y h) (record { task-is = refl; number-is = refl }))
 
   frames-read : framesIn (t .rows) (x .jobs) ≡ frames
   unfolding framesIn
   frames-read =
       let count = length-map (x .jobs) (frameIn (t .rows)) in
       ext-getD 0 (framesIn (t .rows) (x .jobs)) frames (count ∙ sym (v .all))
-      (λ y h. let low : y < length (x .jobs) = rw count at h in map-at (frameIn (t .rows)) (x .jobs) y low ∙ walked y low .1)
+      (λ y h. let low : y < length (x .jobs) = rw count at h in map-at (frameIn (t .rows)) 0 noJob (x .jobs) y low ∙ walked y low .1)
 
   entries-right : entriesRight x (t .rows) frames ≡ true
   unfolding entriesRight entryKept entryFor
@@ -269,14 +232,20 @@ module _ (x : Instance) (g : Good x) (t : Table) (frames : List ℕ) (v : IsPlan
           → entryKept (x .jobs) frames (length (x .jobs)) (length (t .rows)) (0 + r) e ≡ true
       go r h e m y s =
           let same : 0 + r ≡ r = omega arith in
-          let names : IsJob (e .task) (e .number) (jobAt x y) = record { task-is = ap (λ a. a .task) (sym (s .is-entry)); number-is = ap (λ a. a .number) (sym (s .is-entry)) } in
-          rw same (says-some (isThere (x .jobs) frames (e .task) (e .number) (frameFor (length (t .rows)) r (e .carried))) (length (x .jobs)) y (s .within)
-          (says-there (x .jobs) frames y (e .task) (e .number) (frameFor (length (t .rows)) r (e .carried)) names (sym (entry-frame y r e (s .within) h m names))))
+          let entry = sym (s .is-entry) in
+          let k : ℕ = frameFor (length (t .rows)) r (e .carried) in
+          let names : Named (e .task) (e .number) (jobAt x y) = record { task-is = ap (λ a. a .task) entry; number-is = ap (λ a. a .number) entry } in
+          rw same (says-some (isThere (x .jobs) frames (e .task) (e .number) k) (length (x .jobs)) y (s .within)
+          (says-there (x .jobs) frames y (e .task) (e .number) k names (sym (entry-frame y r e (s .within) h m names))))
 
   rules-right : rulesRight x (length (t .rows)) (t .f) frames ≡ true
-  unfolding rulesRight
-  rules-right =
-      rw (say-windows x frames (t .f) (λ y h. (v .not-early y h, v .not-late y h)), says-capacity x frames (length (t .rows)) (t .f) (rw high (v .capacity)), says-order x frames (v .order))
+  rules-right = say-rules x (length (t .rows)) (t .f) frames (record {
+    some-row = d .form .some-rows;
+    few-rows = d .form .few-rows;
+    window = λ y h. (v .not-early y h, v .not-late y h);
+    capacity = rw high (v .capacity);
+    order = v .order;
+  })
 
   plan-judged : judged x t ≡ plan (t .f) frames
   unfolding judged planOf
@@ -291,11 +260,13 @@ module _ (request bytes : List ℕ) (x : Instance) (t : Table) (within : Within 
   plan-accepted : (f : ℕ) (frames : List ℕ) → IsPlan x f frames → Describes x f frames t → judged x t ≡ plan f frames
   plan-accepted f frames v d =
       let e : t .f ≡ f = d .same-f in
-      plan-judged x (within-good request x within) t frames (subst (λ k. IsPlan x k frames) (sym e) v) (subst (λ k. Describes x k frames t) (sym e) d)
+      plan-judged x (within-good request x within) t frames
+      (subst (λ k. IsPlan x k frames) (sym e) v) (subst (λ k. Describes x k frames t) (sym e) d)
       ∙ ap (λ k. plan k frames) e
 
   -- THE THEOREM: the check accepts a table, and reads this plan from it, exactly if it is a plan and the table describes it.
-  pub accepts-described : (f : ℕ) (frames : List ℕ) → (checked (cycleOf request) (decode bytes) ≡ plan f frames) ↔ (IsPlan x f frames × Describes x f frames t)
+  pub accepts-described : (f : ℕ) (frames : List ℕ)
+      → (checked (cycleOf request) (decode bytes) ≡ plan f frames) ↔ (IsPlan x f frames × Describes x f frames t)
   accepts-described f frames = (
     λ e. judged-plan x t (decode-wellformed bytes t read) f frames (sym checked-is ∙ e),
     λ p. checked-is ∙ plan-accepted f frames (p .0) (p .1),

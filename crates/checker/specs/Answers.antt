@@ -1,16 +1,13 @@
--- The answers of the functions as values of their types, the rows as they stand in a table's bytes, and what the functions that are not called
--- from outside ask of a cycle.
-use Prim.Native.Nat.{ℕ, zero, suc, _+_, _*_, _≤_, _<_}
+-- The answers of the functions as values of their types, and the rows as they stand in a table's bytes.
+use Prim.Native.Nat.{ℕ, zero, suc, _+_, _*_}
 use mathlib.Core.Bool.{Bool, true, false}
 use mathlib.Core.List.{List, [], _∷_}
 use lib.ListN.{getD, replicate}
 use Rattle.cursor.specs.Padded.{padded}
-use Rattle.cycle.specs.Planned.{noJob}
-use Rattle.cycle.specs.declared.Cycle.{Cycle}
 use Rattle.table.specs.Table.{Entry, entryOf}
 use Rattle.checker.specs.Checked.{Verdict, plan, refusal}
 use Rattle.checker.specs.declared.Read.{Read}
-use Rattle.checker.specs.declared.Frames.{Frames}
+use Rattle.checker.specs.declared.walk.Frames.{Frames}
 
 -- the frame length and the frames, in 128 places; zeros on a refusal
 abbrev pub readAnswer : Verdict → Read
@@ -35,10 +32,3 @@ rowsIn s (suc k) at = entriesIn s (getD s at 0) (at + 1) ∷ rowsIn s k (at + 1 
 -- the rows of a table, which stand behind 7 bytes
 abbrev pub rowsOf : List ℕ → ℕ → List (List Entry)
 rowsOf s height = rowsIn s height 7
-
--- the counts are those of the places, and each job's task has one
-pub record Sound (c : Cycle) : Type 0 where
-  pub few-tasks : c .n ≤ 16
-  pub few-pairs : c .m ≤ 16
-  pub few-jobs : c .count ≤ 128
-  pub known : (y : ℕ) → y < c .count → getD (c .jobs) y noJob .task < c .n

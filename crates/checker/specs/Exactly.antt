@@ -21,7 +21,8 @@ use Rattle.model.specs.Plan.{Instance}
 use Rattle.model.specs.Plausible.{plausible}
 use Rattle.model.specs.Within.{Within, within-or-not}
 use Rattle.model.specs.Described.{Accepted}
-use Rattle.checker.specs.Checked.{entriesRight, rulesRight, framesIn, plan, refusal, numberOf, planOf, judged, checked, checkNumber}
+use Rattle.rules.specs.Rules.{rulesRight}
+use Rattle.checker.specs.Checked.{entriesRight, framesIn, plan, refusal, numberOf, planOf, judged, checked, checkNumber}
 use Rattle.checker.specs.Accepts.{accepts-described}
 
 -- the table has the request's H, and an f that is plausible
@@ -47,6 +48,10 @@ pub record CheckExact (request bytes : List ℕ) : Type 0 where
   pub fourteen : (checkNumber request bytes ≡ 14) ↔ OfBoth request bytes (λ x t. SizesFit x t × (Accepted x t → ⊥))
   -- "the check accepts exactly the tables that describe a plan"
   pub accepts : (checkNumber request bytes ≡ 0) ↔ OfBoth request bytes Accepted
+
+-- the tests of the rows
+abbrev right : Instance → Table → Bool
+right x t = let frames = framesIn (t .rows) (x .jobs) in both (entriesRight x (t .rows) frames) (rulesRight x (length (t .rows)) (t .f) frames)
 
 module _ (request bytes : List ℕ) where
   -- Each condition gives its number.
@@ -88,13 +93,12 @@ module _ (request bytes : List ℕ) where
 
       not-plan-number : SizesFit x t → (Accepted x t → ⊥) → checkNumber request bytes ≡ 14
       unfolding judged planOf
-      not-plan-number fit none = judged-is ∙ rw (sizes-fit fit) (go (both (entriesRight x (t .rows) frames) (rulesRight x (length (t .rows)) (t .f) frames)) refl)
+      not-plan-number fit none = judged-is ∙ rw (sizes-fit fit) (go (right x t) refl)
         where
           frames : List ℕ
           frames = framesIn (t .rows) (x .jobs)
 
-          go : (b : Bool) → both (entriesRight x (t .rows) frames) (rulesRight x (length (t .rows)) (t .f) frames) ≡ b
-              → numberOf (pick b (plan (t .f) frames) (refusal 14)) ≡ 14
+          go : (b : Bool) → right x t ≡ b → numberOf (pick b (plan (t .f) frames) (refusal 14)) ≡ 14
           go true e = absurd (none (read-accepted (t .f) frames (rw (sizes-fit fit, e))))
           go false e = refl
 
@@ -124,20 +128,23 @@ module _ (request bytes : List ℕ) where
         → (OfBoth request bytes Accepted → Goal)
         → Goal
     unfolding judged planOf
-    cases Goal refused none other unplanned planned = ⊎-elim (λ w. read (w .0) (w .1) (decode bytes) refl) (λ w. refused (w .0) (w .1)) (within-or-not request)
+    cases Goal refused none other unplanned planned =
+        ⊎-elim (λ w. read (w .0) (w .1) (decode bytes) refl) (λ w. refused (w .0) (w .1)) (within-or-not request)
       where
         rules : (x : Instance) → Within request x → (t : Table) → decode bytes ≡ table t → SizesFit x t → (b : Bool)
-            → both (entriesRight x (t .rows) (framesIn (t .rows) (x .jobs))) (rulesRight x (length (t .rows)) (t .f) (framesIn (t .rows) (x .jobs))) ≡ b → Goal
-        rules x within t e fit true q = planned (x, within, t, decodes-says bytes t are e, read-accepted x within t e (t .f) (framesIn (t .rows) (x .jobs)) (rw (sizes-fit x within t e fit, q)))
+            → right x t ≡ b → Goal
+        rules x within t e fit true q =
+            let accepted = read-accepted x within t e (t .f) (framesIn (t .rows) (x .jobs)) (rw (sizes-fit x within t e fit, q)) in
+            planned (x, within, t, decodes-says bytes t are e, accepted)
         rules x within t e fit false q =
             let number : checkNumber request bytes ≡ 14 = judged-is x within t e ∙ rw (sizes-fit x within t e fit, q) in
             unplanned (x, within, t, decodes-says bytes t are e, (fit, λ a. omega (arith, accepted-number x within t e a)))
 
-        sizes : (x : Instance) → Within request x → (t : Table) → decode bytes ≡ table t → (b : Bool) → both (eqb (t .h) (x .h)) (plausible x (t .f)) ≡ b → Goal
+        sizes : (x : Instance) → Within request x → (t : Table) → decode bytes ≡ table t → (b : Bool)
+            → both (eqb (t .h) (x .h)) (plausible x (t .f)) ≡ b → Goal
         sizes x within t e true q =
             let fit = both-true (eqb (t .h) (x .h)) (plausible x (t .f)) q in
-            rules x within t e (eqb-true (t .h) (x .h) (fit .0), fit .1)
-            (both (entriesRight x (t .rows) (framesIn (t .rows) (x .jobs))) (rulesRight x (length (t .rows)) (t .f) (framesIn (t .rows) (x .jobs)))) refl
+            rules x within t e (eqb-true (t .h) (x .h) (fit .0), fit .1) (right x t) refl
         sizes x within t e false q =
             other (x, within, t, decodes-says bytes t are e, λ fit. false≢true (sym q ∙ sizes-fit x within t e fit))
 
@@ -151,23 +158,23 @@ module _ (request bytes : List ℕ) where
     check-exact = record {
       request-refused = own-number;
       twelve = (
-        λ e. cases (NoTable request bytes) (λ k q. absurd (omega (arith, own-number k q, no-cycle-number request k q))) (λ c. c) (λ c. absurd (omega (arith, other-sizes-number c)))
-            (λ c. absurd (omega (arith, no-plan-number c))) (λ c. absurd (omega (arith, plan-number c))),
+        λ e. cases (NoTable request bytes) (λ k q. absurd (omega (arith, own-number k q, no-cycle-number request k q)))
+            (λ c. c) (λ c. absurd (omega (arith, other-sizes-number c))) (λ c. absurd (omega (arith, no-plan-number c))) (λ c. absurd (omega (arith, plan-number c))),
         no-table-number,
       );
       thirteen = (
-        λ e. cases (OfBoth request bytes (λ x t. SizesFit x t → ⊥)) (λ k q. absurd (omega (arith, own-number k q, no-cycle-number request k q))) (λ c. absurd (omega (arith, no-table-number c))) (λ c. c)
-            (λ c. absurd (omega (arith, no-plan-number c))) (λ c. absurd (omega (arith, plan-number c))),
+        λ e. cases (OfBoth request bytes (λ x t. SizesFit x t → ⊥)) (λ k q. absurd (omega (arith, own-number k q, no-cycle-number request k q)))
+            (λ c. absurd (omega (arith, no-table-number c))) (λ c. c) (λ c. absurd (omega (arith, no-plan-number c))) (λ c. absurd (omega (arith, plan-number c))),
         other-sizes-number,
       );
       fourteen = (
-        λ e. cases (OfBoth request bytes (λ x t. SizesFit x t × (Accepted x t → ⊥))) (λ k q. absurd (omega (arith, own-number k q, no-cycle-number request k q))) (λ c. absurd (omega (arith, no-table-number c)))
-            (λ c. absurd (omega (arith, other-sizes-number c))) (λ c. c) (λ c. absurd (omega (arith, plan-number c))),
+        λ e. cases (OfBoth request bytes (λ x t. SizesFit x t × (Accepted x t → ⊥))) (λ k q. absurd (omega (arith, own-number k q, no-cycle-number request k q)))
+            (λ c. absurd (omega (arith, no-table-number c))) (λ c. absurd (omega (arith, other-sizes-number c))) (λ c. c) (λ c. absurd (omega (arith, plan-number c))),
         no-plan-number,
       );
       accepts = (
-        λ e. cases (OfBoth request bytes Accepted) (λ k q. absurd (omega (arith, own-number k q, no-cycle-number request k q))) (λ c. absurd (omega (arith, no-table-number c)))
-            (λ c. absurd (omega (arith, other-sizes-number c))) (λ c. absurd (omega (arith, no-plan-number c))) (λ c. c),
+        λ e. cases (OfBoth request bytes Accepted) (λ k q. absurd (omega (arith, own-number k q, no-cycle-number request k q)))
+            (λ c. absurd (omega (arith, no-table-number c))) (λ c. absurd (omega (arith, other-sizes-number c))) (λ c. absurd (omega (arith, no-plan-number c))) (λ c. c),
         plan-number,
       );
     }

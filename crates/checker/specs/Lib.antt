@@ -1,6 +1,5 @@
 -- What the check answers, and that it accepts exactly the tables that describe a plan.
 pub mod Checked
-pub mod EveryLaws
 pub mod PlaceLaws
 pub mod Accepts
 pub mod Answers
@@ -8,3 +7,4 @@ pub mod WalkLaws
 pub mod LoopLaws
 pub mod ReadLaws
 pub mod Exactly
+pub mod Verdicts

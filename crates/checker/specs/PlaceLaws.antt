@@ -7,31 +7,15 @@ use mathlib.Core.List.{List, [], _∷_}
 use mathlib.Core.Logic.{_⊎_, inl, inr, ⊎-elim}
 use native.Mathlib.Omega.{arith}
 use lib.ListN.{length, getD}
-use lib.Dec.{eqb}
-use borrow.Author.Tests.{eqb-true, eq-eqb}
 use Rattle.cursor.specs.Choice.{pick}
 use Rattle.cursor.specs.ParsedLaws.{never, both-true}
 use Rattle.cycle.specs.declared.Job.{Job}
 use Rattle.table.specs.Table.{Entry}
+use Rattle.model.specs.Named.{isJob, Named, job-says, says-job}
 use Rattle.model.specs.Described.{Among}
-use Rattle.checker.specs.Checked.{isJob, placeInRow, orElse, placeIn, entryKept, rowKept, rowsKept}
-use Rattle.checker.specs.declared.Place.{Place}
-use Rattle.checker.specs.declared.Place.the-variants.{At, Nowhere}
-
--- the job's task and number
-pub record IsJob (task number : ℕ) (job : Job) : Type 0 where
-  pub task-is : job .task ≡ task
-  pub number-is : job .number ≡ number
-
-pub job-says : (task number : ℕ) (job : Job) → isJob task number job ≡ true → IsJob task number job
-unfolding isJob
-job-says task number job e =
-    let b = both-true (eqb (job .task) task) (eqb (job .number) number) e in
-    record { task-is = eqb-true (job .task) task (b .0); number-is = eqb-true (job .number) number (b .1) }
-
-pub says-job : (task number : ℕ) (job : Job) → IsJob task number job → isJob task number job ≡ true
-unfolding isJob
-says-job task number job v = rw (eq-eqb (job .task) task (v .task-is), eq-eqb (job .number) number (v .number-is))
+use Rattle.checker.specs.Checked.{placeInRow, orElse, placeIn, entryKept, rowKept, rowsKept}
+use Rattle.checker.specs.declared.walk.Place.{Place}
+use Rattle.checker.specs.declared.walk.Place.the-variants.{At, Nowhere}
 
 -- the entry of a job
 abbrev pub entryWith : Job → Bool → Entry
@@ -41,13 +25,13 @@ module _ (job : Job) where
   -- what a place in a row says, and what in rows from row r on
   abbrev RightInRow : ℕ → List Entry → Place → Type 0
   RightInRow r es (At k carried) = (k ≡ r) × Among (entryWith job carried) es
-  RightInRow r es Nowhere = (e : Entry) → Among e es → IsJob (e .task) (e .number) job → ⊥
+  RightInRow r es Nowhere = (e : Entry) → Among e es → Named (e .task) (e .number) job → ⊥
 
   abbrev pub RightIn : ℕ → List (List Entry) → Place → Type 0
   RightIn r rows (At k carried) = (j : ℕ) × (k ≡ r + j) × (j < length rows) × Among (entryWith job carried) (getD rows j [])
-  RightIn r rows Nowhere = (j : ℕ) (e : Entry) → Among e (getD rows j []) → IsJob (e .task) (e .number) job → ⊥
+  RightIn r rows Nowhere = (j : ℕ) (e : Entry) → Among e (getD rows j []) → Named (e .task) (e .number) job → ⊥
 
-  entry-is : (e : Entry) → IsJob (e .task) (e .number) job → entryWith job (e .carried) ≡ e
+  entry-is : (e : Entry) → Named (e .task) (e .number) job → entryWith job (e .carried) ≡ e
   entry-is e v = λ i. record { task = v .task-is i; number = v .number-is i; carried = e .carried }
 
   row-right : (r : ℕ) (es : List Entry) → RightInRow r es (placeInRow job r es)
@@ -58,7 +42,9 @@ module _ (job : Job) where
       go : (b : Bool) → isJob (e .task) (e .number) job ≡ b → (p : Place) → RightInRow r es p → RightInRow r (e ∷ es) (pick b (At r (e .carried)) p)
       go true q p h = (refl, inl (entry-is e (job-says (e .task) (e .number) job q)))
       go false q (At k carried) h = (h .0, inr (h .1))
-      go false q Nowhere h = λ a m v. ⊎-elim (λ s. never (let t : isJob (e .task) (e .number) job ≡ true = rw (← s) (says-job (a .task) (a .number) job v) in cc)) (λ m. h a m v) m
+      go false q Nowhere h = λ a m v.
+          ⊎-elim (λ s. never (let t : isJob (e .task) (e .number) job ≡ true = rw (← s) (says-job (a .task) (a .number) job v) in cc))
+          (λ m. h a m v) m
 
   pub place-right : (r : ℕ) (rows : List (List Entry)) → RightIn r rows (placeIn job r rows)
   unfolding placeIn
@@ -70,7 +56,7 @@ module _ (job : Job) where
       go Nowhere h (At k carried) rest = let (j, k-is, low, m) = rest in (suc j, omega arith, omega arith, m)
       go Nowhere h Nowhere rest = λ j e m v. other j e m v
         where
-          other : (j : ℕ) (e : Entry) → Among e (getD (es ∷ rows) j []) → IsJob (e .task) (e .number) job → ⊥
+          other : (j : ℕ) (e : Entry) → Among e (getD (es ∷ rows) j []) → Named (e .task) (e .number) job → ⊥
           other zero e m v = h e m v
           other (suc j) e m v = rest j e m v
 
@@ -100,9 +86,11 @@ module _ (jobs : List Job) (frames : List ℕ) (n rows : ℕ) where
       rw same (rows-say (r + 1) left (both-true (rowKept jobs frames n rows r es) (rowsKept jobs frames n rows (r + 1) left) q .1) j (omega arith) e m)
 
   pub say-rows : (r : ℕ) (left : List (List Entry))
-      → ((j : ℕ) → j < length left → (e : Entry) → Among e (getD left j []) → entryKept jobs frames n rows (r + j) e ≡ true) → rowsKept jobs frames n rows r left ≡ true
+      → ((j : ℕ) → j < length left → (e : Entry) → Among e (getD left j []) → entryKept jobs frames n rows (r + j) e ≡ true)
+      → rowsKept jobs frames n rows r left ≡ true
   unfolding rowsKept
   say-rows r [] h = refl
   say-rows r (es ∷ left) h =
-      let first : rowKept jobs frames n rows r es ≡ true = says-row r es (λ e m. let same : r + 0 ≡ r = omega arith in rw same at (h 0 (omega arith) e m)) in
+      let first : rowKept jobs frames n rows r es ≡ true
+      = says-row r es (λ e m. let same : r + 0 ≡ r = omega arith in rw same at (h 0 (omega arith) e m)) in
       rw first (say-rows (r + 1) left (λ j k e m. let same : r + suc j ≡ r + 1 + j = omega arith in rw same at (h (suc j) (omega arith) e m)))

@@ -9,20 +9,20 @@ use native.Mathlib.Omega.{arith}
 use lib.ListN.{length, getD, drop}
 use lib.Seq.{getD-drop, drop-drop}
 use lib.Dec.{leb}
-use borrow.Author.Tests.{le-leb, lt-leb}
-use Rattle.cursor.specs.Choice.{pick}
 use Rattle.cursor.specs.Fields.{wordBytes}
 use Rattle.cursor.specs.Front.{Bytes}
 use Rattle.cycle.specs.declared.Job.{Job}
-use Rattle.table.specs.Table.{Entry, Table, table, decode, jobByte, entryOf, entriesBytes, rowBytes, rowsBytes, headBytes, encode}
+use Rattle.table.specs.Table.{Entry, Table, table, decode, entryOf, entriesBytes, rowBytes, rowsBytes, headBytes, encode}
 use Rattle.table.specs.WellFormed.{RisingFrom, AllRising}
 use Rattle.table.specs.Left.{less-one, none-left}
-use Rattle.table.specs.Inverse.{entry-back, decode-wellformed, encode-decode}
-use Rattle.checker.specs.Checked.{isJob, placeInRow, orElse, placeIn, entryKept, rowKept, rowsKept}
+use Rattle.table.specs.EntryLaws.{entry-back}
+use Rattle.table.specs.Inverse.{decode-wellformed, encode-decode}
+use Rattle.model.specs.Named.{isJob}
+use Rattle.checker.specs.Checked.{placeInRow, orElse, placeIn, entryKept, rowKept, rowsKept}
 use Rattle.checker.specs.PlaceLaws.{RightIn, place-right}
 use Rattle.checker.specs.Answers.{entriesIn, rowsIn, rowsOf}
-use Rattle.checker.specs.declared.Place.{Place}
-use Rattle.checker.specs.declared.Place.the-variants.{At, Nowhere}
+use Rattle.checker.specs.declared.walk.Place.{Place}
+use Rattle.checker.specs.declared.walk.Place.the-variants.{At, Nowhere}
 
 -- The bytes of a table's rows are its rows.
 
@@ -96,11 +96,13 @@ module _ (s : List ℕ) (job : Job) (height : ℕ) where
       unfolding walkInRow placeInRow entriesIn
       row-ends h = let same : at + 2 * 0 ≡ at = omega arith in rw (none-left n e h, same)
 
-      pub entry-names : e < n → isJob (getD s at 0) (getD s (at + 1) 0 % 128) job ≡ true → walkInRow s job height row n e at ≡ At row (leb 128 (getD s (at + 1) 0))
+      pub entry-names : e < n → isJob (getD s at 0) (getD s (at + 1) 0 % 128) job ≡ true
+          → walkInRow s job height row n e at ≡ At row (leb 128 (getD s (at + 1) 0))
       unfolding walkInRow placeInRow entriesIn entryOf
       entry-names h q = rw (less-one n e h, q)
 
-      pub entry-other : e < n → isJob (getD s at 0) (getD s (at + 1) 0 % 128) job ≡ false → walkInRow s job height row n (e + 1) (at + 2) ≡ walkInRow s job height row n e at
+      pub entry-other : e < n → isJob (getD s at 0) (getD s (at + 1) 0 % 128) job ≡ false
+          → walkInRow s job height row n (e + 1) (at + 2) ≡ walkInRow s job height row n e at
       unfolding walkInRow placeInRow entriesIn entryOf
       entry-other h q =
           let same : at + 2 * suc (n - (e + 1)) ≡ at + 2 + 2 * (n - (e + 1)) = omega arith in
@@ -110,11 +112,13 @@ module _ (s : List ℕ) (job : Job) (height : ℕ) where
 
 module _ (jobs : List Job) (frames : List ℕ) (count height : ℕ) (s : List ℕ) where
   module _ (row n : ℕ) where
-    pub entries-start : (first : ℕ) → rowKept jobs frames count height row (entriesIn s (n - 0) first) ≡ rowKept jobs frames count height row (entriesIn s n first)
+    pub entries-start : (first : ℕ) → rowKept jobs frames count height row (entriesIn s (n - 0) first)
+        ≡ rowKept jobs frames count height row (entriesIn s n first)
     entries-start first = simp sub-zero
 
     module _ (e at : ℕ) where
-      entry-first : e < n → rowKept jobs frames count height row (entriesIn s (n - e) at) ≡ rowKept jobs frames count height row (entryOf (getD s at 0) (getD s (at + 1) 0) ∷ entriesIn s (n - (e + 1)) (at + 2))
+      entry-first : e < n → rowKept jobs frames count height row (entriesIn s (n - e) at)
+          ≡ rowKept jobs frames count height row (entryOf (getD s at 0) (getD s (at + 1) 0) ∷ entriesIn s (n - (e + 1)) (at + 2))
       unfolding entriesIn
       entry-first h = rw (less-one n e h)
 
@@ -142,7 +146,8 @@ module _ (jobs : List Job) (frames : List ℕ) (count height : ℕ) (s : List �
     row-first h = rw (less-one height row h)
 
     pub row-kept : row < height → rowKept jobs frames count height row (entriesIn s (getD s at 0) (at + 1)) ≡ true
-        → rowsKept jobs frames count height (row + 1) (rowsIn s (height - (row + 1)) (at + 1 + 2 * getD s at 0)) ≡ rowsKept jobs frames count height row (rowsIn s (height - row) at)
+        → rowsKept jobs frames count height (row + 1) (rowsIn s (height - (row + 1)) (at + 1 + 2 * getD s at 0))
+        ≡ rowsKept jobs frames count height row (rowsIn s (height - row) at)
     unfolding rowsKept
     row-kept h q = sym (row-first h ∙ rw q)
 

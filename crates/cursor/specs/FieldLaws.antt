@@ -2,6 +2,7 @@
 use Prim.Native.Nat.{ℕ, _+_, _*_, _≤_, _<_}
 use mathlib.Core.Path.{_≡_, refl, _∙_}
 use mathlib.Core.Bool.{Bool, true, false}
+use mathlib.Core.Logic.{_⊎_, inl, inr}
 use mathlib.Core.List.{List}
 use native.Mathlib.Numerals.{add-one}
 use native.Mathlib.Omega.{arith}
@@ -10,6 +11,7 @@ use lib.Seq.{drop-cons}
 use lib.Dec.{ltb}
 use borrow.Author.Tests.{lt-ltb, le-ltb, ltb-true, ltb-false}
 use Rattle.cursor.specs.Choice.{pick}
+use Rattle.cursor.specs.ChoiceLaws.{lt-or-ge}
 use Rattle.cursor.specs.Parsed.{got, refused, then}
 use Rattle.cursor.specs.ParsedLaws.{never}
 use Rattle.cursor.specs.Fields.{byteOf, wordOf, byteAt, wordAt}
@@ -50,7 +52,8 @@ module _ (short : ℕ) (s : List ℕ) (at : ℕ) where
   unfolding byteAt
   byte-missing e = go (ltb at (length s)) refl e
     where
-      go : (t : Bool) → ltb at (length s) ≡ t → pick t (Byte (getD s at 0) (record { at = at + 1 })) NoByte ≡ NoByte → (byteOf short (drop at s) ≡ refused short) × (length s ≤ at)
+      go : (t : Bool) → ltb at (length s) ≡ t → pick t (Byte (getD s at 0) (record { at = at + 1 })) NoByte ≡ NoByte
+          → (byteOf short (drop at s) ≡ refused short) × (length s ≤ at)
       go true q w = absurd (never (cc))
       go false q w = let ended : length s ≤ at = ltb-false at (length s) q in (byte-none short s at ended, ended)
 
@@ -78,15 +81,15 @@ module _ (short : ℕ) (s : List ℕ) (at : ℕ) where
   unfolding wordAt wordOf
   word-missing e = go (ltb (at + 1) (length s)) refl e
     where
-      second : (t : Bool) → ltb at (length s) ≡ t → length s ≤ at + 1
+      second : (at < length s) ⊎ (length s ≤ at) → length s ≤ at + 1
           → then (byteOf short (drop at s)) (λ low rest. then (byteOf short rest) (λ high rest. got (low + high * 256) rest)) ≡ refused short
-      second true q h = rw (byte-here short s at (ltb-true at (length s) q)) (rw (byte-none short s (at + 1) h))
-      second false q h = rw (byte-none short s at (ltb-false at (length s) q))
+      second (inl low) h = rw (byte-here short s at low) (rw (byte-none short s (at + 1) h))
+      second (inr none) h = rw (byte-none short s at none)
 
       go : (t : Bool) → ltb (at + 1) (length s) ≡ t → pick t (Word (getD s at 0 + getD s (at + 1) 0 * 256) (record { at = at + 1 + 1 })) NoWord ≡ NoWord
           → then (byteOf short (drop at s)) (λ low rest. then (byteOf short rest) (λ high rest. got (low + high * 256) rest)) ≡ refused short
       go true q v = absurd (never (cc))
-      go false q v = second (ltb at (length s)) refl (ltb-false (at + 1) (length s) q)
+      go false q v = second (lt-or-ge at (length s)) (ltb-false (at + 1) (length s) q)
 
 -- The u16 at a place is made of the byte there and the byte at the cursor behind it.
 module _ (s : List ℕ) (at : ℕ) where
@@ -101,7 +104,8 @@ module _ (s : List ℕ) (at : ℕ) where
       let ended : length s ≤ second .at = byte-missing 0 s (second .at) f .1 in
       rw (le-ltb (at + 1) (length s) (omega (arith, taken .moved)))
 
-  pub word-of-two : (low high : ℕ) (second next : Cursor) → byteAt s at ≡ Byte low second → byteAt s (second .at) ≡ Byte high next → Word (low + high * 256) next ≡ wordAt s at
+  pub word-of-two : (low high : ℕ) (second next : Cursor) → byteAt s at ≡ Byte low second → byteAt s (second .at) ≡ Byte high next
+      → Word (low + high * 256) next ≡ wordAt s at
   unfolding wordAt
   word-of-two low high second next e f =
       let one = byte-taken 0 s at low second e in

@@ -43,6 +43,10 @@ module _ (short : ℕ) where
       let known : Bytes (b ∷ rest) = rw whole h in
       (known 0, record { whole = whole; bytes-behind = λ i. known (suc i) })
 
+  pub byte-read : (b : ℕ) (rest : List ℕ) → byteOf short (b ∷ rest) ≡ got b rest
+  unfolding byteOf
+  byte-read b rest = refl
+
   pub word-front : (bytes : List ℕ) (w : ℕ) (rest : List ℕ) → wordOf short bytes ≡ got w rest → Bytes bytes → Front bytes (wordBytes w) rest
   unfolding wordOf
   word-front bytes w rest e h =
@@ -53,8 +57,8 @@ module _ (short : ℕ) where
       got-same (λ w rest. Front bytes (wordBytes w) rest) (c .second) (rw (two-bytes (b .value) (c .value) (low .0)) (front-then (low .1) (high .1)))
 
   pub word-read : (w : ℕ) (rest : List ℕ) → wordOf short (wordBytes w ++ rest) ≡ got w rest
-  unfolding wordOf wordBytes byteOf
-  word-read w rest = let is : w % 256 + w / 256 * 256 ≡ w = omega arith in rw is
+  unfolding wordOf wordBytes
+  word-read w rest = let is : w % 256 + w / 256 * 256 ≡ w = omega arith in rw (byte-read (w % 256), byte-read (w / 256), is)
 
 flat-snoc : {A : Type 0} (write : A → List ℕ) (xs : List A) (x : A) → flatMap write (xs ++ (x ∷ [])) ≡ flatMap write xs ++ write x
 unfolding flatMap
@@ -76,7 +80,8 @@ module _ {A : Type 0} (one : List ℕ → Parsed A) (write : A → List ℕ) whe
         rw (flat-snoc write done (s .value), append-assoc, here .whole) at
         (front-from k (done ++ (s .value ∷ [])) (s .tail) xs rest (s .second) (here .bytes-behind))
 
-    pub records-front : (k : ℕ) (bytes : List ℕ) (xs : List A) (rest : List ℕ) → records one k [] bytes ≡ got xs rest → Bytes bytes → Front bytes (flatMap write xs) rest
+    pub records-front : (k : ℕ) (bytes : List ℕ) (xs : List A) (rest : List ℕ)
+        → records one k [] bytes ≡ got xs rest → Bytes bytes → Front bytes (flatMap write xs) rest
     unfolding flatMap
     records-front k = front-from k []
 

@@ -1,4 +1,5 @@
 pub mod Choice
+pub mod ChoiceLaws
 pub mod Parsed
 pub mod ParsedLaws
 pub mod Fields
@@ -9,3 +10,4 @@ pub mod Widths
 pub mod Padded
 pub mod RecordLaws
 pub mod Parts
+pub mod Pieces

@@ -3,13 +3,13 @@
 use Prim.Native.Nat.{ℕ, zero, suc, _+_, _-_, _*_, _≤_, _<_}
 use mathlib.Core.Path.{_≡_, refl, ap, _∙_}
 use mathlib.Core.Bool.{Bool, true, false}
+use mathlib.Core.Logic.{_⊎_, inl, inr}
 use mathlib.Core.List.{List, [], _∷_, _++_, append-assoc}
 use native.Mathlib.Omega.{arith}
 use lib.ListN.{length, take, length-append}
 use lib.Seq.{take-append-le, take-append-add}
-use lib.Dec.{ltb}
-use borrow.Author.Tests.{ltb-true, ltb-false}
 use Rattle.cursor.specs.Choice.{pick}
+use Rattle.cursor.specs.ChoiceLaws.{lt-or-ge}
 use Rattle.cursor.specs.Parsed.{Parsed, got, refused, then, records}
 use Rattle.cursor.specs.ParsedLaws.{never, then-got, got-same}
 use Rattle.cursor.specs.Fields.{byteOf, wordOf}
@@ -38,7 +38,9 @@ module _ {A : Type 0} (short : ℕ) where
 pub byte-own : (short : ℕ) → ByOwnBytes short (byteOf short)
 unfolding byteOf
 byte-own short [] x rest e = absurd (never (cc))
-byte-own short (b ∷ tail) x rest e = got-same (OwnBytes short (byteOf short) (b ∷ tail)) e (record { own = b ∷ []; whole = refl; any-behind = λ behind. refl; cut = cut })
+byte-own short (b ∷ tail) x rest e =
+    got-same (OwnBytes short (byteOf short) (b ∷ tail)) e
+    (record { own = b ∷ []; whole = refl; any-behind = λ behind. refl; cut = cut })
   where
     cut : (k : ℕ) → k < 1 → byteOf short (take k (b ∷ [])) ≡ refused short
     cut zero h = refl
@@ -54,24 +56,23 @@ then-own {A} short one next here after bytes y rest e =
       own = a .own ++ b .own;
       whole = append-assoc (a .own) (b .own) rest ∙ ap (λ (l : List ℕ). a .own ++ l) (b .whole) ∙ a .whole;
       any-behind = λ behind. rw (append-assoc (a .own) (b .own) behind, a .any-behind (b .own ++ behind)) (b .any-behind behind);
-      cut = λ k h. go (s .value) (a .own) (b .own) (a .any-behind) (a .cut) (b .cut) k h (ltb k (length (a .own))) refl;
+      cut = λ k h. go (s .value) (a .own) (b .own) (a .any-behind) (a .cut) (b .cut) k h (lt-or-ge k (length (a .own)));
     }
   where
     go : (x : A) (front back : List ℕ) → ((behind : List ℕ) → one (front ++ behind) ≡ got x behind)
         → ((k : ℕ) → k < length front → one (take k front) ≡ refused short) → ((k : ℕ) → k < length back → next x (take k back) ≡ refused short)
-        → (k : ℕ) → k < length (front ++ back) → (t : Bool) → ltb k (length front) ≡ t → then (one (take k (front ++ back))) next ≡ refused short
-    go x front back any cut cut′ k h true q =
-        let within : k < length front = ltb-true k (length front) q in
-        rw (take-append-le k front back (omega arith), cut k within)
-    go x front back any cut cut′ k h false q =
-        let past : length front ≤ k = ltb-false k (length front) q in
+        → (k : ℕ) → k < length (front ++ back) → (k < length front) ⊎ (length front ≤ k) → then (one (take k (front ++ back))) next ≡ refused short
+    go x front back any cut cut′ k h (inl within) = rw (take-append-le k front back (omega arith), cut k within)
+    go x front back any cut cut′ k h (inr past) =
         let over : k ≡ length front + (k - length front) = omega arith in
         rw (over, take-append-add front back (k - length front), any (take (k - length front) back))
         (cut′ (k - length front) (omega (arith, length-append front back)))
 
 pub word-own : (short : ℕ) → ByOwnBytes short (wordOf short)
 unfolding wordOf
-word-own short = then-own short (byteOf short) _ (byte-own short) (λ low. then-own short (byteOf short) _ (byte-own short) (λ high. value-own short (low + high * 256)))
+word-own short =
+    then-own short (byteOf short) _ (byte-own short) (λ low.
+    then-own short (byteOf short) _ (byte-own short) (λ high. value-own short (low + high * 256)))
 
 pub records-own : {A : Type 0} (short : ℕ) (one : List ℕ → Parsed A) → ByOwnBytes short one → (k : ℕ) (done : List A) → ByOwnBytes short (records one k done)
 unfolding records

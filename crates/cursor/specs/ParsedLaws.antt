@@ -11,18 +11,19 @@ pub never : _≡_ {A = ℕ} 0 1 → ⊥
 never z = omega arith
 
 -- the first of two steps, and the second from there
-pub record Steps {A B : Type 0} (r : Parsed A) (next : A → List ℕ → Parsed B) (y : B) (rest : List ℕ) : Type 0 where
+pub record TwoSteps {A B : Type 0} (r : Parsed A) (next : A → List ℕ → Parsed B) (y : B) (rest : List ℕ) : Type 0 where
   pub value : A
   pub tail : List ℕ
   pub first : r ≡ got value tail
   pub second : next value tail ≡ got y rest
 
-pub then-got : {A B : Type 0} (r : Parsed A) (next : A → List ℕ → Parsed B) (y : B) (rest : List ℕ) → then r next ≡ got y rest → Steps r next y rest
+pub then-got : {A B : Type 0} (r : Parsed A) (next : A → List ℕ → Parsed B) (y : B) (rest : List ℕ) → then r next ≡ got y rest → TwoSteps r next y rest
 then-got (got x tail) next y rest e = record { value = x; tail = tail; first = refl; second = e }
 then-got (refused number) next y rest e = absurd (never (cc))
 
 -- a rule that was judged held
-pub rule-got : {A : Type 0} (test : Bool) (r : Parsed A) (number : ℕ) (y : A) (rest : List ℕ) → pick test r (refused number) ≡ got y rest → (test ≡ true) × (r ≡ got y rest)
+pub rule-got : {A : Type 0} (test : Bool) (r : Parsed A) (number : ℕ) (y : A) (rest : List ℕ) → pick test r (refused number) ≡ got y rest
+    → (test ≡ true) × (r ≡ got y rest)
 rule-got true r number y rest e = (refl, e)
 rule-got false r number y rest e = absurd (never (cc))
 

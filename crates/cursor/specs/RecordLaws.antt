@@ -6,11 +6,11 @@ use mathlib.Core.List.{List, [], _∷_, _++_}
 use mathlib.Core.Logic.{⊎-elim}
 use native.Mathlib.Nat.{sub-zero, eq-or-lt-of-le}
 use native.Mathlib.Omega.{arith}
-use lib.ListN.{length, drop, set, getD, length-append, List·getD-append}
+use lib.ListN.{length, drop, set, getD, replicate, length-append, List·getD-append}
 use lib.Seq.{getD-append-seam}
 use Rattle.cursor.specs.Parsed.{Parsed, got, refused, records}
 use Rattle.cursor.specs.ParsedLaws.{then-got}
-use Rattle.cursor.specs.Padded.{padded, set-padded}
+use Rattle.cursor.specs.Padded.{padded, padded-none, set-padded}
 
 pub record SoFar {A : Type 0} (one : List ℕ → Parsed A) (size : ℕ) (blank : A) (whole : Parsed (List A)) (s : List ℕ) (n i at : ℕ) (xs : List A) : Type 0 where
   pub done : List A
@@ -18,14 +18,15 @@ pub record SoFar {A : Type 0} (one : List ℕ → Parsed A) (size : ℕ) (blank 
   pub stored : xs ≡ padded size blank done
   pub rest : records one (n - i) done (drop at s) ≡ whole
 
-module _ {A : Type 0} (one : List ℕ → Parsed A) (size : ℕ) (blank : A) (whole : Parsed (List A)) (s : List ℕ) (n : ℕ) where
+module _ {A : Type 0} {one : List ℕ → Parsed A} {size : ℕ} {blank : A} {whole : Parsed (List A)} {s : List ℕ} {n : ℕ} where
   -- nothing is read
-  pub none-read : (at : ℕ) → records one n [] (drop at s) ≡ whole → SoFar one size blank whole s n 0 at (padded size blank [])
-  none-read at e = record { done = []; count = refl; stored = refl; rest = rw sub-zero e }
+  pub none-read : {at : ℕ} → records one n [] (drop at s) ≡ whole → SoFar one size blank whole s n 0 at (replicate size blank)
+  none-read e = record { done = []; count = refl; stored = sym (padded-none size blank); rest = rw sub-zero e }
 
-  module _ (i at : ℕ) (xs : List A) (so-far : SoFar one size blank whole s n i at xs) where
+  module _ {i at : ℕ} {xs : List A} (so-far : SoFar one size blank whole s n i at xs) where
     -- one record more
-    pub one-read : i < n → i < size → (x : A) (next : ℕ) → one (drop at s) ≡ got x (drop next s) → SoFar one size blank whole s n (i + 1) next (set xs i x)
+    pub one-read : i < n → i < size → (x : A) (next : ℕ) → one (drop at s) ≡ got x (drop next s)
+        → SoFar one size blank whole s n (i + 1) next (set xs i x)
     unfolding records
     one-read more room x next e =
         let left : n - i ≡ suc (n - (i + 1)) = omega arith in
@@ -38,21 +39,22 @@ module _ {A : Type 0} (one : List ℕ → Parsed A) (size : ℕ) (blank : A) (wh
         }
 
     -- a record that is refused ends the reading with its number
-    pub one-refused : i < n → (number : ℕ) → one (drop at s) ≡ refused number → whole ≡ refused number
+    pub one-refused : i < n → {number : ℕ} → one (drop at s) ≡ refused number → whole ≡ refused number
     unfolding records
-    one-refused more number e =
+    one-refused more e =
         let left : n - i ≡ suc (n - (i + 1)) = omega arith in
         sym (rw (left, e) at (so-far .rest))
 
     -- all are read
-    pub all-read : n ≤ i → whole ≡ got (so-far .done) (drop at s)
+    pub all-records : n ≤ i → whole ≡ got (so-far .done) (drop at s)
     unfolding records
-    all-read end =
+    all-records end =
         let left : n - i ≡ 0 = omega arith in
         sym (rw left at (so-far .rest))
 
 -- What holds of every record that is read holds of all of them.
-module _ {A : Type 0} (one : List ℕ → Parsed A) (blank : A) (P : A → Type 0) (judged : (bytes : List ℕ) (x : A) (rest : List ℕ) → one bytes ≡ got x rest → P x) where
+module _ {A : Type 0} (one : List ℕ → Parsed A) (blank : A) (P : A → Type 0)
+    (judged : (bytes : List ℕ) (x : A) (rest : List ℕ) → one bytes ≡ got x rest → P x) where
   each-from : (k : ℕ) (done : List A) (bytes : List ℕ) (xs : List A) (rest : List ℕ) → ((i : ℕ) → i < length done → P (getD done i blank))
       → records one k done bytes ≡ got xs rest → (i : ℕ) → i < length xs → P (getD xs i blank)
   unfolding records
@@ -69,5 +71,6 @@ module _ {A : Type 0} (one : List ℕ → Parsed A) (blank : A) (P : A → Type 
           (λ l. rw (List·getD-append done (x ∷ []) blank i l) (before i l))
           (eq-or-lt-of-le at-most)
 
-  pub records-each : (k : ℕ) (bytes : List ℕ) (xs : List A) (rest : List ℕ) → records one k [] bytes ≡ got xs rest → (i : ℕ) → i < length xs → P (getD xs i blank)
+  pub records-each : (k : ℕ) (bytes : List ℕ) (xs : List A) (rest : List ℕ)
+      → records one k [] bytes ≡ got xs rest → (i : ℕ) → i < length xs → P (getD xs i blank)
   records-each k bytes xs rest = each-from k [] bytes xs rest (λ i h. absurd (omega arith))

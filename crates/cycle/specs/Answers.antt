@@ -1,5 +1,5 @@
 -- The answers of the functions as values of their types, and what the functions that are not called from outside ask of their arguments.
-use Prim.Native.Nat.{ℕ, _+_, _*_, _≤_, _<_, _∣_}
+use Prim.Native.Nat.{ℕ, _≤_, _<_, _∣_}
 use mathlib.Core.Path.{_≡_}
 use mathlib.Core.List.{List, map}
 use lib.ListN.{length, take, getD, replicate}
@@ -51,5 +51,14 @@ refused number = record { refusal = number; n = 0; tasks = replicate 16 noTask; 
 
 abbrev pub answered : Cycle → answer.Cycle
 answered (cycle tasks pairs h jobs) =
-    record { refusal = 0; n = length tasks; tasks = padded 16 noTask tasks; m = length pairs; pairs = padded 16 noPair pairs; h = h; count = length jobs; jobs = listed jobs }
+    record {
+      refusal = 0;
+      n = length tasks;
+      tasks = padded 16 noTask tasks;
+      m = length pairs;
+      pairs = padded 16 noPair pairs;
+      h = h;
+      count = length jobs;
+      jobs = listed jobs;
+    }
 answered (noCycle number) = refused number

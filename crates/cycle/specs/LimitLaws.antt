@@ -11,14 +11,13 @@ use lib.ListN.{length, getD}
 use lib.Dec.{ltb}
 use borrow.Author.Tests.{ltb-false}
 use Rattle.cursor.specs.Choice.{pick}
-use Rattle.cursor.specs.ParsedLaws.{never}
 use Rattle.arith.specs.Lcm.{lcmOf, dvd-lcm-left, dvd-lcm-right, lcm-dvd, lcm-pos}
 use Rattle.arith.specs.Residue.{quotient-pos}
 use Rattle.request.specs.Request.{Reading, readable, unreadable, reading, noTask, periodOf}
 use Rattle.request.specs.Readable.{TaskKept, Readable, readable-kept, unreadable-number}
 use Rattle.request.specs.declared.Task.{Task}
 use Rattle.request.specs.declared.Pair.{Pair}
-use Rattle.cycle.specs.Cycle.{lcmWith, hyperperiod, jobsIn, jobOf, allJobs, planned, Cycle, cycle, noCycle, inCycle, cycleOf}
+use Rattle.cycle.specs.Cycle.{lcmWith, hyperperiod, jobsIn, jobOf, allJobs, planned, Cycle, cycle, noCycle, afterReading, cycleOf}
 use Rattle.cycle.specs.Planned.{IsJob, InPlanningOrder}
 use Rattle.cycle.specs.PlannedLaws.{Periodic, planned-in-order, planned-length}
 use Rattle.cycle.specs.declared.Job.{Job}
@@ -134,48 +133,34 @@ module _ (tasks : List Task) (pairs : List Pair) (kept : Readable tasks pairs) w
         due-below = job-due-below h some divides;
       }
 
--- what a cycle keeps; the number of a refusal is from 1 to 8
-abbrev pub Kept : Cycle → Type 0
-Kept (cycle tasks pairs h jobs) = WithinLimits tasks pairs h jobs
-Kept (noCycle number) = (1 ≤ number) × (number ≤ 8)
+-- what the cycle of some bytes keeps, which has the tasks and the pairs that were read; the number of a refusal is from 1 to 8
+abbrev Kept : List ℕ → Cycle → Type 0
+Kept bytes (cycle tasks pairs h jobs) = WithinLimits tasks pairs h jobs × (reading bytes ≡ readable tasks pairs)
+Kept bytes (noCycle number) = (1 ≤ number) × (number ≤ 8)
 
-pub cycle-kept : (bytes : List ℕ) → Kept (cycleOf bytes)
+cycle-kept : (bytes : List ℕ) → Kept bytes (cycleOf bytes)
 unfolding cycleOf
 cycle-kept bytes = first (reading bytes) refl
   where
-    second : (tasks : List Task) (pairs : List Pair) → Readable tasks pairs
+    second : (tasks : List Task) (pairs : List Pair) → reading bytes ≡ readable tasks pairs
         → (s t : Bool) → ltb 10000 (hyperperiod tasks) ≡ s → ltb 128 (length (allJobs tasks (hyperperiod tasks))) ≡ t
-        → Kept (pick s (noCycle 7) (pick t (noCycle 8) (cycle tasks pairs (hyperperiod tasks) (planned tasks (hyperperiod tasks)))))
-    second tasks pairs kept true t p q = (omega arith, omega arith)
-    second tasks pairs kept false true p q = (omega arith, omega arith)
-    second tasks pairs kept false false p q = within-limits tasks pairs kept (ltb-false _ _ p) (ltb-false _ _ q)
+        → Kept bytes (pick s (noCycle 7) (pick t (noCycle 8) (cycle tasks pairs (hyperperiod tasks) (planned tasks (hyperperiod tasks)))))
+    second tasks pairs e true t p q = (omega arith, omega arith)
+    second tasks pairs e false true p q = (omega arith, omega arith)
+    second tasks pairs e false false p q = (within-limits tasks pairs (readable-kept bytes tasks pairs e) (ltb-false _ _ p) (ltb-false _ _ q), e)
 
-    first : (r : Reading) → reading bytes ≡ r → Kept (inCycle r)
-    first (readable tasks pairs) e =
-        second tasks pairs (readable-kept bytes tasks pairs e) (ltb 10000 (hyperperiod tasks)) (ltb 128 (length (allJobs tasks (hyperperiod tasks)))) refl refl
+    first : (r : Reading) → reading bytes ≡ r → Kept bytes (afterReading r)
+    first (readable tasks pairs) e = second tasks pairs e (ltb 10000 (hyperperiod tasks)) (ltb 128 (length (allJobs tasks (hyperperiod tasks)))) refl refl
     first (unreadable number) e = let range = unreadable-number bytes number e in omega arith
 
 pub cycle-within : (bytes : List ℕ) (tasks : List Task) (pairs : List Pair) (h : ℕ) (jobs : List Job)
     → cycleOf bytes ≡ cycle tasks pairs h jobs → WithinLimits tasks pairs h jobs
-cycle-within bytes tasks pairs h jobs e = subst Kept e (cycle-kept bytes)
+cycle-within bytes tasks pairs h jobs e = subst (Kept bytes) e (cycle-kept bytes) .0
 
 pub no-cycle-number : (bytes : List ℕ) (number : ℕ) → cycleOf bytes ≡ noCycle number → (1 ≤ number) × (number ≤ 8)
-no-cycle-number bytes number e = subst Kept e (cycle-kept bytes)
+no-cycle-number bytes number e = subst (Kept bytes) e (cycle-kept bytes)
 
 -- a cycle has the tasks and the pairs that were read
-pub cycle-reading : (bytes : List ℕ) (tasks : List Task) (pairs : List Pair) (h : ℕ) (jobs : List Job) → cycleOf bytes ≡ cycle tasks pairs h jobs → reading bytes ≡ readable tasks pairs
-unfolding cycleOf
-cycle-reading bytes tasks pairs h jobs e = first (reading bytes) e
-  where
-    second : (ts : List Task) (ps : List Pair) (s t : Bool) → pick s (noCycle 7) (pick t (noCycle 8) (cycle ts ps (hyperperiod ts) (planned ts (hyperperiod ts)))) ≡ cycle tasks pairs h jobs
-        → readable ts ps ≡ readable tasks pairs
-    second ts ps true t q = absurd (never (cc))
-    second ts ps false true q = absurd (never (cc))
-    second ts ps false false q =
-        let same-tasks : ts ≡ tasks = cc in
-        let same-pairs : ps ≡ pairs = cc in
-        rw (same-tasks, same-pairs)
-
-    first : (r : Reading) → inCycle r ≡ cycle tasks pairs h jobs → r ≡ readable tasks pairs
-    first (readable ts ps) q = second ts ps (ltb 10000 (hyperperiod ts)) (ltb 128 (length (allJobs ts (hyperperiod ts)))) q
-    first (unreadable number) q = absurd (never (cc))
+pub cycle-reading : (bytes : List ℕ) (tasks : List Task) (pairs : List Pair) (h : ℕ) (jobs : List Job)
+    → cycleOf bytes ≡ cycle tasks pairs h jobs → reading bytes ≡ readable tasks pairs
+cycle-reading bytes tasks pairs h jobs e = subst (Kept bytes) e (cycle-kept bytes) .1

@@ -4,18 +4,18 @@ use mathlib.Core.Path.{_≡_, refl, sym, ap, subst, subst₂, _∙_}
 use mathlib.Core.Bool.{Bool, true, false}
 use mathlib.Core.List.{List}
 use native.Mathlib.Omega.{arith}
-use lib.ListN.{length, take, getD}
+use lib.ListN.{length, take}
 use lib.Dec.{ltb}
 use borrow.Author.Tests.{lt-ltb, le-ltb, ltb-true, ltb-false}
 use Rattle.cursor.specs.Choice.{pick}
 use Rattle.cursor.specs.Padded.{padded, padded-length, take-padded, getD-padded}
-use Rattle.request.specs.Request.{Reading, readable, unreadable, reading, noTask, noPair, periodOf}
+use Rattle.request.specs.Request.{Reading, readable, unreadable, reading, noTask, periodOf}
 use Rattle.request.specs.Answers as request
 use Rattle.request.specs.Readable.{Readable, TaskKept, readable-kept, unreadable-number}
 use Rattle.request.specs.declared.Task.{Task}
 use Rattle.request.specs.declared.Pair.{Pair}
 use Rattle.request.specs.declared.Request.{Request}
-use Rattle.cycle.specs.Cycle.{hyperperiod, allJobs, planned, cycle, limited, inCycle, cycleOf}
+use Rattle.cycle.specs.Cycle.{hyperperiod, allJobs, planned, cycle, limited, afterReading, cycleOf}
 use Rattle.cycle.specs.PlannedLaws.{planned-length}
 use Rattle.cycle.specs.LimitLaws.{hyperperiod-pos, hyperperiod-divides, readable-periodic}
 use Rattle.cycle.specs.LoopLaws.{task-at}
@@ -28,7 +28,7 @@ pub not-read : (s : List ℕ) (r : Request) → r ≡ request.answered (reading 
 unfolding cycleOf
 not-read s r e ne = go (reading s) e
   where
-    go : (x : Reading) → r ≡ request.answered x → refused (r .refusal) ≡ answered (inCycle x)
+    go : (x : Reading) → r ≡ request.answered x → refused (r .refusal) ≡ answered (afterReading x)
     go (readable tasks pairs) q = absurd (ne (ap (λ (y : Request). y .refusal) q))
     go (unreadable number) q = ap refused (ap (λ (y : Request). y .refusal) q)
 
@@ -50,7 +50,8 @@ sized-of tasks pairs kept = record {
   kept = λ i h. subst TaskKept (sym (getD-padded 16 noTask tasks i h)) (kept .task i h);
 }
 
-read-is : (s : List ℕ) (r : Request) (tasks : List Task) (pairs : List Pair) → reading s ≡ readable tasks pairs → r ≡ request.answered (readable tasks pairs) → Read s r
+read-is : (s : List ℕ) (r : Request) (tasks : List Task) (pairs : List Pair)
+    → reading s ≡ readable tasks pairs → r ≡ request.answered (readable tasks pairs) → Read s r
 read-is s r tasks pairs is e =
     let kept = readable-kept s tasks pairs is in
     record {
@@ -72,33 +73,37 @@ was-read s r e z = go (reading s) refl e
         let positive = unreadable-number s number is in
         absurd (omega (arith, ap (λ (y : Request). y .refusal) q))
 
-short-cases : (tasks : List Task) (h : ℕ) → 0 < hyperperiod tasks → h ≡ shortCycle tasks → (h ≡ 0 → 10000 < hyperperiod tasks) × ((h ≡ 0 → ⊥) → (h ≡ hyperperiod tasks) × (hyperperiod tasks ≤ 10000))
+-- h is 0 where H is above 10,000, and H elsewhere
+abbrev ShortOr0 : List Task → ℕ → Type 0
+ShortOr0 tasks h = (h ≡ 0 → 10000 < hyperperiod tasks) × ((h ≡ 0 → ⊥) → (h ≡ hyperperiod tasks) × (hyperperiod tasks ≤ 10000))
+
+short-cases : (tasks : List Task) (h : ℕ) → 0 < hyperperiod tasks → h ≡ shortCycle tasks → ShortOr0 tasks h
 unfolding shortCycle
 short-cases tasks h pos e = go (ltb 10000 (hyperperiod tasks)) refl e
   where
-    go : (t : Bool) → ltb 10000 (hyperperiod tasks) ≡ t → h ≡ pick t 0 (hyperperiod tasks) → (h ≡ 0 → 10000 < hyperperiod tasks) × ((h ≡ 0 → ⊥) → (h ≡ hyperperiod tasks) × (hyperperiod tasks ≤ 10000))
+    go : (t : Bool) → ltb 10000 (hyperperiod tasks) ≡ t → h ≡ pick t 0 (hyperperiod tasks) → ShortOr0 tasks h
     go true q w = (λ z. ltb-true 10000 (hyperperiod tasks) q, λ ne. absurd (ne w))
     go false q w = (λ z. absurd (omega arith), λ ne. (w, ltb-false 10000 (hyperperiod tasks) q))
 
-module _ (s : List ℕ) (r : Request) (read : Read s r) (h : ℕ) (h-is : h ≡ shortCycle (take (r .n) (r .tasks))) where
+module _ {s : List ℕ} {r : Request} (read : Read s r) {h : ℕ} (h-is : h ≡ shortCycle (take (r .n) (r .tasks))) where
   abbrev tasks : List Task
   tasks = read .tasks
 
   pos : 0 < hyperperiod tasks
   pos = hyperperiod-pos tasks (readable-periodic tasks (read .pairs) (read .kept))
 
-  cases : (h ≡ 0 → 10000 < hyperperiod tasks) × ((h ≡ 0 → ⊥) → (h ≡ hyperperiod tasks) × (hyperperiod tasks ≤ 10000))
+  cases : ShortOr0 tasks h
   cases = short-cases tasks h pos (h-is ∙ ap shortCycle (read .named))
 
   cycle-is : cycleOf s ≡ limited tasks (read .pairs) (hyperperiod tasks)
   unfolding cycleOf
-  cycle-is = ap inCycle (read .is)
+  cycle-is = ap afterReading (read .is)
 
   -- 7
   pub too-long : h ≡ 0 → refused 7 ≡ answered (cycleOf s)
   too-long z = rw (cycle-is, lt-ltb 10000 (hyperperiod tasks) (cases .0 z)) refl
 
-  module _ (some : h ≡ 0 → ⊥) (count : ℕ) (count-is : count ≡ length (allJobs (take (r .n) (r .tasks)) h)) where
+  module _ (some : h ≡ 0 → ⊥) {count : ℕ} (count-is : count ≡ length (allJobs (take (r .n) (r .tasks)) h)) where
     h-all : h ≡ hyperperiod tasks
     h-all = cases .1 some .0
 
@@ -126,14 +131,25 @@ module _ (s : List ℕ) (r : Request) (read : Read s r) (h : ℕ) (h-is : h ≡ 
         size = ap (λ (y : Request). y .n) (sym (read .request-is))
 
         period : (i : ℕ) → i < r .n → periodOf tasks i ≡ periodOf (r .tasks) i
-        period i k = ap (λ (l : List Task). periodOf l i) (sym (read .named)) ∙ ap (λ (x : Task). x .t) (task-at (r .tasks) (r .n) (read .sized) i k)
+        period i k = ap (λ (l : List Task). periodOf l i) (sym (read .named)) ∙ ap (λ (x : Task). x .t) (task-at (read .sized) i k)
 
-    pub all-read : count ≤ 128 → (jobs : List Job) → jobs ≡ listed (planned (take (r .n) (r .tasks)) h)
-        → _≡_ {A = answer.Cycle} (record { refusal = 0; n = r .n; tasks = r .tasks; m = r .m; pairs = r .pairs; h = h; count = count; jobs = jobs }) (answered (cycleOf s))
-    all-read l jobs e =
+    -- the answer of these parts
+    abbrev parts : List Job → answer.Cycle
+    parts jobs = record { refusal = 0; n = r .n; tasks = r .tasks; m = r .m; pairs = r .pairs; h = h; count = count; jobs = jobs }
+
+    pub all-read : count ≤ 128 → {jobs : List Job} → jobs ≡ listed (planned (take (r .n) (r .tasks)) h) → parts jobs ≡ answered (cycleOf s)
+    all-read l {jobs} e =
         let in-order : jobs ≡ listed (planned tasks (hyperperiod tasks)) = e ∙ rw (read .named, h-all) in
         let total : count ≡ length (planned tasks (hyperperiod tasks)) = counted ∙ sym (planned-length tasks (hyperperiod tasks)) in
-        let request = read .request-is in
-        let parts : _≡_ {A = answer.Cycle} (record { refusal = 0; n = r .n; tasks = r .tasks; m = r .m; pairs = r .pairs; h = h; count = count; jobs = jobs }) (answered (cycle tasks (read .pairs) (hyperperiod tasks) (planned tasks (hyperperiod tasks)))) =
-        λ q. record { refusal = 0; n = request q .n; tasks = request q .tasks; m = request q .m; pairs = request q .pairs; h = h-all q; count = total q; jobs = in-order q } in
-        parts ∙ sym (rw (cycle-is, le-ltb 10000 (hyperperiod tasks) few, le-ltb 128 (length (allJobs tasks (hyperperiod tasks))) (rw counted at l)) refl)
+        let e = read .request-is in
+        let same : parts jobs ≡ answered (cycle tasks (read .pairs) (hyperperiod tasks) (planned tasks (hyperperiod tasks))) = λ q. record {
+          refusal = 0;
+          n = e q .n;
+          tasks = e q .tasks;
+          m = e q .m;
+          pairs = e q .pairs;
+          h = h-all q;
+          count = total q;
+          jobs = in-order q;
+        } in
+        same ∙ sym (rw (cycle-is, le-ltb 10000 (hyperperiod tasks) few, le-ltb 128 (length (allJobs tasks (hyperperiod tasks))) (rw counted at l)) refl)

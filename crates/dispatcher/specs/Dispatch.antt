@@ -1,14 +1,14 @@
 -- The dispatcher: its answers and its state after them, of what the bytes of a table or a request say. 01, "Dispatching".
-use Prim.Native.Nat.{ℕ, zero, suc, _+_}
-use mathlib.Core.Bool.{Bool, true, false}
+use Prim.Native.Nat.{ℕ, _+_, _%_}
+use mathlib.Core.Bool.{Bool, true, false, not}
 use mathlib.Core.List.{List, [], _∷_}
 use lib.ListN.{length, getD}
 use lib.Dec.{ltb, eqb}
-use Rattle.cursor.specs.Choice.{pick}
+use Rattle.cursor.specs.Choice.{pick, keep}
 use Rattle.request.specs.Request.{Reading, readable, unreadable, noTask}
 use Rattle.request.specs.declared.Task.{Task}
-use Rattle.table.specs.Table.{Entry, Decoded, table, malformed, entryOf, rowOf}
-use Rattle.table.specs.Answers.{rowGiven, rowRefused}
+use Rattle.table.specs.Table.{Entry, Decoded, table, malformed, rowOf}
+use Rattle.table.specs.Answers.{rowGiven, rowRefused, entriesSaid}
 use Rattle.table.specs.declared.Row.{Row}
 use Rattle.dispatcher.specs.declared.State.{State}
 use Rattle.dispatcher.specs.declared.Frame.{Frame}
@@ -18,14 +18,14 @@ use Rattle.dispatcher.specs.declared.Reported.{Reported}
 abbrev pub freshState : State
 freshState = record { row = 0; first = true; count = 0 }
 
--- the entry in front of the others, unless it is carried
-abbrev pub unlessCarried : Bool → Entry → List Entry → List Entry
-unlessCarried true e es = es
-unlessCarried false e es = e ∷ es
+-- "the dispatcher's row is m mod F, its mark is set exactly when m < F, and its count is v"
+abbrev pub stateAt : ℕ → ℕ → ℕ → State
+stateAt height m v = record { row = m % height; first = ltb m height; count = v }
 
+-- the entries without the carried ones
 unfoldable pub uncarried : List Entry → List Entry
 uncarried [] = []
-uncarried (e ∷ es) = unlessCarried (e .carried) e (uncarried es)
+uncarried (e ∷ es) = keep (not (e .carried)) e (uncarried es)
 
 -- "the row's entries, leaving out carried ones while the mark is set"
 abbrev pub served : Bool → List Entry → List Entry
@@ -43,10 +43,17 @@ shown es s = framed (rowGiven es) s
 abbrev pub noFrame : ℕ → State → Frame
 noFrame number s = framed (rowRefused number) s
 
+-- "the row moves on by one"
+abbrev pub onward : State → State
+onward s = record { row = s .row + 1; first = s .first; count = s .count }
+
+-- "to 0 with the mark cleared"
+abbrev pub around : State → State
+around s = record { row = 0; first = false; count = s .count }
+
 -- "the row moves on by one, and from the last row to 0 with the mark cleared"
 unfoldable pub moved : ℕ → State → State
-moved height s =
-    pick (eqb (s .row + 1) height) (record { row = 0; first = false; count = s .count }) (record { row = s .row + 1; first = s .first; count = s .count })
+moved height s = pick (eqb (s .row + 1) height) (around s) (onward s)
 
 -- 12: not a table; 15: row not below F
 unfoldable pub nextFrame : Decoded → State → Frame
@@ -63,23 +70,27 @@ unfoldable pub raised : Bool → ℕ → ℕ
 raised over count = pick over (pick (ltb count 65535) (count + 1) count) count
 
 -- "Report moves no row."
+abbrev pub withCount : ℕ → State → State
+withCount count s = record { row = s .row; first = s .first; count = count }
+
 abbrev pub counted : Bool → State → State
-counted over s = record { row = s .row; first = s .first; count = raised over (s .count) }
+counted over s = withCount (raised over (s .count)) s
+
+-- a report that is taken, with the state after it; and one that gives its number
+abbrev pub reportTaken : State → Reported
+reportTaken s = record { refusal = 0; state = s }
+
+abbrev pub reportRefused : ℕ → State → Reported
+reportRefused number s = record { refusal = number; state = s }
 
 -- 1 to 6: not a request; 16: task number not below n
 unfoldable pub reported : Reading → ℕ → ℕ → State → Reported
-reported (readable tasks pairs) task ticks s =
-    pick (ltb task (length tasks)) (record { refusal = 0; state = counted (exceeds tasks task ticks) s }) (record { refusal = 16; state = s })
-reported (unreadable number) task ticks s = record { refusal = number; state = s }
+reported (readable tasks pairs) task ticks s = pick (ltb task (length tasks)) (reportTaken (counted (exceeds tasks task ticks) s)) (reportRefused 16 s)
+reported (unreadable number) task ticks s = reportRefused number s
 
--- the entries that places say: n of them from place p on
-unfoldable pub entriesAt : List ℕ → List ℕ → ℕ → ℕ → List Entry
-entriesAt tasks jobs zero p = []
-entriesAt tasks jobs (suc n) p = entryOf (getD tasks p 0) (getD jobs p 0) ∷ entriesAt tasks jobs n (p + 1)
+-- what a frame's answer shows, and the entries that it says
+abbrev pub rowShown : Frame → Row
+rowShown a = record { refusal = a .refusal; count = a .count; tasks = a .tasks; jobs = a .jobs }
 
-abbrev pub entriesIn : ℕ → List ℕ → List ℕ → List Entry
-entriesIn count tasks jobs = entriesAt tasks jobs count 0
-
--- the entries that a frame's answer says
 abbrev pub entriesOf : Frame → List Entry
-entriesOf a = entriesIn (a .count) (a .tasks) (a .jobs)
+entriesOf a = entriesSaid (rowShown a)

@@ -2,4 +2,3 @@ pub mod Dispatch
 pub mod FrameLaws
 pub mod ReportLaws
 pub mod StepLaws
-pub mod StateLaws

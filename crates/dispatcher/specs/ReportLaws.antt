@@ -7,53 +7,42 @@ use native.Mathlib.Omega.{arith}
 use lib.ListN.{length}
 use lib.Dec.{ltb}
 use borrow.Author.Tests.{ltb-true, ltb-false, lt-ltb, le-ltb}
-use Rattle.cursor.specs.Choice.{pick}
-use Rattle.request.specs.Request.{Reading, readable, unreadable, reading}
+use Rattle.cursor.specs.Choice.{pick, bit}
+use Rattle.request.specs.Request.{Reading, readable, unreadable}
 use Rattle.request.specs.declared.Task.{Task}
 use Rattle.request.specs.declared.Pair.{Pair}
-use Rattle.dispatcher.specs.Dispatch.{exceeds, raised, counted, reported}
+use Rattle.dispatcher.specs.Dispatch.{exceeds, raised, counted, reportTaken, reportRefused, reported}
 use Rattle.dispatcher.specs.declared.State.{State}
-use Rattle.dispatcher.specs.declared.Reported.{Reported}
 
-module _ (bytes : List ℕ) (task ticks : ℕ) (s : State) where
-  pub report-counted : (tasks : List Task) (pairs : List Pair) → reading bytes ≡ readable tasks pairs → task < length tasks
-      → reported (reading bytes) task ticks s ≡ record { refusal = 0; state = counted (exceeds tasks task ticks) s }
-  unfolding reported
-  report-counted tasks pairs is h = rw (is, lt-ltb task (length tasks) h)
+module _ (r : Reading) (task ticks : ℕ) (s : State) where
+  module _ (tasks : List Task) (pairs : List Pair) (is : r ≡ readable tasks pairs) where
+    pub report-counted : task < length tasks → reported r task ticks s ≡ reportTaken (counted (exceeds tasks task ticks) s)
+    unfolding reported
+    report-counted h = rw (is, lt-ltb task (length tasks) h)
 
-  -- 16
-  pub report-unknown : (tasks : List Task) (pairs : List Pair) → reading bytes ≡ readable tasks pairs → length tasks ≤ task
-      → reported (reading bytes) task ticks s ≡ record { refusal = 16; state = s }
-  unfolding reported
-  report-unknown tasks pairs is h = rw (is, le-ltb task (length tasks) h)
+    -- 16
+    pub report-unknown : length tasks ≤ task → reported r task ticks s ≡ reportRefused 16 s
+    unfolding reported
+    report-unknown h = rw (is, le-ltb task (length tasks) h)
 
   -- 1 to 6
-  pub report-unreadable : (number : ℕ) → reading bytes ≡ unreadable number → reported (reading bytes) task ticks s ≡ record { refusal = number; state = s }
+  pub report-unreadable : (number : ℕ) → r ≡ unreadable number → reported r task ticks s ≡ reportRefused number s
   unfolding reported
   report-unreadable number is = rw is
 
--- "Report moves no row", and leaves the mark
-pub report-stays : (r : Reading) (task ticks : ℕ) (s : State) → (reported r task ticks s .state .row ≡ s .row) × (reported r task ticks s .state .first ≡ s .first)
+-- a refusal leaves the state as it was
+pub report-refused-still : (r : Reading) (task ticks : ℕ) (s : State) → (reported r task ticks s .refusal ≡ 0 → ⊥) → reported r task ticks s .state ≡ s
 unfolding reported
-report-stays (unreadable number) task ticks s = (refl, refl)
-report-stays (readable tasks pairs) task ticks s = go (ltb task (length tasks))
+report-refused-still (unreadable number) task ticks s ne = refl
+report-refused-still (readable tasks pairs) task ticks s ne = go (ltb task (length tasks)) ne
   where
-    known : Reported
-    known = record { refusal = 0; state = counted (exceeds tasks task ticks) s }
-
-    unknown : Reported
-    unknown = record { refusal = 16; state = s }
-
-    go : (b : Bool) → (pick b known unknown .state .row ≡ s .row) × (pick b known unknown .state .first ≡ s .first)
-    go true = (refl, refl)
-    go false = (refl, refl)
-
--- 1 for an overrun
-abbrev pub one : Bool → ℕ
-one over = pick over 1 0
+    go : (b : Bool) → (pick b (reportTaken (counted (exceeds tasks task ticks) s)) (reportRefused 16 s) .refusal ≡ 0 → ⊥)
+        → pick b (reportTaken (counted (exceeds tasks task ticks) s)) (reportRefused 16 s) .state ≡ s
+    go true ne = absurd (ne refl)
+    go false ne = refl
 
 -- the count rises by one, or stays at 65,535
-pub raised-is : (over : Bool) (count : ℕ) → count ≤ 65535 → raised over count ≡ min 65535 (count + one over)
+pub raised-is : (over : Bool) (count : ℕ) → count ≤ 65535 → raised over count ≡ min 65535 (count + bit over)
 unfolding raised
 raised-is true count h = go (ltb count 65535) refl
   where

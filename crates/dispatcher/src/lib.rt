@@ -4,8 +4,8 @@ ghost use mathlib.Core.Path.{_≡_};
 ghost use Prim.Native.Nat.{_≤_, _<_};
 ghost use Rattle.request.specs.Request.{reading};
 ghost use Rattle.table.specs.Table.{decode};
-ghost use Rattle.table.specs.Answers.{rowGiven};
-ghost use Rattle.dispatcher.specs.Dispatch.{freshState, uncarried, entriesIn, framed, moved, nextFrame, raised, reported};
+ghost use Rattle.table.specs.Answers.{rowGiven, entriesSaid};
+ghost use Rattle.dispatcher.specs.Dispatch.{freshState, uncarried, framed, moved, nextFrame, raised, reported};
 
 // The row that is served next, the mark of the first cycle and the count of overruns.
 pub struct State {
@@ -55,7 +55,7 @@ fn frame_of(row: Row, state: State) -> Frame
 // The row without its carried entries: those left close up.
 fn without_carried(row: Row) -> Row
     requires { ⌜ row .count ≤ 16 ⌝ }
-    ensures { λ r. ⌜ r ≡ rowGiven (uncarried (entriesIn (row .count) (row .tasks) (row .jobs))) ⌝ }
+    ensures { λ r. ⌜ r ≡ rowGiven (uncarried (entriesSaid row)) ⌝ }
 {
     let tasks = row.tasks;
     let jobs = row.jobs;
@@ -104,11 +104,12 @@ fn move_on(height: u16, state: State) -> State
 pub fn next_frame(table: &[u8], state: State) -> Frame
     ensures { λ r. ⌜ r ≡ nextFrame (decode (now (table .entry))) state ⌝ }
 {
-    let row = table::read::row(table, state.row);
+    let read = table::read::row_and_sizes(table, state.row);
+    let row = read.row;
     if row.refusal != 0 {
         return frame_of(row, state);
     }
-    let sizes = table::read::sizes(table);
+    let sizes = read.sizes;
     let after = move_on(sizes.height, state);
     if state.first {
         let kept = without_carried(row);

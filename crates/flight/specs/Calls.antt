@@ -1,4 +1,5 @@
 -- Lists of calls: what the dispatcher answers to one, and the plain dispatcher beside it. 01, "What demand 3 compares".
+use mathlib.Core.Bool.{Bool}
 use mathlib.Core.List.{List, [], _∷_}
 use Prim.Native.Nat.{ℕ, _+_, _%_}
 use lib.ListN.{length}
@@ -6,9 +7,9 @@ use lib.Dec.{ltb, eqb}
 use Rattle.cursor.specs.Choice.{pick}
 use Rattle.request.specs.Request.{Reading, readable, unreadable, reading}
 use Rattle.table.specs.Table.{Entry, Table, decode, rowOf}
-use Rattle.table.specs.Answers.{rowGiven}
+use Rattle.table.specs.Answers.{rowGiven, entriesSaid}
 use Rattle.table.specs.declared.Row.{Row}
-use Rattle.dispatcher.specs.Dispatch.{served, nextFrame, exceeds, raised, reported, entriesIn}
+use Rattle.dispatcher.specs.Dispatch.{served, nextFrame, exceeds, raised, reported, rowShown}
 use Rattle.dispatcher.specs.declared.State.{State}
 use Rattle.dispatcher.specs.declared.Frame.{Frame}
 use Rattle.dispatcher.specs.declared.Reported.{Reported}
@@ -31,7 +32,7 @@ pub record Turn (S : Type 0) : Type 0 where
 -- The dispatcher: what next_frame and report ensure. "Every next-frame call gets the one accepted table."
 
 abbrev pub frameTurn : Frame → Turn State
-frameTurn a = record { answer = frame (record { refusal = a .refusal; count = a .count; tasks = a .tasks; jobs = a .jobs }); after = a .state }
+frameTurn a = record { answer = frame (rowShown a); after = a .state }
 
 abbrev pub reportTurn : Reported → Turn State
 reportTurn a = record { answer = number (a .refusal); after = a .state }
@@ -54,21 +55,30 @@ abbrev pub height : Table → ℕ
 height t = length (t .rows)
 
 -- frame m: "the entries of row m mod F .., leaving out carried ones while m < F"
-abbrev pub frameOf : Table → ℕ → List Entry
-frameOf t m = served (ltb m (height t)) (rowOf t (m % height t))
+abbrev pub plainFrame : Table → ℕ → List Entry
+plainFrame t m = served (ltb m (height t)) (rowOf t (m % height t))
+
+-- "then m rises by one"
+abbrev pub oneServed : Plain → Plain
+oneServed s = record { m = s .m + 1; v = s .v }
+
+-- "v rises by one if the ticks exceed that task's C in them, stopping at 65,535"
+abbrev pub oneHeard : Bool → Plain → Plain
+oneHeard over s = record { m = s .m; v = raised over (s .v) }
+
+-- a report's number, and the plain dispatcher's numbers after it
+abbrev pub plainTurn : ℕ → Plain → Turn Plain
+plainTurn n s = record { answer = number n; after = s }
 
 -- "On a report whose bytes have the form of a request with none behind it, and whose task number is below the n in them, it answers no number, and v
 -- rises by one if the ticks exceed that task's C in them, stopping at 65,535. Any other report gives its number by the table below and changes nothing."
 unfoldable pub heard : Reading → ℕ → ℕ → Plain → Turn Plain
-heard (readable tasks pairs) task ticks s =
-    pick (ltb task (length tasks))
-    (record { answer = number 0; after = record { m = s .m; v = raised (exceeds tasks task ticks) (s .v) } })
-    (record { answer = number 16; after = s })
-heard (unreadable n) task ticks s = record { answer = number n; after = s }
+heard (readable tasks pairs) task ticks s = pick (ltb task (length tasks)) (plainTurn 0 (oneHeard (exceeds tasks task ticks) s)) (plainTurn 16 s)
+heard (unreadable n) task ticks s = plainTurn n s
 
 -- "It never refuses a next-frame call of the list."
 unfoldable pub plainly : Table → Plain → Call → Turn Plain
-plainly t s next-frame = record { answer = frame (rowGiven (frameOf t (s .m))); after = record { m = s .m + 1; v = s .v } }
+plainly t s next-frame = record { answer = frame (rowGiven (plainFrame t (s .m))); after = oneServed s }
 plainly t s (report bytes task ticks) = heard (reading bytes) task ticks s
 
 -- "Each call takes the state that the last one returned": the answers, and the state after the list
@@ -84,9 +94,9 @@ final step s (c ∷ cs) = final step (step s c .after) cs
 -- the entries of each frame that was answered with no number, from frame 0 on
 
 abbrev pub withFrame : Answer → List (List Entry) → List (List Entry)
-withFrame (frame r) rest = pick (eqb (r .refusal) 0) (entriesIn (r .count) (r .tasks) (r .jobs) ∷ rest) rest
+withFrame (frame r) rest = pick (eqb (r .refusal) 0) (entriesSaid r ∷ rest) rest
 withFrame (number n) rest = rest
 
-unfoldable pub framesIn : List Answer → List (List Entry)
-framesIn [] = []
-framesIn (a ∷ rest) = withFrame a (framesIn rest)
+unfoldable pub framesShown : List Answer → List (List Entry)
+framesShown [] = []
+framesShown (a ∷ rest) = withFrame a (framesShown rest)

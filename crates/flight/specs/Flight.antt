@@ -9,19 +9,19 @@ use Rattle.table.specs.Table.{Entry, Table}
 use Rattle.model.specs.Plan.{Instance, pairAt}
 use Rattle.dispatcher.specs.Dispatch.{freshState}
 use Rattle.dispatcher.specs.declared.State.{State}
-use Rattle.flight.specs.Calls.{Call, Answer, dispatch, Plain, begin, height, plainly, answers, final, framesIn}
+use Rattle.flight.specs.Calls.{Call, Answer, dispatch, Plain, begin, height, plainly, answers, final, framesShown}
 use Rattle.flight.specs.Timing.{Served, start, finish, releasedIn, dueIn, Starts, StandsForSome, EndedBy, timesRun}
 
 -- "The list starts from the fresh state.": the dispatcher's answers, its state after the list, and the frames that it served
 module _ (tableBytes : List ℕ) (calls : List Call) where
-  abbrev pub answered : List Answer
-  answered = answers (dispatch tableBytes) freshState calls
+  abbrev pub answersGiven : List Answer
+  answersGiven = answers (dispatch tableBytes) freshState calls
 
   abbrev pub stateAfter : State
   stateAfter = final (dispatch tableBytes) freshState calls
 
-  abbrev pub frames : List (List Entry)
-  frames = framesIn answered
+  abbrev pub framesFlown : List (List Entry)
+  framesFlown = framesShown answersGiven
 
 -- the plain dispatcher's answers, and its numbers after the list
 module _ (t : Table) (calls : List Call) where
@@ -35,7 +35,7 @@ module _ (t : Table) (calls : List Call) where
 module _ (x : Instance) (tableBytes : List ℕ) (t : Table) (calls : List Call) (actual : ℕ → ℕ → ℕ) where
   -- job j of task i, of cycle q, starts with the entry at place p of frame m
   abbrev pub Started : ℕ → ℕ → ℕ → ℕ → ℕ → Type 0
-  Started i j q m p = Starts (height t) (frames tableBytes calls) i j q m p
+  Started i j q m p = Starts (height t) (framesFlown tableBytes calls) i j q m p
 
   -- when that entry starts and ends
   abbrev pub starts : ℕ → ℕ → ℕ
@@ -46,26 +46,26 @@ module _ (x : Instance) (tableBytes : List ℕ) (t : Table) (calls : List Call) 
 
   -- how often the job has run
   abbrev pub runs : ℕ → ℕ → ℕ → ℕ
-  runs i j q = timesRun (height t) (frames tableBytes calls) i j q
+  runs i j q = timesRun (height t) (framesFlown tableBytes calls) i j q
 
   -- "The claim is about the list as a whole: one theorem, not a law for each call."
   pub record Flight : Type 0 where
     -- "Every answer of the dispatcher is the plain one's."
-    pub same-answers : answered tableBytes calls ≡ plainAnswered t calls
+    pub same-answers : answersGiven tableBytes calls ≡ plainAnswered t calls
     -- "After the list the dispatcher's row is m mod F, its mark is set exactly when m < F, and its count is v."
     pub row-is : stateAfter tableBytes calls .row ≡ plainAfter t calls .m % height t
     pub mark-is : stateAfter tableBytes calls .first ≡ ltb (plainAfter t calls .m) (height t)
     pub count-is : stateAfter tableBytes calls .count ≡ plainAfter t calls .v
     -- m frames were answered; the first is frame 0
-    pub frames-are : length (frames tableBytes calls) ≡ plainAfter t calls .m
+    pub frames-are : length (framesFlown tableBytes calls) ≡ plainAfter t calls .m
     -- every entry served stands for a job of the request, of some cycle: nothing else runs
-    pub each-stands : (m p : ℕ) → Served (frames tableBytes calls) m p → StandsForSome x (height t) (frames tableBytes calls) m p
+    pub each-stands : (m p : ℕ) → Served (framesFlown tableBytes calls) m p → StandsForSome x (height t) (framesFlown tableBytes calls) m p
     -- a started job starts no earlier than its release and ends by its deadline
     pub not-before-release : (i j q m p : ℕ) → Started i j q m p → releasedIn x q i j ≤ starts m p
     pub by-deadline : (i j q m p : ℕ) → Started i j q m p → ends m p ≤ dueIn x q i j
     -- "for a pair a, b, whenever job j of b in some cycle has started, job j of a in the same cycle had ended by that start"
     pub pairs-keep-order : (u : ℕ) → u < length (x .pairs) → (j q m p : ℕ) → Started (pairAt x u .b) j q m p
-        → EndedBy (height t) (frames tableBytes calls) ends (pairAt x u .a) j q (starts m p)
+        → EndedBy (height t) (framesFlown tableBytes calls) ends (pairAt x u .a) j q (starts m p)
     -- every job of every cycle that is due by "the end of the last frame served", m·f, has run exactly once
     pub due-ran-once : (i j : ℕ) → IsJob (x .tasks) (x .h) i j → (q : ℕ) → dueIn x q i j ≤ plainAfter t calls .m * t .f → runs i j q ≡ 1
     -- no job of any cycle has run twice

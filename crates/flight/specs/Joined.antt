@@ -1,9 +1,9 @@
 -- The flight from what the public calls answer: of a table that the check accepts, and of the one that the planner hands out.
 -- The check accepts exactly the tables that describe a plan, and the planner hands out the table of the chosen plan, which describes it.
-use Prim.Native.Nat.{ℕ, _<_}
-use mathlib.Core.Path.{_≡_, sym, ap, subst, _∙_}
+use Prim.Native.Nat.{ℕ}
+use mathlib.Core.Path.{_≡_, sym, ap}
 use mathlib.Core.Logic.{⊎-elim}
-use mathlib.Core.List.{List, _++_}
+use mathlib.Core.List.{List}
 use native.Mathlib.Omega.{arith}
 use lib.ListN.{length, take, drop}
 use lib.Seq.{take-append-seam}
@@ -16,13 +16,14 @@ use Rattle.table.specs.declared.Written.{Written}
 use Rattle.model.specs.Plan.{Instance}
 use Rattle.model.specs.Within.{Within, within-or-not}
 use Rattle.model.specs.Described.{Accepted}
-use Rattle.planner.specs.Outcome.{outcome, answer, buffer}
+use Rattle.planned_table.specs.Outcome.{answer, buffer}
+use Rattle.planner.specs.Outcome.{outcome}
 use Rattle.planner.specs.Handed.{HandedOut, table-handed, not-planned}
 use Rattle.checker.specs.Checked.{checkNumber}
 use Rattle.checker.specs.Exactly.{check-exact}
 use Rattle.flight.specs.Calls.{Call}
 use Rattle.flight.specs.Timing.{KeepToC}
-use Rattle.flight.specs.Flight.{frames, Flight}
+use Rattle.flight.specs.Flight.{framesFlown, Flight}
 use Rattle.flight.specs.Theorem.{flight}
 
 -- the request is within the limits, the bytes have the form of a table, and for every list of calls and all actual times from 0 to C the claim
@@ -32,9 +33,10 @@ pub record Flies (requestBytes tableBytes : List ℕ) : Type 0 where
   pub within : Within requestBytes x
   pub t : Table
   pub says : SaysTable tableBytes t
-  pub flies : (calls : List Call) (actual : ℕ → ℕ → ℕ) → KeepToC x (frames tableBytes calls) actual → Flight x tableBytes t calls actual
+  pub flies : (calls : List Call) (actual : ℕ → ℕ → ℕ) → KeepToC x (framesFlown tableBytes calls) actual → Flight x tableBytes t calls actual
 
-accepted-flies : (requestBytes tableBytes : List ℕ) (x : Instance) → Within requestBytes x → (t : Table) → SaysTable tableBytes t → Accepted x t → Flies requestBytes tableBytes
+accepted-flies : (requestBytes tableBytes : List ℕ) (x : Instance) → Within requestBytes x → (t : Table) → SaysTable tableBytes t → Accepted x t
+    → Flies requestBytes tableBytes
 accepted-flies requestBytes tableBytes x within t says accepted =
     record { x = x; within = within; t = t; says = says; flies = flight requestBytes tableBytes x t within (says-decodes tableBytes t says) accepted }
 
@@ -56,7 +58,8 @@ module _ (requestBytes out : List ℕ) where
         (sym (take-append-seam (encode (h .t)) (drop (length (encode (h .t))) out)))
 
   pub planned-flight : answer (outcome requestBytes) out .refusal ≡ 0 → Flies requestBytes handedBytes
-  planned-flight e = ⊎-elim (λ w. there (w .0) (w .1) (table-handed requestBytes out (w .0) (w .1) .chosen-one e)) (λ w. refused (w .0) (w .1)) (within-or-not requestBytes)
+  planned-flight e =
+      ⊎-elim (λ w. there (w .0) (w .1) (table-handed requestBytes out (w .0) (w .1) .chosen-one e)) (λ w. refused (w .0) (w .1)) (within-or-not requestBytes)
     where
       there : (x : Instance) → Within requestBytes x → HandedOut x requestBytes out → Flies requestBytes handedBytes
       there x within h =

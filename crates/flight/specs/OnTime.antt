@@ -11,15 +11,16 @@ use Rattle.request.specs.Readable.{PairKept}
 use Rattle.cycle.specs.Cycle.{jobsIn}
 use Rattle.table.specs.Table.{Entry, Table, rowOf}
 use Rattle.table.specs.WellFormed.{RisingFrom}
-use Rattle.table.specs.AnswerLaws.{row-rises}
+use Rattle.table.specs.RisingLaws.{row-rises}
 use Rattle.search.specs.Placing.{row-sum}
 use Rattle.model.specs.Plan.{Instance, taskAt, pairAt, jobAt, slot, costs, frameAt, IsPlan}
 use Rattle.model.specs.PlanLaws.{costs-length, cost-at}
 use Rattle.model.specs.Good.{Good, PlaceOf}
 use Rattle.model.specs.Described.{Among, entryFor, Describes}
-use Rattle.flight.specs.Calls.{height, frameOf}
-use Rattle.flight.specs.Timing.{noEntry, entryAt, Served, KeepToC, start, finish, releasedIn, dueIn, late, Starts, StandsForSome, EndedBy}
-use Rattle.flight.specs.Rows.{among-at, PlaceIn, place-in, rising-before, slotOf, slots, slotsTo, slotsTo-next, slotsTo-le, slots-served, Loaded, slots-le-load, meant}
+use Rattle.flight.specs.Calls.{height, plainFrame}
+use Rattle.flight.specs.Timing.{noEntry, servedAt, Served, KeepToC, start, finish, releasedIn, dueIn, late, Starts, StandsForSome, EndedBy}
+use Rattle.flight.specs.Rows.{among-at, PlaceIn, place-in, rising-before, slotOf, slots, slotsTo, slotsTo-next, slotsTo-le, slots-served}
+use Rattle.flight.specs.Rows.{EntryLoad, slots-le-load, meant}
 use Rattle.flight.specs.Serving.{place-of-job, job-of-place, job-there, some-row, whole, height-is, row-is, frame-rising, its-place, its-frame}
 use Rattle.flight.specs.Serving.{stands-for-some, served-then, stands-then}
 
@@ -55,18 +56,18 @@ module _ (x : Instance) (g : Good x) (t : Table) (frames : List ℕ) (v : IsPlan
   row-fits : (r : ℕ) → r < height t → slots x (rowOf t r) ≤ t .f
   unfolding entryFor
   row-fits r h =
-      let all : slots x (rowOf t r) ≤ row-sum (height t) (costs (x .tasks) (x .jobs)) frames r =
-      slots-le-load x (λ y. jobAt x y .task) (height t) frames r 0 (rowOf t r) (costs (x .tasks) (x .jobs)) (row-rises t r (d .form)) there in
+      let all : slots x (rowOf t r) ≤ row-sum (height t) (costs x) frames r =
+      slots-le-load x (λ y. jobAt x y .task) (height t) frames r 0 (rowOf t r) (costs x) (row-rises t r (d .form)) there in
       let tall = height-is x g t frames v d in
-      let room : row-sum (height t) (costs (x .tasks) (x .jobs)) frames r ≤ t .f = rw tall at (v .capacity r (rw tall h)) in
+      let room : row-sum (height t) (costs x) frames r ≤ t .f = rw tall at (v .capacity r (rw tall h)) in
       omega arith
     where
-      there : (e : Entry) → Among e (rowOf t r) → Loaded x (λ y. jobAt x y .task) (height t) (costs (x .tasks) (x .jobs)) frames r e
+      there : (e : Entry) → Among e (rowOf t r) → EntryLoad x (λ y. jobAt x y .task) (height t) (costs x) frames r e
       there e m =
           let (y, s) = d .only r h e m in
           record {
             y = y;
-            within = rw (costs-length (x .tasks) (x .jobs)) (s .within);
+            within = rw (costs-length x) (s .within);
             framed = rw (v .all) (s .within);
             in-row = sym (row-is x g t frames v d y) ∙ s .in-row;
             its-task = ap (λ (z : Entry). z .task) (sym (s .is-entry));
@@ -74,33 +75,33 @@ module _ (x : Instance) (g : Good x) (t : Table) (frames : List ℕ) (v : IsPlan
           }
 
   -- the frames flown, and the actual times
-  module _ (actual : ℕ → ℕ → ℕ) (fr : List (List Entry)) (is : (m : ℕ) → m < length fr → getD fr m [] ≡ frameOf t m) (keep : KeepToC x fr actual) where
+  module _ (actual : ℕ → ℕ → ℕ) (fr : List (List Entry)) (is : (m : ℕ) → m < length fr → getD fr m [] ≡ plainFrame t m) (keep : KeepToC x fr actual) where
     -- even with its whole C, an entry ends in its frame
-    pub room : (m p : ℕ) → Served fr m p → start (t .f) actual m p + taskAt x (entryAt fr m p .task) .c ≤ (m + 1) * t .f
+    pub room : (m p : ℕ) → Served fr m p → start (t .f) actual m p + taskAt x (servedAt fr m p .task) .c ≤ (m + 1) * t .f
     room m p s =
         let es : List Entry = getD fr m [] in
         let fits : (o : ℕ) → o < length es → actual m o ≤ slotOf x (getD es o noEntry) =
-        λ o h. omega (arith, keep m o (record { frame-flown = s .frame-flown; place-filled = h }), c-fits x (entryAt fr m o .task)) in
+        λ o h. omega (arith, keep m o (record { frame-flown = s .frame-flown; place-filled = h }), c-fits x (servedAt fr m o .task)) in
         let before : start (t .f) actual m p ≤ m * t .f + slotsTo x es p = start-le x (t .f) actual m es fits p (omega (arith, s .place-filled)) in
         let fewer : slots x es ≤ slots x (rowOf t (m % height t)) = rw (is m (s .frame-flown)) (slots-served x (ltb m (height t)) (rowOf t (m % height t))) in
         omega (
           arith,
-          c-fits x (entryAt fr m p .task),
+          c-fits x (servedAt fr m p .task),
           slotsTo-next x es p (s .place-filled),
           slotsTo-le x es (suc p),
           row-fits (m % height t) (mod-lt m (some-row x g t frames v d)),
         )
 
-    among-frame : (m p : ℕ) → Served fr m p → Among (entryAt fr m p) (frameOf t m)
-    among-frame m p s = subst (λ (es : List Entry). Among (entryAt fr m p) es) (is m (s .frame-flown)) (among-at (getD fr m []) p (s .place-filled))
+    among-frame : (m p : ℕ) → Served fr m p → Among (servedAt fr m p) (plainFrame t m)
+    among-frame m p s = subst (λ (es : List Entry). Among (servedAt fr m p) es) (is m (s .frame-flown)) (among-at (getD fr m []) p (s .place-filled))
 
     module _ (i j q m p : ℕ) (s : Starts (height t) fr i j q m p) where
       pub started-place : PlaceOf x i j
-      started-place = its-place x g t frames v d m i j q (entryAt fr m p) (among-frame m p (s .served-there)) (s .stands)
+      started-place = its-place x g t frames v d m i j q (servedAt fr m p) (among-frame m p (s .served-there)) (s .stands)
 
       started-in : m ≡ frameAt frames (started-place .place) + q * height t
       unfolding started-place
-      started-in = its-frame x g t frames v d m i j q (entryAt fr m p) (among-frame m p (s .served-there)) (s .stands)
+      started-in = its-frame x g t frames v d m i j q (servedAt fr m p) (among-frame m p (s .served-there)) (s .stands)
 
       -- that frame's first tick, in ticks of the job's own cycle
       ticks : m * t .f ≡ frameAt frames (started-place .place) * t .f + q * x .h
@@ -110,25 +111,30 @@ module _ (x : Instance) (g : Good x) (t : Table) (frames : List ℕ) (v : IsPlan
           omega arith
 
       pub after-release : releasedIn x q i j ≤ start (t .f) actual m p
-      after-release = omega (arith, ticks, v .not-early (started-place .place) (started-place .within), job-there x g i j started-place .0, frame-begins (t .f) actual m p)
+      after-release =
+          let y = started-place in
+          omega (arith, ticks, v .not-early (y .place) (y .within), job-there x g i j y .0, frame-begins (t .f) actual m p)
 
       -- even with its whole C it ends by its deadline
       pub leaves-time : start (t .f) actual m p + taskAt x i .c ≤ dueIn x q i j
       leaves-time =
-          let its = meant (m / height t) i j q (entryAt fr m p) (s .stands) .task in
-          omega (arith, ticks, rw its at (room m p (s .served-there)), v .not-late (started-place .place) (started-place .within), job-there x g i j started-place .1)
+          let its = meant (m / height t) i j q (servedAt fr m p) (s .stands) .task in
+          let y = started-place in
+          omega (arith, ticks, rw its at (room m p (s .served-there)), v .not-late (y .place) (y .within), job-there x g i j y .1)
 
       pub before-due : finish (t .f) actual m p ≤ dueIn x q i j
       before-due =
-          let its = meant (m / height t) i j q (entryAt fr m p) (s .stands) .task in
+          let its = meant (m / height t) i j q (servedAt fr m p) (s .stands) .task in
           omega (arith, leaves-time, rw its at (keep m p (s .served-there)))
 
     pub some-job : (m p : ℕ) → Served fr m p → StandsForSome x (height t) fr m p
     some-job m p s =
-        let e : Entry = entryAt fr m p in
+        let e : Entry = servedAt fr m p in
         let q : ℕ = m / height t - late e in
-        let starts : Starts (height t) fr (e .task) (e .number) q m p = record { served-there = s; stands = stands-for-some x g t frames v d m e (among-frame m p s) } in
-        record { i = e .task; j = e .number; q = q; is-job = job-of-place x g (e .task) (e .number) (started-place (e .task) (e .number) q m p starts); starts = starts }
+        let stands = stands-for-some x g t frames v d m e (among-frame m p s) in
+        let starts : Starts (height t) fr (e .task) (e .number) q m p = record { served-there = s; stands = stands } in
+        let is-job = job-of-place x g (e .task) (e .number) (started-place (e .task) (e .number) q m p starts) in
+        record { i = e .task; j = e .number; q = q; is-job = is-job; starts = starts }
 
     -- job j of the second task of a pair has started
     module _ (u : ℕ) (known : u < length (x .pairs)) (j q m p : ℕ) (s : Starts (height t) fr (pairAt x u .b) j q m p) where
@@ -168,7 +174,7 @@ module _ (x : Instance) (g : Good x) (t : Table) (frames : List ℕ) (v : IsPlan
       first-entry : PlaceIn (entryFor x (t .f) frames (first-place .place)) (getD fr first-frame [])
       first-entry =
           let there = served-then x g t frames v d a j first-place q in
-          rw (is first-frame first-flown) (place-in (entryFor x (t .f) frames (first-place .place)) (frameOf t first-frame) there)
+          rw (is first-frame first-flown) (place-in (entryFor x (t .f) frames (first-place .place)) (plainFrame t first-frame) there)
 
       first-served : Served fr first-frame (first-entry .place)
       first-served = record { frame-flown = first-flown; place-filled = first-entry .filled }
@@ -183,13 +189,19 @@ module _ (x : Instance) (g : Good x) (t : Table) (frames : List ℕ) (v : IsPlan
 
       ended-in-same : first-frame ≡ m → finish (t .f) actual first-frame (first-entry .place) ≤ start (t .f) actual m p
       ended-in-same e =
-          let of-a : entryAt fr first-frame (first-entry .place) .task ≡ a =
-          meant (first-frame / height t) a j q (entryAt fr first-frame (first-entry .place)) (first-starts .stands) .task in
-          let of-b : entryAt fr m p .task ≡ b = meant (m / height t) b j q (entryAt fr m p) (s .stands) .task in
+          let of-a : servedAt fr first-frame (first-entry .place) .task ≡ a =
+          meant (first-frame / height t) a j q (servedAt fr first-frame (first-entry .place)) (first-starts .stands) .task in
+          let of-b : servedAt fr m p .task ≡ b = meant (m / height t) b j q (servedAt fr m p) (s .stands) .task in
           let rises : RisingFrom 0 (getD fr m []) = rw (is m (s .served-there .frame-flown)) (frame-rising x g t frames v d m) in
-          let lower : entryAt fr m (first-entry .place) .task < entryAt fr m p .task = omega (arith, rw e at of-a, of-b, pair .rises) in
-          let before : first-entry .place < p = rising-before 0 (getD fr m []) (first-entry .place) p rises (rw e at (first-entry .filled)) (s .served-there .place-filled) lower in
+          let lower : servedAt fr m (first-entry .place) .task < servedAt fr m p .task = omega (arith, rw e at of-a, of-b, pair .rises) in
+          let before : first-entry .place < p =
+          rising-before 0 (getD fr m []) (first-entry .place) p rises (rw e at (first-entry .filled)) (s .served-there .place-filled) lower in
           rw e (one-by-one (t .f) actual m (first-entry .place) p before)
 
       pub ended : EndedBy (height t) fr (finish (t .f) actual) a j q (start (t .f) actual m p)
-      ended = record { m = first-frame; p = first-entry .place; started = first-starts; ended = ⊎-elim ended-in-same ended-in-earlier (eq-or-lt-of-le first-not-after) }
+      ended = record {
+        m = first-frame;
+        p = first-entry .place;
+        started = first-starts;
+        ended = ⊎-elim ended-in-same ended-in-earlier (eq-or-lt-of-le first-not-after);
+      }

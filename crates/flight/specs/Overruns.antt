@@ -6,13 +6,12 @@ use Prim.Native.Nat.{ℕ, _+_, _≤_, min}
 use native.Mathlib.Omega.{arith}
 use lib.ListN.{length}
 use lib.Dec.{ltb}
-use Rattle.cursor.specs.Choice.{pick}
+use Rattle.cursor.specs.Choice.{pick, bit}
 use Rattle.request.specs.Request.{Reading, readable, unreadable, reading}
 use Rattle.table.specs.Table.{Table}
-use Rattle.dispatcher.specs.Dispatch.{exceeds, raised}
+use Rattle.dispatcher.specs.Dispatch.{exceeds}
 use Rattle.dispatcher.specs.ReportLaws.{raised-is}
-use Rattle.flight.specs.Calls.{Call, next-frame, report, Turn, number, Plain, begin, heard, plainly, final}
-use Rattle.flight.specs.Timing.{bit}
+use Rattle.flight.specs.Calls.{Call, next-frame, report, Plain, begin, oneServed, oneHeard, plainTurn, heard, plainly, final}
 use Rattle.flight.specs.Flight.{plainAfter}
 
 -- 1 for an accepted report above C
@@ -33,13 +32,8 @@ unfolding heard overrun
 heard-counts (unreadable n) task ticks s h = omega arith
 heard-counts (readable tasks pairs) task ticks s h = go (ltb task (length tasks))
   where
-    accepted : Turn Plain
-    accepted = record { answer = number 0; after = record { m = s .m; v = raised (exceeds tasks task ticks) (s .v) } }
-
-    unknown : Turn Plain
-    unknown = record { answer = number 16; after = s }
-
-    go : (b : Bool) → pick b accepted unknown .after .v ≡ min 65535 (s .v + pick b (bit (exceeds tasks task ticks)) 0)
+    go : (b : Bool) → pick b (plainTurn 0 (oneHeard (exceeds tasks task ticks) s)) (plainTurn 16 s) .after .v
+        ≡ min 65535 (s .v + pick b (bit (exceeds tasks task ticks)) 0)
     go true = raised-is (exceeds tasks task ticks) (s .v) h
     go false = omega arith
 
@@ -47,7 +41,7 @@ module _ (t : Table) where
   count-from : (s : Plain) (cs : List Call) → s .v ≤ 65535 → final (plainly t) s cs .v ≡ min 65535 (s .v + overruns cs)
   unfolding final plainly overruns
   count-from s [] h = omega arith
-  count-from s (next-frame ∷ cs) h = count-from (record { m = s .m + 1; v = s .v }) cs h ∙ ap (min 65535) (omega arith)
+  count-from s (next-frame ∷ cs) h = count-from (oneServed s) cs h ∙ ap (min 65535) (omega arith)
   count-from s (report bytes task ticks ∷ cs) h =
       let w = heard-counts (reading bytes) task ticks s h in
       let rest = count-from (heard (reading bytes) task ticks s .after) cs (omega arith) in

@@ -1,7 +1,7 @@
 -- Laws of rows: what is left when carried entries are left out, places, the time that entries take, and how often a job stands in a rising row.
 use mathlib.Core.Path.{_≡_, refl, sym, ap, _∙_}
 use mathlib.Core.Bool.{Bool, true, false}
-use mathlib.Core.Logic.{inl, inr, _≢_}
+use mathlib.Core.Logic.{inl, inr, ⊎-elim, _≢_}
 use mathlib.Core.List.{List, [], _∷_}
 use Prim.Native.Nat.{ℕ, zero, suc, _+_, _%_, _≤_, _<_}
 use native.Mathlib.Omega.{arith}
@@ -9,14 +9,17 @@ use lib.ListN.{length, getD, set, length-set}
 use lib.Seq.{getD-set-other}
 use lib.Dec.{eqb}
 use borrow.Author.Tests.{eqb-true, eq-eqb}
+use Rattle.cursor.specs.Choice.{bit}
 use Rattle.cursor.specs.ParsedLaws.{both-true}
 use Rattle.table.specs.Table.{Entry}
 use Rattle.table.specs.WellFormed.{RisingFrom}
+use Rattle.table.specs.RisingLaws.{rising-first}
 use Rattle.search.specs.Placing.{row-sum}
 use Rattle.model.specs.Plan.{Instance, taskAt, slot}
 use Rattle.model.specs.Described.{Among}
-use Rattle.dispatcher.specs.Dispatch.{unlessCarried, uncarried, served}
-use Rattle.flight.specs.Timing.{noEntry, late, standsFor, bit, runsIn}
+use Rattle.dispatcher.specs.Dispatch.{uncarried, served}
+use Rattle.dispatcher.specs.FrameLaws.{uncarried-none, uncarried-kept, uncarried-passed}
+use Rattle.flight.specs.Timing.{noEntry, late, standsFor, runsIn}
 
 pub not-both : {A : Type 0} (b : Bool) → b ≡ true → b ≡ false → A
 not-both b p q = absurd (let z : _≡_ {A = ℕ} 0 1 = cc in omega arith)
@@ -24,17 +27,12 @@ not-both b p q = absurd (let z : _≡_ {A = ℕ} 0 1 = cc in omega arith)
 -- Leaving carried entries out
 
 among-uncarried : (e : Entry) (es : List Entry) → Among e es → e .carried ≡ false → Among e (uncarried es)
-unfolding uncarried
-among-uncarried e (x ∷ xs) (inl q) n = go (x .carried) (ap (λ (y : Entry). y .carried) (sym q) ∙ n)
+among-uncarried e (x ∷ xs) (inl q) n = rw (uncarried-kept x xs (ap (λ (y : Entry). y .carried) (sym q) ∙ n)) (inl q)
+among-uncarried e (x ∷ xs) (inr m) n = go (x .carried) refl (among-uncarried e xs m n)
   where
-    go : (b : Bool) → b ≡ false → Among e (unlessCarried b x (uncarried xs))
-    go true w = not-both true refl w
-    go false w = inl q
-among-uncarried e (x ∷ xs) (inr m) n = go (x .carried) (among-uncarried e xs m n)
-  where
-    go : (b : Bool) → Among e (uncarried xs) → Among e (unlessCarried b x (uncarried xs))
-    go true w = w
-    go false w = inr w
+    go : (b : Bool) → x .carried ≡ b → Among e (uncarried xs) → Among e (uncarried (x ∷ xs))
+    go true q w = rw (uncarried-passed x xs q) w
+    go false q w = rw (uncarried-kept x xs q) (inr w)
 
 -- e is one of the entries, and is not carried
 pub record AmongUncarried (e : Entry) (es : List Entry) : Type 0 where
@@ -42,16 +40,16 @@ pub record AmongUncarried (e : Entry) (es : List Entry) : Type 0 where
   pub not-carried : e .carried ≡ false
 
 uncarried-among : (e : Entry) (es : List Entry) → Among e (uncarried es) → AmongUncarried e es
-unfolding uncarried
-uncarried-among e (x ∷ xs) m = go (x .carried) refl m (uncarried-among e xs)
+uncarried-among e [] m = absurd (rw uncarried-none at m)
+uncarried-among e (x ∷ xs) m = go (x .carried) refl (uncarried-among e xs)
   where
     further : AmongUncarried e xs → AmongUncarried e (x ∷ xs)
     further w = record { among = inr (w .among); not-carried = w .not-carried }
 
-    go : (b : Bool) → x .carried ≡ b → Among e (unlessCarried b x (uncarried xs)) → (Among e (uncarried xs) → AmongUncarried e xs) → AmongUncarried e (x ∷ xs)
-    go true q w ih = further (ih w)
-    go false q (inl w) ih = record { among = inl w; not-carried = ap (λ (y : Entry). y .carried) w ∙ q }
-    go false q (inr w) ih = further (ih w)
+    go : (b : Bool) → x .carried ≡ b → (Among e (uncarried xs) → AmongUncarried e xs) → AmongUncarried e (x ∷ xs)
+    go true q ih = further (ih (rw (uncarried-passed x xs q) at m))
+    go false q ih =
+        ⊎-elim (λ w. record { among = inl w; not-carried = ap (λ (y : Entry). y .carried) w ∙ q }) (λ w. further (ih w)) (rw (uncarried-kept x xs q) at m)
 
 pub among-served : (first : Bool) (e : Entry) (es : List Entry) → Among e es → (first ≡ true → e .carried ≡ false) → Among e (served first es)
 among-served true e es m n = among-uncarried e es m (n refl)
@@ -82,10 +80,11 @@ place-in e (x ∷ xs) (inl q) = record { place = 0; filled = omega arith; is = s
 place-in e (x ∷ xs) (inr m) = let w = place-in e xs m in record { place = suc (w .place); filled = omega (arith, w .filled); is = w .is }
 
 rising-at : (low : ℕ) (es : List Entry) (p : ℕ) → RisingFrom low es → p < length es → low ≤ getD es p noEntry .task
-unfolding RisingFrom
 rising-at low [] p r h = absurd (omega arith)
-rising-at low (e ∷ es) zero r h = r .0
-rising-at low (e ∷ es) (suc p) r h = omega (arith, r .0, rising-at (e .task + 1) es p (r .3) (omega arith))
+rising-at low (e ∷ es) zero r h = rising-first low e es r .above
+rising-at low (e ∷ es) (suc p) r h =
+    let w = rising-first low e es r in
+    omega (arith, w .above, rising-at (e .task + 1) es p (w .rest) (omega arith))
 
 pub rising-among : (low : ℕ) (es : List Entry) → RisingFrom low es → (e : Entry) → Among e es → low ≤ e .task
 rising-among low es r e m =
@@ -95,12 +94,12 @@ rising-among low es r e m =
 -- a lower task number stands before
 pub rising-before : (low : ℕ) (es : List Entry) (p q : ℕ) → RisingFrom low es → p < length es → q < length es
     → getD es p noEntry .task < getD es q noEntry .task → p < q
-unfolding RisingFrom
 rising-before low [] p q r h k l = absurd (omega arith)
 rising-before low (e ∷ es) zero zero r h k l = absurd (omega arith)
 rising-before low (e ∷ es) zero (suc q) r h k l = omega arith
-rising-before low (e ∷ es) (suc p) zero r h k l = absurd (omega (arith, rising-at (e .task + 1) es p (r .3) (omega arith)))
-rising-before low (e ∷ es) (suc p) (suc q) r h k l = omega (arith, rising-before (e .task + 1) es p q (r .3) (omega arith) (omega arith) l)
+rising-before low (e ∷ es) (suc p) zero r h k l = absurd (omega (arith, rising-at (e .task + 1) es p (rising-first low e es r .rest) (omega arith)))
+rising-before low (e ∷ es) (suc p) (suc q) r h k l =
+    omega (arith, rising-before (e .task + 1) es p q (rising-first low e es r .rest) (omega arith) (omega arith) l)
 
 -- The time that entries take
 
@@ -133,13 +132,13 @@ module _ (x : Instance) where
   slotsTo-le (e ∷ es) (suc p) = omega (arith, slotsTo-le es p)
 
   slots-uncarried : (es : List Entry) → slots x (uncarried es) ≤ slots x es
-  unfolding slots uncarried
-  slots-uncarried [] = omega arith
-  slots-uncarried (e ∷ es) = go (e .carried) (slots-uncarried es)
+  unfolding slots
+  slots-uncarried [] = rw uncarried-none (omega arith)
+  slots-uncarried (e ∷ es) = go (e .carried) refl (slots-uncarried es)
     where
-      go : (b : Bool) → slots x (uncarried es) ≤ slots x es → slots x (unlessCarried b e (uncarried es)) ≤ slotOf x e + slots x es
-      go true w = omega arith
-      go false w = omega arith
+      go : (b : Bool) → e .carried ≡ b → slots x (uncarried es) ≤ slots x es → slots x (uncarried (e ∷ es)) ≤ slotOf x e + slots x es
+      go true q w = rw (uncarried-passed e es q) (omega arith)
+      go false q w = rw (uncarried-kept e es q) (omega arith)
 
   pub slots-served : (first : Bool) (es : List Entry) → slots x (served first es) ≤ slots x es
   slots-served true es = slots-uncarried es
@@ -155,7 +154,7 @@ load-without rows (c ∷ cs) (j ∷ ks) r zero h k e = rw (eq-eqb (j % rows) r e
 load-without rows (c ∷ cs) (j ∷ ks) r (suc y) h k e = omega (arith, load-without rows cs ks r y (omega arith) (omega arith) e)
 
 -- the entry's job has place y, in row r, and its time is that of the entry; `task` says of what task the job at a place is
-pub record Loaded (x : Instance) (task : ℕ → ℕ) (rows : ℕ) (cs ks : List ℕ) (r : ℕ) (e : Entry) : Type 0 where
+pub record EntryLoad (x : Instance) (task : ℕ → ℕ) (rows : ℕ) (cs ks : List ℕ) (r : ℕ) (e : Entry) : Type 0 where
   pub y : ℕ
   pub within : y < length cs
   pub framed : y < length ks
@@ -165,19 +164,19 @@ pub record Loaded (x : Instance) (task : ℕ → ℕ) (rows : ℕ) (cs ks : List
 
 -- rising entries of jobs in a row take at most the row's load: take one job after the other out
 pub slots-le-load : (x : Instance) (task : ℕ → ℕ) (rows : ℕ) (ks : List ℕ) (r low : ℕ) (es : List Entry) (cs : List ℕ) → RisingFrom low es
-    → ((e : Entry) → Among e es → Loaded x task rows cs ks r e) → slots x es ≤ row-sum rows cs ks r
-unfolding slots RisingFrom
+    → ((e : Entry) → Among e es → EntryLoad x task rows cs ks r e) → slots x es ≤ row-sum rows cs ks r
+unfolding slots
 slots-le-load x task rows ks r low [] cs rises there = omega arith
 slots-le-load x task rows ks r low (e ∷ es) cs rises there =
-    let here : Loaded x task rows cs ks r e = there e (inl refl) in
+    let here : EntryLoad x task rows cs ks r e = there e (inl refl) in
     let rest : slots x es ≤ row-sum rows (set cs (here .y) 0) ks r =
-    slots-le-load x task rows ks r (e .task + 1) es (set cs (here .y) 0) (rises .3) (λ z m. apart z m (there z (inr m))) in
+    slots-le-load x task rows ks r (e .task + 1) es (set cs (here .y) 0) (rising-first low e es rises .rest) (λ z m. apart z m (there z (inr m))) in
     omega (arith, load-without rows cs ks r (here .y) (here .within) (here .framed) (here .in-row), here .its-cost)
   where
-    apart : (z : Entry) → Among z es → Loaded x task rows cs ks r z → Loaded x task rows (set cs (there e (inl refl) .y) 0) ks r z
+    apart : (z : Entry) → Among z es → EntryLoad x task rows cs ks r z → EntryLoad x task rows (set cs (there e (inl refl) .y) 0) ks r z
     apart z m w =
-        let here : Loaded x task rows cs ks r e = there e (inl refl) in
-        let above : e .task + 1 ≤ z .task = rising-among (e .task + 1) es (rises .3) z m in
+        let here : EntryLoad x task rows cs ks r e = there e (inl refl) in
+        let above : e .task + 1 ≤ z .task = rising-among (e .task + 1) es (rising-first low e es rises .rest) z m in
         let other : w .y ≢ here .y = λ same. let k : task (w .y) ≡ task (here .y) = ap task same in omega (arith, w .its-task, here .its-task) in
         record {
           y = w .y;
@@ -219,13 +218,13 @@ module _ (now i j q : ℕ) where
   above low es r l e m w = omega (arith, meant now i j q e w .task, rising-among low es r e m)
 
   pub runs-once : (low : ℕ) (es : List Entry) → RisingFrom low es → (e : Entry) → Among e es → standsFor now i j q e ≡ true → runsIn now i j q es ≡ 1
-  unfolding runsIn RisingFrom
-  runs-once low (y ∷ ys) r e m w = go (standsFor now i j q y) refl m (λ k. runs-once (y .task + 1) ys (r .3) e k w)
+  unfolding runsIn
+  runs-once low (y ∷ ys) r e m w = go (standsFor now i j q y) refl m (λ k. runs-once (y .task + 1) ys (rising-first low y ys r .rest) e k w)
     where
       go : (b : Bool) → standsFor now i j q y ≡ b → Among e (y ∷ ys) → (Among e ys → runsIn now i j q ys ≡ 1) → bit b + runsIn now i j q ys ≡ 1
       go true v k ih =
           let t : y .task ≡ i = meant now i j q y v .task in
-          let n : runsIn now i j q ys ≡ 0 = runs-none ys (above (y .task + 1) ys (r .3) (omega arith)) in
+          let n : runsIn now i j q ys ≡ 0 = runs-none ys (above (y .task + 1) ys (rising-first low y ys r .rest) (omega arith)) in
           omega arith
       go false v (inl k) ih = not-both (standsFor now i j q y) (ap (standsFor now i j q) (sym k) ∙ w) v
       go false v (inr k) ih = let n : runsIn now i j q ys ≡ 1 = ih k in omega arith

@@ -9,20 +9,22 @@ use native.Mathlib.Omega.{arith}
 use lib.ListN.{length}
 use lib.Dec.{leb, ltb, eqb}
 use borrow.Author.Tests.{leb-true, leb-false, ltb-true, ltb-false, eqb-true, eqb-false, lt-leb}
+use Rattle.cursor.specs.Choice.{bit}
 use Rattle.cycle.specs.Cycle.{jobsIn, jobOf}
 use Rattle.cycle.specs.Planned.{IsJob}
 use Rattle.table.specs.Table.{Entry, Table, rowOf}
 use Rattle.table.specs.WellFormed.{RisingFrom}
-use Rattle.table.specs.AnswerLaws.{row-rises}
+use Rattle.table.specs.RisingLaws.{row-rises}
+use Rattle.table.specs.AnswerLaws.{entries-given}
 use Rattle.model.specs.Plan.{Instance, taskAt, jobAt, rowsAt, frameAt, IsPlan}
 use Rattle.model.specs.PlanLaws.{length-pos}
 use Rattle.model.specs.Disjoint.{row-and-cycle}
 use Rattle.model.specs.Good.{Good, PlaceOf, job-facts, same-place, place-of}
 use Rattle.model.specs.RowLaws.{frame-small}
 use Rattle.model.specs.Described.{Among, rowFor, entryFor, StandsIn, Describes}
-use Rattle.dispatcher.specs.FrameLaws.{served-rises, entries-given}
-use Rattle.flight.specs.Calls.{height, frameOf}
-use Rattle.flight.specs.Timing.{bit, late, standsFor, runsIn, runsFrom}
+use Rattle.dispatcher.specs.FrameLaws.{served-rises}
+use Rattle.flight.specs.Calls.{height, plainFrame}
+use Rattle.flight.specs.Timing.{late, standsFor, runsIn, runsFrom}
 use Rattle.flight.specs.Same.{framesFrom, readOff}
 use Rattle.flight.specs.Rows.{not-both, among-served, served-among, served-uncarried, Meant, meant, means, runs-none, runs-once}
 
@@ -81,18 +83,18 @@ module _ (x : Instance) (g : Good x) (t : Table) (frames : List ℕ) (v : IsPlan
   unfolding entryFor
   late-is y h = rw height-is (carry-is (height t) (frameAt frames y) some-row (rw height-is at (frame-small x g (t .f) frames v y h)))
 
-  pub frame-rising : (m : ℕ) → RisingFrom 0 (frameOf t m)
+  pub frame-rising : (m : ℕ) → RisingFrom 0 (plainFrame t m)
   frame-rising m = served-rises (ltb m (height t)) (rowOf t (m % height t)) (row-rises t (m % height t) (d .form))
 
   -- its entries can be read off its answer
-  pub frame-read-off : (m : ℕ) → readOff (frameOf t m) ≡ frameOf t m
-  frame-read-off m = entries-given (frameOf t m) (frame-rising m)
+  pub frame-read-off : (m : ℕ) → readOff (plainFrame t m) ≡ plainFrame t m
+  frame-read-off m = entries-given (plainFrame t m) (frame-rising m)
 
-  pub frame-planned : (m : ℕ) (e : Entry) → Among e (frameOf t m) → (y : ℕ) × StandsIn x (t .f) frames (m % height t) e y
+  pub frame-planned : (m : ℕ) (e : Entry) → Among e (plainFrame t m) → (y : ℕ) × StandsIn x (t .f) frames (m % height t) e y
   frame-planned m e h = d .only (m % height t) (mod-lt m some-row) e (served-among (ltb m (height t)) e (rowOf t (m % height t)) h)
 
   -- an entry of frame m that stands for a job of some cycle is the job's entry, and the frame is q·F + k
-  module _ (m i j q : ℕ) (e : Entry) (there : Among e (frameOf t m)) (stands : standsFor (m / height t) i j q e ≡ true) where
+  module _ (m i j q : ℕ) (e : Entry) (there : Among e (plainFrame t m)) (stands : standsFor (m / height t) i j q e ≡ true) where
     means-it : Meant (m / height t) i j q e
     means-it = meant (m / height t) i j q e stands
 
@@ -116,7 +118,7 @@ module _ (x : Instance) (g : Good x) (t : Table) (frames : List ℕ) (v : IsPlan
         row-and-cycle (height t) (frameAt frames y) m q some-row .1 (sym row, omega (arith, means-it .cycle))
 
   -- a carried entry is served from the second cycle on, so every entry served stands for its job of some cycle
-  pub stands-for-some : (m : ℕ) (e : Entry) → Among e (frameOf t m) → standsFor (m / height t) (e .task) (e .number) (m / height t - late e) e ≡ true
+  pub stands-for-some : (m : ℕ) (e : Entry) → Among e (plainFrame t m) → standsFor (m / height t) (e .task) (e .number) (m / height t - late e) e ≡ true
   stands-for-some m e h =
       means (m / height t) (e .task) (e .number) (m / height t - late e) e
       (record { task = refl; number = refl; cycle = let w : late e ≤ m / height t = go (e .carried) refl in omega arith })
@@ -142,7 +144,7 @@ module _ (x : Instance) (g : Good x) (t : Table) (frames : List ℕ) (v : IsPlan
     abbrev pub entryThen : Entry
     entryThen = entryFor x (t .f) frames (w .place)
 
-    pub served-then : Among entryThen (frameOf t frameThen)
+    pub served-then : Among entryThen (plainFrame t frameThen)
     unfolding entryFor
     served-then =
         let row : ℕ = frameAt frames (w .place) % height t in
@@ -158,7 +160,7 @@ module _ (x : Instance) (g : Good x) (t : Table) (frames : List ℕ) (v : IsPlan
         means (frameThen / height t) i j q entryThen
         (record { task = w .task; number = w .number; cycle = omega (arith, its-row-and-cycle .1, late-is (w .place) (w .within)) })
 
-    pub served-when : (m : ℕ) (e : Entry) → Among e (frameOf t m) → standsFor (m / height t) i j q e ≡ true → m ≡ frameThen
+    pub served-when : (m : ℕ) (e : Entry) → Among e (plainFrame t m) → standsFor (m / height t) i j q e ≡ true → m ≡ frameThen
     served-when m e there stands =
         let u : PlaceOf x i j = its-place m i j q e there stands in
         let same : u .place ≡ w .place = same-place x g (u .place) (w .place) (u .within) (w .within) (u .task ∙ sym (w .task)) (u .number ∙ sym (w .number)) in
@@ -166,23 +168,23 @@ module _ (x : Instance) (g : Good x) (t : Table) (frames : List ℕ) (v : IsPlan
 
     -- How often it runs in frame m, and in n frames from m on: once if its frame is one of them
 
-    runs-in : (m : ℕ) → runsIn (m / height t) i j q (frameOf t m) + min 1 (m - frameThen) ≡ min 1 (m + 1 - frameThen)
+    runs-in : (m : ℕ) → runsIn (m / height t) i j q (plainFrame t m) + min 1 (m - frameThen) ≡ min 1 (m + 1 - frameThen)
     runs-in m = go (eqb m frameThen) refl
       where
-        go : (b : Bool) → eqb m frameThen ≡ b → runsIn (m / height t) i j q (frameOf t m) + min 1 (m - frameThen) ≡ min 1 (m + 1 - frameThen)
+        go : (b : Bool) → eqb m frameThen ≡ b → runsIn (m / height t) i j q (plainFrame t m) + min 1 (m - frameThen) ≡ min 1 (m + 1 - frameThen)
         go true e =
             let same : m ≡ frameThen = eqb-true _ _ e in
-            let one : runsIn (m / height t) i j q (frameOf t m) ≡ 1 =
-            rw same (runs-once (frameThen / height t) i j q 0 (frameOf t frameThen) (frame-rising frameThen) entryThen served-then stands-then) in
+            let one : runsIn (m / height t) i j q (plainFrame t m) ≡ 1 =
+            rw same (runs-once (frameThen / height t) i j q 0 (plainFrame t frameThen) (frame-rising frameThen) entryThen served-then stands-then) in
             omega arith
         go false e =
             let other : m ≢ frameThen = eqb-false _ _ e in
-            let none : runsIn (m / height t) i j q (frameOf t m) ≡ 0 = runs-none (m / height t) i j q (frameOf t m) (λ e h s. other (served-when m e h s)) in
+            let none : runsIn (m / height t) i j q (plainFrame t m) ≡ 0 = runs-none (m / height t) i j q (plainFrame t m) (λ e h s. other (served-when m e h s)) in
             omega arith
 
     pub runs-from : (n m : ℕ) → runsFrom (height t) i j q m (framesFrom t m n) + min 1 (m - frameThen) ≡ min 1 (m + n - frameThen)
     unfolding runsFrom framesFrom
     runs-from zero m = omega arith
     runs-from (suc n) m =
-        add-chain (runsIn (m / height t) i j q (frameOf t m)) _ _ _ _ (runs-in m) (runs-from n (m + 1))
+        add-chain (runsIn (m / height t) i j q (plainFrame t m)) _ _ _ _ (runs-in m) (runs-from n (m + 1))
         ∙ ap (λ (z : ℕ). min 1 (z - frameThen)) (omega arith)

@@ -13,35 +13,36 @@ use Rattle.model.specs.Good.{Good, PlaceOf}
 use Rattle.model.specs.Answers.{instance-good}
 use Rattle.model.specs.Described.{Describes, Accepted}
 use Rattle.dispatcher.specs.declared.State.{State}
-use Rattle.flight.specs.Calls.{Call, begin, height, frameOf, framesIn}
+use Rattle.flight.specs.Calls.{Call, begin, height, plainFrame, framesShown}
 use Rattle.flight.specs.Timing.{KeepToC, timesRun}
-use Rattle.flight.specs.Flight.{frames, plainAfter, Flight}
+use Rattle.flight.specs.Flight.{framesFlown, plainAfter, Flight}
 use Rattle.flight.specs.Same.{all-answers, final-state, framesFrom, framesFrom-length, framesFrom-at, asked, m-after, frames-served}
 use Rattle.flight.specs.Serving.{place-of-job, job-there, some-row, some-length, whole, frame-read-off, runs-from}
 use Rattle.flight.specs.OnTime.{some-job, after-release, before-due, ended}
 
-module _ (x : Instance) (g : Good x) (bytes : List ℕ) (t : Table) (says : decode bytes ≡ table t) (ks : List ℕ) (v : IsPlan x (t .f) ks) (d : Describes x (t .f) ks t)
-    (calls : List Call) where
-  frames-are : frames bytes calls ≡ framesFrom t 0 (asked calls)
-  frames-are = ap framesIn (all-answers bytes t says (some-row x g t ks v d) calls) ∙ frames-served t (frame-read-off x g t ks v d) begin calls
+module _ (x : Instance) (g : Good x) (bytes : List ℕ) (t : Table) (says : decode bytes ≡ table t)
+    (ks : List ℕ) (v : IsPlan x (t .f) ks) (d : Describes x (t .f) ks t) (calls : List Call) where
+  frames-are : framesFlown bytes calls ≡ framesFrom t 0 (asked calls)
+  frames-are = ap framesShown (all-answers bytes t says (some-row x g t ks v d) calls) ∙ frames-served t (frame-read-off x g t ks v d) begin calls
 
   m-is : plainAfter t calls .m ≡ asked calls
   m-is = m-after t begin calls ∙ zero-add (asked calls)
 
-  frames-length : length (frames bytes calls) ≡ asked calls
+  frames-length : length (framesFlown bytes calls) ≡ asked calls
   frames-length = ap length frames-are ∙ framesFrom-length t 0 (asked calls)
 
-  frame-is : (m : ℕ) → m < length (frames bytes calls) → getD (frames bytes calls) m [] ≡ frameOf t m
+  frame-is : (m : ℕ) → m < length (framesFlown bytes calls) → getD (framesFlown bytes calls) m [] ≡ plainFrame t m
   frame-is m h =
-      ap (λ (l : List (List Entry)). getD l m []) frames-are ∙ framesFrom-at t 0 (asked calls) m (omega (arith, frames-length)) ∙ ap (frameOf t) (zero-add m)
+      ap (λ (l : List (List Entry)). getD l m []) frames-are ∙ framesFrom-at t 0 (asked calls) m (omega (arith, frames-length)) ∙ ap (plainFrame t) (zero-add m)
 
   -- a job of a cycle has run once if its frame was served, and else not at all
-  runs-are : (i j : ℕ) (w : PlaceOf x i j) (q : ℕ) → timesRun (height t) (frames bytes calls) i j q ≡ min 1 (asked calls - (frameAt ks (w .place) + q * height t))
+  runs-are : (i j : ℕ) (w : PlaceOf x i j) (q : ℕ)
+      → timesRun (height t) (framesFlown bytes calls) i j q ≡ min 1 (asked calls - (frameAt ks (w .place) + q * height t))
   runs-are i j w q =
       let r = runs-from x g t ks v d i j w q (asked calls) 0 in
       rw frames-are (omega arith)
 
-  module _ (actual : ℕ → ℕ → ℕ) (keep : KeepToC x (frames bytes calls) actual) where
+  module _ (actual : ℕ → ℕ → ℕ) (keep : KeepToC x (framesFlown bytes calls) actual) where
     flies : Flight x bytes t calls actual
     flies =
         let state = final-state bytes t says (some-row x g t ks v d) calls in
@@ -51,10 +52,10 @@ module _ (x : Instance) (g : Good x) (bytes : List ℕ) (t : Table) (says : deco
           mark-is = ap (λ (s : State). s .first) state;
           count-is = ap (λ (s : State). s .count) state;
           frames-are = frames-length ∙ sym m-is;
-          each-stands = some-job x g t ks v d actual (frames bytes calls) frame-is keep;
-          not-before-release = after-release x g t ks v d actual (frames bytes calls) frame-is keep;
-          by-deadline = before-due x g t ks v d actual (frames bytes calls) frame-is keep;
-          pairs-keep-order = ended x g t ks v d actual (frames bytes calls) frame-is keep;
+          each-stands = some-job x g t ks v d actual (framesFlown bytes calls) frame-is keep;
+          not-before-release = after-release x g t ks v d actual (framesFlown bytes calls) frame-is keep;
+          by-deadline = before-due x g t ks v d actual (framesFlown bytes calls) frame-is keep;
+          pairs-keep-order = ended x g t ks v d actual (framesFlown bytes calls) frame-is keep;
           -- where it is due by the end of the last frame served, its frame was served
           due-ran-once = λ i j is q h.
               let w = place-of-job x g i j is in
@@ -69,7 +70,7 @@ module _ (x : Instance) (g : Good x) (bytes : List ℕ) (t : Table) (says : deco
 -- THE THEOREM: for every request within the limits, every table accepted for it, every list of calls and all actual times from 0 to C.
 pub flight : (requestBytes tableBytes : List ℕ) (x : Instance) (t : Table)
     → cycleOf requestBytes ≡ cycle (x .tasks) (x .pairs) (x .h) (x .jobs) → decode tableBytes ≡ table t → Accepted x t
-    → (calls : List Call) (actual : ℕ → ℕ → ℕ) → KeepToC x (frames tableBytes calls) actual
+    → (calls : List Call) (actual : ℕ → ℕ → ℕ) → KeepToC x (framesFlown tableBytes calls) actual
     → Flight x tableBytes t calls actual
 flight requestBytes tableBytes x t within says a calls actual keep =
     let same : a .f ≡ t .f = sym (a .describes .same-f) in

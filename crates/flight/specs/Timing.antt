@@ -6,7 +6,7 @@ use mathlib.Core.List.{List, [], _∷_}
 use Prim.Native.Nat.{ℕ, zero, suc, _+_, _*_, _/_, _≤_, _<_}
 use lib.ListN.{length, getD}
 use lib.Dec.{eqb}
-use Rattle.cursor.specs.Choice.{pick, both}
+use Rattle.cursor.specs.Choice.{both, bit}
 use Rattle.cycle.specs.Cycle.{jobOf}
 use Rattle.cycle.specs.Planned.{IsJob}
 use Rattle.table.specs.Table.{Entry}
@@ -16,8 +16,8 @@ abbrev pub noEntry : Entry
 noEntry = record { task = 0; number = 0; carried = false }
 
 -- the entry served in frame m at place p
-abbrev pub entryAt : List (List Entry) → ℕ → ℕ → Entry
-entryAt frames m p = getD (getD frames m []) p noEntry
+abbrev pub servedAt : List (List Entry) → ℕ → ℕ → Entry
+servedAt frames m p = getD (getD frames m []) p noEntry
 
 -- an entry was served there
 pub record Served (frames : List (List Entry)) (m p : ℕ) : Type 0 where
@@ -26,7 +26,7 @@ pub record Served (frames : List (List Entry)) (m p : ℕ) : Type 0 where
 
 -- Actual times: `actual m p` for the entry at place p of frame m. "an actual time is any whole number from 0 to C"
 abbrev pub KeepToC : Instance → List (List Entry) → (ℕ → ℕ → ℕ) → Type 0
-KeepToC x frames actual = (m p : ℕ) → Served frames m p → actual m p ≤ taskAt x (entryAt frames m p .task) .c
+KeepToC x frames actual = (m p : ℕ) → Served frames m p → actual m p ≤ taskAt x (servedAt frames m p .task) .c
 
 -- "In frame m (from 0) the first entry served starts at m·f and each next one when the one before ends"
 unfoldable pub start : ℕ → (ℕ → ℕ → ℕ) → ℕ → ℕ → ℕ
@@ -46,9 +46,6 @@ releasedIn x q i j = q * x .h + jobOf (x .tasks) i j .release
 abbrev pub dueIn : Instance → ℕ → ℕ → ℕ → ℕ
 dueIn x q i j = releasedIn x q i j + taskAt x i .d
 
-abbrev pub bit : Bool → ℕ
-bit b = pick b 1 0
-
 -- 1 if carried
 abbrev pub late : Entry → ℕ
 late e = bit (e .carried)
@@ -61,7 +58,7 @@ standsFor now i j q e = both (eqb (e .task) i) (both (eqb (e .number) j) (eqb (q
 -- "A job of a cycle starts with a served entry that stands for it": with that at place p of frame m
 pub record Starts (F : ℕ) (frames : List (List Entry)) (i j q m p : ℕ) : Type 0 where
   pub served-there : Served frames m p
-  pub stands : standsFor (m / F) i j q (entryAt frames m p) ≡ true
+  pub stands : standsFor (m / F) i j q (servedAt frames m p) ≡ true
 
 -- the entry served there stands for some job of the request, of some cycle
 pub record StandsForSome (x : Instance) (F : ℕ) (frames : List (List Entry)) (m p : ℕ) : Type 0 where

@@ -1,12 +1,11 @@
 -- Lists of calls from C: what they answer and leave in the lent buffers, and the plain dispatcher's answers as C would see them.
 use mathlib.Core.Path.{_≡_}
 use mathlib.Core.List.{List, [], _∷_, _++_, map}
-use Prim.Native.Nat.{ℕ, _%_, _≤_}
+use Prim.Native.Nat.{ℕ, _≤_}
 use lib.IntN.{ℤ}
 use lib.ListN.{length, drop}
-use lib.Dec.{ltb}
 use Rattle.table.specs.Table.{Table}
-use Rattle.table.specs.declared.Row.{Row}
+use Rattle.dispatcher.specs.Dispatch.{stateAt}
 use Rattle.dispatcher.specs.declared.State.{State}
 use Rattle.flight.specs.Calls as plain
 use Rattle.flight.specs.Flight.{plainAnswered, plainAfter}
@@ -75,7 +74,7 @@ module _ (t : Table) (state : List ℕ) (calls : List CallInC) where
   abbrev pub plainState : State
   plainState =
       let p = plainAfter t (map fed calls) in
-      record { row = p .m % plain.height t; first = ltb (p .m) (plain.height t); count = p .v }
+      stateAt (plain.height t) (p .m) (p .v)
 
   abbrev pub plainBytes : List ℕ
   plainBytes = stateBytes plainState (zeros 64 ++ drop 64 state)

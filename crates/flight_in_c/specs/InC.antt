@@ -1,18 +1,19 @@
 -- The calls from C are the dispatcher's: each reads the state that the last one wrote, so over every list of calls they see what the dispatcher
 -- answers; and the dispatcher is the plain one, by the flight's theorem.
-use mathlib.Core.Path.{_≡_, refl, sym, ap, ap₂, _∙_}
+use mathlib.Core.Path.{_≡_, refl, sym, ap, _∙_}
 use mathlib.Core.Bool.{Bool, true, false}
 use mathlib.Core.List.{List, [], _∷_, _++_, map}
 use Prim.Native.Nat.{ℕ, _≤_}
 use native.Mathlib.Omega.{arith}
-use lib.ListN.{length, drop, length-append, length-drop, length-replicate}
+use lib.ListN.{length, drop, length-append, length-replicate}
 use lib.Dec.{eqb}
 use borrow.Author.Tests.{le-ltb, eqb-true, eqb-false}
 use Rattle.request.specs.Request.{reading}
-use Rattle.table.specs.Table.{Table, decode}
+use Rattle.table.specs.Table.{decode}
 use Rattle.cursor.specs.Front.{Bytes}
 use Rattle.dispatcher.specs.Dispatch.{freshState, nextFrame, reported}
-use Rattle.dispatcher.specs.StateLaws.{frame-refused-still, report-refused-still}
+use Rattle.dispatcher.specs.FrameLaws.{frame-refused-still}
+use Rattle.dispatcher.specs.ReportLaws.{report-refused-still}
 use Rattle.dispatcher.specs.declared.State.{State}
 use Rattle.checker.specs.Checked.{checkNumber}
 use Rattle.flight.specs.Calls as plain
@@ -23,7 +24,7 @@ use Rattle.bus.specs.State.{stateBytes, zeros}
 use Rattle.bus.specs.Calls.{freshBytes, canServe, frameReply, frameState, frameEntries, reportReply, reportState}
 use Rattle.bus.specs.ReplyLaws.{after-refusal, after-value}
 use Rattle.bus.specs.CallLaws.{fresh-made}
-use Rattle.bus.specs.RoundTrip.{state-length, state-is, state-read, state-over}
+use Rattle.bus.specs.RoundTrip.{state-is, state-read, state-over}
 use Rattle.flight_in_c.specs.CallsInC.{CallInC, next-frame, report, Seen, seen, leaves, allSeen, stateLeft, Lends, AllLend, fed, shownInC, allShown, plainState, SameInC}
 
 -- a call that is refused writes no state, and the dispatcher's state is then the old one

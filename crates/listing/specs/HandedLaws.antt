@@ -8,7 +8,8 @@ use Rattle.request.specs.Request.{reading}
 use Rattle.table.specs.Table.{Decoded, table, decode}
 use Rattle.table.specs.Inverse.{decode-encode}
 use Rattle.table.specs.declared.Written.{Written}
-use Rattle.planner.specs.Outcome.{Outcome, handed, refusal, outcome, answer, buffer}
+use Rattle.planned_table.specs.Outcome.{handed, refusal, answer, buffer}
+use Rattle.planner.specs.Outcome.{outcome}
 use Rattle.planner.specs.TableLaws.{outcome-good, ReadBack, read-back, not-handed}
 use Rattle.listing.specs.Listing.{refusedLine, tableLines, tasksIn, printed, listing}
 use Rattle.listing.specs.Answers.{tableIn}

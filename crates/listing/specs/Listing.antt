@@ -8,7 +8,8 @@ use Rattle.cursor.specs.Choice.{pick}
 use Rattle.request.specs.Request.{Reading, readable, unreadable, reading, noTask}
 use Rattle.request.specs.declared.Task.{Task}
 use Rattle.table.specs.Table.{Entry, Table}
-use Rattle.planner.specs.Outcome.{Outcome, handed, refusal, outcome}
+use Rattle.planned_table.specs.Outcome.{Outcome, handed, refusal}
+use Rattle.planner.specs.Outcome.{outcome}
 use Rattle.text.specs.Text.{ascii, decimalOf}
 
 -- "`refused N`"
@@ -32,13 +33,14 @@ named e = ascii " " ++ decimalOf (e .task) ++ ascii "." ++ decimalOf (e .number)
 unfoldable pub entryText : Entry → List ℕ
 entryText e = named e ++ pick (e .carried) (ascii "+") []
 
-unfoldable pub entriesText : List Entry → List ℕ
-entriesText [] = []
-entriesText (e ∷ es) = entryText e ++ entriesText es
+-- the text of each entry, one behind the other
+unfoldable pub each : (Entry → List ℕ) → List Entry → List ℕ
+each one [] = []
+each one (e ∷ es) = one e ++ each one es
 
 -- "row number, busy ticks (sum of C), then its entries"
 unfoldable pub rowLine : List Task → ℕ → List Entry → List ℕ
-rowLine tasks k es = decimalOf k ++ ascii " " ++ decimalOf (busyTicks tasks es) ++ entriesText es ++ ascii "\n"
+rowLine tasks k es = decimalOf k ++ ascii " " ++ decimalOf (busyTicks tasks es) ++ each entryText es ++ ascii "\n"
 
 -- "a line for each row": the first of them is row k
 unfoldable pub rowLines : List Task → ℕ → List (List Entry) → List ℕ

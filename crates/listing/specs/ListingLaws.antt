@@ -1,6 +1,6 @@
 -- The laws by which the listing of a table is put: a turn of each loop and its end, what the readers of the table and of the request give for it.
-use Prim.Native.Nat.{ℕ, _+_, _-_, _≤_, _<_}
-use mathlib.Core.Path.{_≡_, refl, sym, ap, ap₂, _∙_}
+use Prim.Native.Nat.{ℕ, _+_, _-_, _%_, _≤_, _<_}
+use mathlib.Core.Path.{_≡_, refl, sym, ap, _∙_}
 use mathlib.Core.List.{List, [], _∷_, _++_}
 use native.Mathlib.Numerals.{add-one}
 use native.Mathlib.Omega.{arith}
@@ -12,36 +12,41 @@ use Rattle.request.specs.Readable.{readable-kept}
 use Rattle.request.specs.Answers.{answered}
 use Rattle.request.specs.declared.Task.{Task}
 use Rattle.request.specs.declared.Request.{Request}
-use Rattle.table.specs.Table.{Entry, Decoded, table, malformed, decode, entryOf, rowOf}
+use Rattle.table.specs.Table.{Entry, Table, Decoded, table, malformed, decode, entryOf, rowOf}
 use Rattle.table.specs.Inverse.{decode-wellformed}
-use Rattle.table.specs.Answers.{sizesOf, rowGiven, rowAnswer}
-use Rattle.table.specs.AnswerLaws.{row-answered, row-rises, row-few}
+use Rattle.table.specs.EntryLaws.{task-of-byte, number-of-byte}
+use Rattle.table.specs.RisingLaws.{row-rises, row-few}
+use Rattle.table.specs.Answers.{sizesOf, rowGiven, rowAnswer, entriesAt, entriesSaid}
+use Rattle.table.specs.AnswerLaws.{entries-more, entries-none, entries-given, given-count, row-answered}
 use Rattle.table.specs.declared.Sizes.{Sizes}
 use Rattle.table.specs.declared.Row.{Row}
-use Rattle.dispatcher.specs.Dispatch.{entriesAt, entriesIn}
-use Rattle.dispatcher.specs.FrameLaws.{entries-more, entries-none, entries-given}
-use Rattle.text.specs.Text.{Filled, putAllOf}
+use Rattle.text.specs.Text.{ascii, decimalOf, Filled, putAllOf}
 use Rattle.text.specs.TextLaws.{put-none, put-append}
-use Rattle.listing.specs.Listing.{headLine, busyTicks, entryText, entriesText, rowLine, rowLines, tableLines, tasksIn}
+use Rattle.listing.specs.Listing.{headLine, busyTicks, named, each, rowLine, rowLines, tableLines, tasksIn}
 use Rattle.listing.specs.Answers.{tableIn}
+
+-- the name of an entry, by its two bytes
+pub named-bytes : (task byte : ℕ) → named (entryOf task byte) ≡ ascii " " ++ decimalOf task ++ ascii "." ++ decimalOf (byte % 128)
+unfolding named
+named-bytes task byte = rw (task-of-byte task byte, number-of-byte task byte)
 
 -- A row's entries, in n places
 
 module _ (tasks jobs : List ℕ) (n i : ℕ) where
-  pub entries-turn : (x : Filled) → i < n
-      → putAllOf (putAllOf x (entryText (entryOf (getD tasks i 0) (getD jobs i 0)))) (entriesText (entriesAt tasks jobs (n - (i + 1)) (i + 1)))
-      ≡ putAllOf x (entriesText (entriesAt tasks jobs (n - i) i))
-  unfolding entriesText
-  entries-turn x h = rw (entries-more tasks jobs n i h) (sym (put-append x _ _))
+  pub entries-turn : (one : Entry → List ℕ) (x : Filled) → i < n
+      → putAllOf (putAllOf x (one (entryOf (getD tasks i 0) (getD jobs i 0)))) (each one (entriesAt tasks jobs (n - (i + 1)) (i + 1)))
+      ≡ putAllOf x (each one (entriesAt tasks jobs (n - i) i))
+  unfolding each
+  entries-turn one x h = rw (entries-more tasks jobs n i h) (sym (put-append x _ _))
 
-  pub entries-end : (x : Filled) → n ≤ i → putAllOf x (entriesText (entriesAt tasks jobs (n - i) i)) ≡ x
-  unfolding entriesText
-  entries-end x h = rw (entries-none tasks jobs n i h) (put-none x)
+  pub entries-end : (one : Entry → List ℕ) (x : Filled) → n ≤ i → putAllOf x (each one (entriesAt tasks jobs (n - i) i)) ≡ x
+  unfolding each
+  entries-end one x h = rw (entries-none tasks jobs n i h) (put-none x)
 
   pub busy-turn : (costs : List Task) → i < n
       → getD costs (getD tasks i 0) noTask .c + busyTicks costs (entriesAt tasks jobs (n - (i + 1)) (i + 1)) ≡ busyTicks costs (entriesAt tasks jobs (n - i) i)
-  unfolding busyTicks entryOf
-  busy-turn costs h = rw (entries-more tasks jobs n i h)
+  unfolding busyTicks
+  busy-turn costs h = rw (entries-more tasks jobs n i h, task-of-byte (getD tasks i 0) (getD jobs i 0))
 
   pub busy-end : (costs : List Task) → n ≤ i → busyTicks costs (entriesAt tasks jobs (n - i) i) ≡ 0
   unfolding busyTicks
@@ -61,20 +66,39 @@ module _ (tasks : List Task) (rows : List (List Entry)) (k : ℕ) (x : Filled) w
 -- the reader's row k holds the entries of row k
 pub record RowRead (bytes : List ℕ) (k : ℕ) (row : Row) : Type 0 where
   pub few : row .count ≤ 16
-  pub entries : entriesIn (row .count) (row .tasks) (row .jobs) ≡ rowOf (tableIn (decode bytes)) k
+  pub entries : entriesSaid row ≡ rowOf (tableIn (decode bytes)) k
 
 pub row-read : (bytes : List ℕ) (k : ℕ) (row : Row) → row ≡ rowAnswer k (decode bytes) → k < length (tableIn (decode bytes) .rows) → RowRead bytes k row
-unfolding rowGiven
 row-read bytes k row e h = go (decode bytes) refl h
   where
     go : (d : Decoded) → decode bytes ≡ d → k < length (tableIn d .rows) → RowRead bytes k row
     go (table t) is below =
         let given : row ≡ rowGiven (rowOf t k) = e ∙ row-answered bytes t k is below in
         let form = decode-wellformed bytes t is in
-        record { few = rw given (row-few t k form); entries = rw (given, is) (entries-given (rowOf t k) (row-rises t k form)) }
+        record { few = rw (given, given-count (rowOf t k)) (row-few t k form); entries = rw (given, is) (entries-given (rowOf t k) (row-rises t k form)) }
     go malformed is below = absurd (omega arith)
 
 -- The request's tasks and the table's sizes
+
+-- what the reader says of the sizes
+pub record SizesRead (t : Table) (z : Sizes) : Type 0 where
+  pub f-is : z .f ≡ t .f
+  pub h-is : z .h ≡ t .h
+  pub height-is : z .height ≡ length (t .rows)
+  pub few : length (t .rows) ≤ 256
+
+pub sizes-read : (bytes : List ℕ) (z : Sizes) → z ≡ sizesOf (decode bytes) → SizesRead (tableIn (decode bytes)) z
+unfolding sizesOf
+sizes-read bytes z e = go (decode bytes) refl e
+  where
+    go : (d : Decoded) → decode bytes ≡ d → z ≡ sizesOf d → SizesRead (tableIn d) z
+    go (table t) is q = record {
+      f-is = ap (λ (y : Sizes). y .f) q;
+      h-is = ap (λ (y : Sizes). y .h) q;
+      height-is = ap (λ (y : Sizes). y .height) q;
+      few = decode-wellformed bytes t is .few-rows;
+    }
+    go malformed is q = record { f-is = ap (λ (y : Sizes). y .f) q; h-is = ap (λ (y : Sizes). y .h) q; height-is = ap (λ (y : Sizes). y .height) q; few = omega arith }
 
 -- an array that holds the tasks gives the same lines
 busy-padded : (size : ℕ) (tasks : List Task) (es : List Entry) → busyTicks (padded size noTask tasks) es ≡ busyTicks tasks es
@@ -103,13 +127,7 @@ module _ (bytes : List ℕ) (r : Request) (e : r ≡ answered (reading bytes)) w
       go (readable tasks pairs) is = readable-kept bytes tasks pairs is .few-tasks
       go (unreadable number) is = omega arith
 
-  pub table-lines : (d : Decoded) (z : Sizes) → z ≡ sizesOf d
-      → headLine (z .f) (z .h) (z .height) ++ rowLines (r .tasks) 0 (tableIn d .rows) ≡ tableLines (tasksIn (reading bytes)) (tableIn d)
-  unfolding sizesOf tableLines
-  table-lines (table t) z q = rw (q, tasks-are, rows-padded 16 (tasksIn (reading bytes)) 0 (t .rows))
-  table-lines malformed z q = rw (q, tasks-are, rows-padded 16 (tasksIn (reading bytes)) 0 [])
-
-pub height-is : (d : Decoded) (z : Sizes) → z ≡ sizesOf d → z .height ≡ length (tableIn d .rows)
-unfolding sizesOf
-height-is (table t) z q = ap (λ (y : Sizes). y .height) q
-height-is malformed z q = ap (λ (y : Sizes). y .height) q
+  pub table-lines : (t : Table) (z : Sizes) → SizesRead t z
+      → headLine (z .f) (z .h) (z .height) ++ rowLines (r .tasks) 0 (t .rows) ≡ tableLines (tasksIn (reading bytes)) t
+  unfolding tableLines
+  table-lines t z is = rw (is .f-is, is .h-is, is .height-is, tasks-are, rows-padded 16 (tasksIn (reading bytes)) 0 (t .rows))

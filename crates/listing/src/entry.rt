@@ -1,11 +1,11 @@
-// The name of an entry, which both listings have.
+// The name of an entry, as every listing has it.
 ghost use mathlib.Core.Path.{_≡_};
 ghost use Rattle.table.specs.Table.{entryOf};
 ghost use Rattle.text.specs.Text.{filledTo, putAllOf};
 ghost use Rattle.listing.specs.Listing.{named};
 
 // A space, and the entry's task and job as task.job.
-pub(super) fn put_name(out: &mut [u8], at: usize, task: u8, job: u8) -> usize
+pub fn put_name(out: &mut [u8], at: usize, task: u8, job: u8) -> usize
     ensures { λ r. ⌜ filledTo r (now (out .exit)) ≡ putAllOf (filledTo at (now (out .entry))) (named (entryOf task job)) ⌝ }
 {
     let space = text::put(out, at, b' ');

@@ -1,6 +1,6 @@
 // What the programs print, put as bytes into a lent buffer from its front: as much as there is room for. Bytes behind it keep their old content, and the
 // answer is where it ends.
-mod entry;
+pub mod entry;
 mod rows;
 
 ghost use Rattle.text.specs.Text.{PutIn};
@@ -11,8 +11,8 @@ pub fn refused(number: u8, out: &mut [u8]) -> usize
     ensures { λ r. ⌜ PutIn (refusedLine number) (now (out .entry)) r (now (out .exit)) ⌝ }
 {
     let name = text::put_all(out, 0, b"refused ");
-    let end = text::put_number(out, name, number as u32);
-    text::put(out, end, b'\n')
+    let line = text::put_number(out, name, number as u32);
+    text::put(out, line, b'\n')
 }
 
 // The listing of the request's plan, or the line of its refusal.

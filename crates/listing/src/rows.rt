@@ -5,28 +5,29 @@ use table::Row;
 use table::Sizes;
 ghost use Prim.Native.Nat.{_≤_};
 ghost use mathlib.Core.Path.{_≡_};
+ghost use mathlib.Core.List.{_++_};
 ghost use lib.ListN.{length, getD};
 ghost use Rattle.request.specs.Request.{reading, noTask};
 ghost use Rattle.table.specs.Table.{decode, entryOf};
-ghost use Rattle.dispatcher.specs.Dispatch.{entriesIn};
-ghost use Rattle.text.specs.Text.{ascii, decimalOf, filledTo, putAllOf};
-ghost use Rattle.listing.specs.Listing.{headLine, busyTicks, entryText, entriesText, rowLine, rowLines, tableLines, tasksIn};
+ghost use Rattle.table.specs.Answers.{entriesSaid};
+ghost use Rattle.text.specs.Text.{decimalOf, filledTo, putAllOf};
+ghost use Rattle.listing.specs.Listing.{headLine, busyTicks, entryText, each, rowLine, rowLines, tableLines, tasksIn};
 ghost use Rattle.listing.specs.Answers.{tableIn};
 
 // A carried entry is followed by `+`.
 fn put_entry(out: &mut [u8], at: usize, task: u8, job: u8) -> usize
     ensures { λ r. ⌜ filledTo r (now (out .exit)) ≡ putAllOf (filledTo at (now (out .entry))) (entryText (entryOf task job)) ⌝ }
 {
-    let end = put_name(out, at, task, job);
+    let name = put_name(out, at, task, job);
     if job < 128 {
-        return end;
+        return name;
     }
-    text::put(out, end, b'+')
+    text::put(out, name, b'+')
 }
 
 fn put_entries(out: &mut [u8], at: usize, row: Row) -> usize
     requires { ⌜ row .count ≤ 16 ⌝ }
-    ensures { λ r. ⌜ filledTo r (now (out .exit)) ≡ putAllOf (filledTo at (now (out .entry))) (entriesText (entriesIn (row .count) (row .tasks) (row .jobs))) ⌝ }
+    ensures { λ r. ⌜ filledTo r (now (out .exit)) ≡ putAllOf (filledTo at (now (out .entry))) (each entryText (entriesSaid row)) ⌝ }
 {
     let n = row.count;
     let tasks = row.tasks;
@@ -56,14 +57,14 @@ fn cost(tasks: [Task; 16], task: u8) -> u16
 // The sum of C over the row's entries, carried ones included.
 fn busy(row: Row, tasks: [Task; 16]) -> u32
     requires { ⌜ (row .count ≤ 16) × (length tasks ≡ 16) ⌝ }
-    ensures { λ r. ⌜ r ≡ busyTicks tasks (entriesIn (row .count) (row .tasks) (row .jobs)) ⌝ }
+    ensures { λ r. ⌜ r ≡ busyTicks tasks (entriesSaid row) ⌝ }
 {
     let n = row.count;
-    let named = row.tasks;
+    let entries = row.tasks;
     let mut sum: u32 = 0;
     let mut i: usize = 0;
     while i < n {
-        sum += cost(tasks, named[i]) as u32;
+        sum += cost(tasks, entries[i]) as u32;
         i += 1;
     }
     sum
@@ -71,7 +72,7 @@ fn busy(row: Row, tasks: [Task; 16]) -> u32
 
 fn put_row(out: &mut [u8], at: usize, k: u16, row: Row, tasks: [Task; 16]) -> usize
     requires { ⌜ (row .count ≤ 16) × (length tasks ≡ 16) ⌝ }
-    ensures { λ r. ⌜ filledTo r (now (out .exit)) ≡ putAllOf (filledTo at (now (out .entry))) (rowLine tasks k (entriesIn (row .count) (row .tasks) (row .jobs))) ⌝ }
+    ensures { λ r. ⌜ filledTo r (now (out .exit)) ≡ putAllOf (filledTo at (now (out .entry))) (rowLine tasks k (entriesSaid row)) ⌝ }
 {
     let number = text::put_number(out, at, k as u32);
     let space = text::put(out, number, b' ');
@@ -96,19 +97,19 @@ fn put_rows(out: &mut [u8], at: usize, table: &[u8], height: u16, tasks: [Task; 
 
 // `name` and a size.
 fn put_size(out: &mut [u8], at: usize, name: &[u8], size: u16) -> usize
-    ensures { λ r. ⌜ filledTo r (now (out .exit)) ≡ putAllOf (putAllOf (filledTo at (now (out .entry))) (now (name .entry))) (decimalOf size) ⌝ }
+    ensures { λ r. ⌜ filledTo r (now (out .exit)) ≡ putAllOf (filledTo at (now (out .entry))) (now (name .entry) ++ decimalOf size) ⌝ }
 {
-    let number = text::put_all(out, at, name);
-    text::put_number(out, number, size as u32)
+    let named = text::put_all(out, at, name);
+    text::put_number(out, named, size as u32)
 }
 
 fn put_head(out: &mut [u8], sizes: Sizes) -> usize
     ensures { λ r. ⌜ filledTo r (now (out .exit)) ≡ putAllOf (filledTo 0 (now (out .entry))) (headLine (sizes .f) (sizes .h) (sizes .height)) ⌝ }
 {
-    let cycle = put_size(out, 0, b"frame ", sizes.f);
-    let rows = put_size(out, cycle, b" cycle ", sizes.h);
-    let end = put_size(out, rows, b" rows ", sizes.height);
-    text::put(out, end, b'\n')
+    let frame = put_size(out, 0, b"frame ", sizes.f);
+    let cycle = put_size(out, frame, b" cycle ", sizes.h);
+    let rows = put_size(out, cycle, b" rows ", sizes.height);
+    text::put(out, rows, b'\n')
 }
 
 // The lines of a table, with C as the request has it.
@@ -118,6 +119,6 @@ pub(super) fn put_table(out: &mut [u8], request: &[u8], table: &[u8]) -> usize
     let sizes = table::read::sizes(table);
     let read = request::read(request);
     let tasks = read.tasks;
-    let first = put_head(out, sizes);
-    put_rows(out, first, table, sizes.height, tasks)
+    let head = put_head(out, sizes);
+    put_rows(out, head, table, sizes.height, tasks)
 }

@@ -1,10 +1,10 @@
 -- The cycle of a request, as a function's answer has it, as what is planned.
-use mathlib.Core.Path.{_≡_, refl, ap}
+use mathlib.Core.Path.{_≡_, _∙_}
 use mathlib.Core.List.{List}
 use Prim.Native.Nat.{ℕ, _≤_, min}
 use native.Mathlib.Omega.{arith}
 use lib.ListN.{length}
-use Rattle.cursor.specs.Padded.{padded, firsts, firsts-padded}
+use Rattle.cursor.specs.Padded.{firsts, firsts-length, firsts-padded}
 use Rattle.request.specs.Request.{noTask, noPair}
 use Rattle.request.specs.declared.Task.{Task}
 use Rattle.request.specs.declared.Pair.{Pair}
@@ -24,6 +24,11 @@ instanceOf c = record {
   h = c .h;
   jobs = firsts (min (c .count) 128) noJob (c .jobs);
 }
+
+-- there are as many jobs as the answer says
+pub jobs-counted : (c : Cycle) → c .count ≤ 128 → length (instanceOf c .jobs) ≡ c .count
+unfolding instanceOf
+jobs-counted c few = firsts-length noJob (c .jobs) (min (c .count) 128) ∙ omega arith
 
 abbrev pub instance : List Task → List Pair → ℕ → List Job → Instance
 instance tasks pairs h jobs = record { tasks = tasks; pairs = pairs; h = h; jobs = jobs }

@@ -10,7 +10,7 @@ use Rattle.cycle.specs.declared.Job.{Job}
 use Rattle.search.specs.Search.{Found, none, at}
 use Rattle.search.specs.Best.{Earlier}
 use Rattle.search.specs.Placing.{Problem, plan}
-use Rattle.model.specs.Window.{firstFrame}
+use Rattle.model.specs.Window.{firstFrom}
 use Rattle.model.specs.Plan.{Instance, rowsAt, costs, IsPlan}
 use Rattle.model.specs.Plausible.{plausible}
 use Rattle.model.specs.Links.{linkCounts, linkPlaces}
@@ -18,7 +18,7 @@ use Rattle.model.specs.Links.{linkCounts, linkPlaces}
 -- the frames of length f in a job's window: from the first that begins at its release or later, up to, and without, the first that ends
 -- behind its due time
 unfoldable pub firstFrameOf : ℕ → Job → ℕ
-firstFrameOf f job = firstFrame f (job .release)
+firstFrameOf f job = firstFrom f (job .release)
 
 unfoldable pub endFrameOf : ℕ → Job → ℕ
 endFrameOf f job = job .due / f
@@ -26,7 +26,7 @@ endFrameOf f job = job .due / f
 -- the jobs to be placed in frames of length f
 unfoldable pub problemAt : Instance → ℕ → Problem
 problemAt x f = record {
-  cost = costs (x .tasks) (x .jobs);
+  cost = costs x;
   first = map (firstFrameOf f) (x .jobs);
   end = map (endFrameOf f) (x .jobs);
   counts = linkCounts x;

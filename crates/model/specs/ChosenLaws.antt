@@ -13,6 +13,7 @@ use lib.Seq.{getD-take}
 use lib.Dec.{eqb}
 use borrow.Author.Tests.{eq-eqb, eqb-true}
 use Rattle.cursor.specs.Choice.{pick}
+use Rattle.cursor.specs.ChoiceLaws.{lt-or-ge}
 use Rattle.cursor.specs.ParsedLaws.{never, both-true}
 use Rattle.arith.specs.Residue.{quotient-pos}
 use Rattle.search.specs.Search.{Found, none, at}
@@ -24,7 +25,7 @@ use Rattle.model.specs.Plausible.{plausible}
 use Rattle.model.specs.Chosen.{problemAt, Choice, chosen, noPlan, noPlausible, isTried, foundOr, chooseFrom, choose, IsChosen, NoPlan, RightChoice}
 use Rattle.model.specs.Good.{Good}
 use Rattle.model.specs.PlausibleLaws.{IsPlausible, plausible-says, plausible-needed}
-use Rattle.model.specs.ProblemLaws.{lt-or-ge, placing-is-plan, plan-is-placing, problem-proper}
+use Rattle.model.specs.ProblemLaws.{placing-is-plan, plan-is-placing, problem-proper}
 
 -- the choice, a length at a time
 module _ (x : Instance) where
@@ -90,7 +91,8 @@ module _ (x : Instance) (g : Good x) where
     where
       more : (f : ℕ) → rows ≤ rowsAt x f → plausible x f ≡ true → rows + 1 ≤ rowsAt x f
       more f h p =
-          ⊎-elim (λ q. absurd (never (let t = plausible-tried f p in let u : isTried x (rowsAt x f) ≡ false = rw q at e in cc))) (λ k. omega arith) (eq-or-lt-of-le h)
+          ⊎-elim (λ q. absurd (never (let t = plausible-tried f p in let u : isTried x (rowsAt x f) ≡ false = rw q at e in cc)))
+          (λ k. omega arith) (eq-or-lt-of-le h)
 
   -- a length is tried: what it finds is the choice, and if it finds none, there is none with that length
   module _ (rows : ℕ) (some : Bool) (e : isTried x rows ≡ true) (v : Passed rows some) where
@@ -104,7 +106,8 @@ module _ (x : Instance) (g : Good x) where
     rows-of : rowsAt x f ≡ rows
     rows-of = other-way (x .h) rows f (g .some-time) (dvd-of-mod-eq-zero rows (tried-says rows e .0)) refl
 
-    found : (frames : List ℕ) → IsPlacing (problemAt x f) frames → ((q : List ℕ) → IsPlacing (problemAt x f) q → (frames ≡ q) ⊎ Earlier frames q) → IsChosen x f frames
+    found : (frames : List ℕ) → IsPlacing (problemAt x f) frames → ((q : List ℕ) → IsPlacing (problemAt x f) q → (frames ≡ q) ⊎ Earlier frames q)
+        → IsChosen x f frames
     found frames placing first = record {
       is-plan = placing-is-plan x g f (can .some) (can .divides) (can .few-rows) frames placing;
       first = λ f' frames' p. go f' frames' p (eq-or-lt-of-le (smaller f' frames' p));
@@ -115,19 +118,23 @@ module _ (x : Instance) (g : Good x) where
             let some-row : 0 < rows = rw rows-of at (quotient-pos (x .h) f (g .some-time) (can .divides)) in
             le-div-iff-mul-le some-row .1 (omega (arith, mul-le-mul-right f' (v .plans f' frames' p), div-mul-cancel f' (p .divides)))
 
-        go : (f' : ℕ) (frames' : List ℕ) → IsPlan x f' frames' → (f' ≡ f) ⊎ (f' < f) → (f' < f) ⊎ ((f' ≡ f) × ((frames ≡ frames') ⊎ Earlier frames frames'))
+        go : (f' : ℕ) (frames' : List ℕ) → IsPlan x f' frames' → (f' ≡ f) ⊎ (f' < f)
+            → (f' < f) ⊎ ((f' ≡ f) × ((frames ≡ frames') ⊎ Earlier frames frames'))
         go f' frames' p (inl q) = inr (q, first frames' (plan-is-placing x g f frames' (subst (λ k. IsPlan x k frames') q p)))
         go f' frames' p (inr h) = inl h
 
     not-found : ((q : List ℕ) → IsPlacing (problemAt x f) q → ⊥) → Passed (rows + 1) true
     not-found never-placed = record {
-      plans = λ f' frames p. ⊎-elim (λ q. absurd (never-placed frames (plan-is-placing x g f frames (subst (λ k. IsPlan x k frames) (same f' frames p q) p)))) (λ k. omega arith) (eq-or-lt-of-le (v .plans f' frames p));
+      plans = λ f' frames p. ⊎-elim (λ q. absurd (not-here f' frames p q)) (λ k. omega arith) (eq-or-lt-of-le (v .plans f' frames p));
       lengths = λ q. absurd (never (cc));
       known = λ q. (f, tried-says rows e .1);
     }
       where
         same : (f' : ℕ) (frames : List ℕ) → IsPlan x f' frames → rows ≡ rowsAt x f' → f' ≡ f
         same f' frames p q = sym (other-way (x .h) f' rows (g .some-time) (p .divides) (sym q))
+
+        not-here : (f' : ℕ) (frames : List ℕ) → IsPlan x f' frames → rows ≡ rowsAt x f' → ⊥
+        not-here f' frames p q = never-placed frames (plan-is-placing x g f frames (subst (λ k. IsPlan x k frames) (same f' frames p q) p))
 
   choice-right : (n rows : ℕ) (some : Bool) → rows + n ≡ 257 → Passed rows some → RightChoice x (chooseFrom x n rows some)
   unfolding foundOr Right RightChoice
@@ -144,8 +151,9 @@ module _ (x : Instance) (g : Good x) where
           → ((some' : Bool) → rows + 1 + n ≡ 257 → Passed (rows + 1) some' → RightChoice x (chooseFrom x n (rows + 1) some'))
           → RightChoice x (chooseFrom x (suc n) rows some)
       go true e rest =
+          let here = problemAt x (x .h / rows) in
           rw (choose-tried x n rows some e)
-          (found-or (plan (problemAt x (x .h / rows)) []) e (right (problemAt x (x .h / rows)) (problem-proper x g (x .h / rows) (tried-says rows e .1))) rest)
+          (found-or (plan here []) e (right here (problem-proper x g (x .h / rows) (tried-says rows e .1))) rest)
       go false e rest = rw (choose-skipped x n rows some e) (rest some (omega arith) (skipped rows some e v))
 
 -- THE THEOREM: the choice is right.
@@ -200,19 +208,11 @@ module _ (x : Instance) (g : Good x) where
   -- There is a choice exactly if there is a plan.
   pub some-chosen-exactly : ((f : ℕ) × (frames : List ℕ) × (choose x ≡ chosen f frames)) ↔ ((f : ℕ) × (frames : List ℕ) × IsPlan x f frames)
   unfolding RightChoice
-  some-chosen-exactly = (λ c. (c .0, c .1, chosen-exactly (c .0) (c .1) .0 (c .2) .is-plan), λ p. go (p .0) (p .1) (p .2) (choose x) refl (choose-right x g))
+  some-chosen-exactly =
+      (λ c. (c .0, c .1, chosen-exactly (c .0) (c .1) .0 (c .2) .is-plan), λ p. go (p .0) (p .1) (p .2) (choose x) refl (choose-right x g))
     where
-      go : (f : ℕ) (frames : List ℕ) → IsPlan x f frames → (c : Choice) → choose x ≡ c → RightChoice x c → (f : ℕ) × (frames : List ℕ) × (choose x ≡ chosen f frames)
+      go : (f : ℕ) (frames : List ℕ) → IsPlan x f frames → (c : Choice) → choose x ≡ c → RightChoice x c
+          → (f : ℕ) × (frames : List ℕ) × (choose x ≡ chosen f frames)
       go f frames p (chosen f' frames') e r = (f', frames', e)
       go f frames p noPlan e r = absurd (r .0 f frames p)
       go f frames p noPlausible e r = absurd (r .0 f frames p)
-
-  -- 9 is answered exactly if no length is plausible.
-  pub no-plausible-exactly : (choose x ≡ noPlausible) ↔ ((f : ℕ) → plausible x f ≡ true → ⊥)
-  unfolding RightChoice
-  no-plausible-exactly = (λ e. subst (RightChoice x) e (choose-right x g) .1, λ never-so. go never-so (choose x) refl (choose-right x g))
-    where
-      go : ((f : ℕ) → plausible x f ≡ true → ⊥) → (c : Choice) → choose x ≡ c → RightChoice x c → choose x ≡ noPlausible
-      go never-so (chosen f frames) e r = absurd (never-so f (plausible-needed x g f frames (r .is-plan)))
-      go never-so noPlan e r = absurd (never-so (r .1 .0) (r .1 .1))
-      go never-so noPlausible e r = e

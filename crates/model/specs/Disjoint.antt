@@ -3,9 +3,10 @@
 -- them. One cycle later is H / T jobs and H / f frames later, so two jobs in equal rows become two such numbers with one frame.
 use mathlib.Core.Path.{_≡_, sym, ap, _∙_}
 use mathlib.Core.Logic.{_↔_}
-use Prim.Native.Nat.{ℕ, _+_, _*_, _/_, _%_, _≤_, _<_, _∣_}
+use Prim.Native.Nat.{ℕ, _+_, _*_, _-_, _/_, _%_, _≤_, _<_, _∣_}
 use native.Mathlib.Nat.{
   mod-eq-of-lt,
+  mod-eq-sub-mod,
   div-add-mod',
   div-mul-cancel,
   mul-le-mul-right,
@@ -57,15 +58,7 @@ module _ (H f T D P : ℕ) (pos : 0 < H) (fh : f ∣ H) (th : T ∣ H) where
   pub frame-below : (j k : ℕ) → D ≤ T → P < T → j < H / T → InWindow f (P + j * T) D k → k < 2 * (H / f)
   frame-below j k short phase early w = lt-of-mul-lt-mul-right f (omega (arith, mul-le-mul-right T early, periods-frames H f T fh th, f-pos))
 
-  -- A window never holds a frame and the frame of the same row one cycle later.
-  pub one-frame-of-row : (r k : ℕ) → D ≤ T → InWindow f r D k → InWindow f r D (k + H / f) → ⊥
-  one-frame-of-row r k short w w' = omega (arith, div-mul-cancel f fh, le-of-dvd pos th, f-pos)
-
 -- Frame k stands in row k % F with the carry k / F, which is 0 or 1; q cycles later it is the frame of the same row q cycles later.
-
-pub carry-bit : (F k : ℕ) → 0 < F → k < 2 * F → k / F < 2
-carry-bit F k F-pos below = div-lt-iff-lt-mul F-pos .1 below
-
 pub row-and-cycle : (F k m q : ℕ) → 0 < F → (m ≡ k + q * F) ↔ ((m % F ≡ k % F) × (m / F ≡ k / F + q))
 row-and-cycle F k m q F-pos = (
   λ e. (rw e (add-mul-mod-self-right k q F), rw e (add-mul-div-right k q F-pos)),

@@ -46,7 +46,8 @@ module _ (x : Instance) (g : Good x) where
       record { within = h; here = rw e }
 
   -- a job has one place
-  pub same-place : (y z : ℕ) → y < length (x .jobs) → z < length (x .jobs) → jobAt x y .task ≡ jobAt x z .task → jobAt x y .number ≡ jobAt x z .number → y ≡ z
+  pub same-place : (y z : ℕ) → y < length (x .jobs) → z < length (x .jobs)
+      → jobAt x y .task ≡ jobAt x z .task → jobAt x y .number ≡ jobAt x z .number → y ≡ z
   same-place y z hy hz t n =
       g .in-order .once y z (jobAt x y .task) (jobAt x y .number) (stands-there y hy) (rw (t, n) (stands-there z hz))
 

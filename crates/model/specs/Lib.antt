@@ -5,6 +5,7 @@ pub mod Window
 pub mod Phase
 pub mod Disjoint
 pub mod Good
+pub mod Named
 pub mod Answers
 pub mod PlanLaws
 pub mod PlausibleLaws

@@ -1,28 +1,24 @@
 -- The order of pairs as links between jobs, for the search: a job is linked with the jobs that were placed before it and that a pair
 -- orders before or after it. Link z says that the job at place z must not stand in a later frame, link z + 128 that it must not stand in
 -- an earlier one. A pair's second job may be released first, and so be placed first: hence both kinds.
-use mathlib.Core.Bool.{Bool}
 use mathlib.Core.List.{List, [], _∷_, _++_, map}
 use Prim.Native.Nat.{ℕ, zero, suc, _+_}
 use lib.ListN.{length, getD}
 use lib.Dec.{ltb, eqb}
-use Rattle.cursor.specs.Choice.{pick, both}
+use Rattle.cursor.specs.Choice.{pick}
 use Rattle.cursor.specs.Padded.{padded}
 use Rattle.request.specs.declared.Pair.{Pair}
 use Rattle.cycle.specs.Planned.{noJob}
 use Rattle.cycle.specs.declared.Job.{Job}
+use Rattle.model.specs.Named.{isJob}
 use Rattle.model.specs.Plan.{Instance}
-
--- the job is job j of task i
-unfoldable pub isJob : Job → ℕ → ℕ → Bool
-isJob job i j = both (eqb (job .task) i) (eqb (job .number) j)
 
 -- the first of the n places from z on with job j of task i; the place behind them, if none has it
 unfoldable pub placeFrom : List Job → ℕ → ℕ → ℕ → ℕ → ℕ
 placeFrom jobs i j zero z = z
 placeFrom jobs i j (suc n) z =
     let later = placeFrom jobs i j n (z + 1) in
-    pick (isJob (getD jobs z noJob) i j) z later
+    pick (isJob i j (getD jobs z noJob)) z later
 
 -- the place before y of job j of task i; y, if it has none there
 unfoldable pub placeBefore : List Job → ℕ → ℕ → ℕ → ℕ

@@ -3,16 +3,17 @@
 use mathlib.Core.Path.{_≡_, refl, sym, ap, subst, _∙_}
 use mathlib.Core.Bool.{Bool, true, false}
 use mathlib.Core.Logic.{_⊎_, inl, inr, _≢_}
-use mathlib.Core.List.{List, [], _∷_, _++_, map, append-assoc, append-nil, List·Memᴰ, List·Memᴰ·head, List·Memᴰ·not-nil, List·Memᴰ·eq-of-singleton, List·Memᴰ·append-cases, Memᴰ·append-left, Memᴰ·append-right}
+use mathlib.Core.List.{List, [], _∷_, map, List·Memᴰ, List·Memᴰ·head, List·Memᴰ·not-nil, List·Memᴰ·eq-of-singleton}
+use mathlib.Core.List.{List·Memᴰ·append-cases, Memᴰ·append-left, Memᴰ·append-right}
 use Prim.Native.Nat.{ℕ, zero, suc, _+_, _*_, _≤_, _<_}
 use native.Mathlib.Nat.{zero-add}
 use native.Mathlib.Omega.{arith}
-use lib.ListN.{length, take, getD, length-append, length-map, List·getD-map}
+use lib.ListN.{length, getD, length-append, length-map, List·getD-map}
 use lib.Seq.{take-append-le, drop-append-add}
 use lib.Dec.{ltb, eqb}
 use borrow.Author.Tests.{lt-ltb, le-ltb, ltb-true, eq-eqb, ne-eqb, eqb-true}
 use Rattle.cursor.specs.Choice.{pick}
-use Rattle.cursor.specs.ParsedLaws.{never, both-true}
+use Rattle.cursor.specs.ParsedLaws.{never}
 use Rattle.cursor.specs.Padded.{padded, padded-length, take-padded}
 use Rattle.request.specs.Request.{noPair}
 use Rattle.request.specs.declared.Pair.{Pair}
@@ -20,30 +21,20 @@ use Rattle.cycle.specs.Planned.{noJob}
 use Rattle.cycle.specs.declared.Job.{Job}
 use Rattle.search.specs.Placing.{linksAt, partner, Linked}
 use Rattle.model.specs.Plan.{Instance, pairAt}
-use Rattle.model.specs.Links.{isJob, placeFrom, placeBefore, linkIf, linkBy, linksBy, linksOfJob, linksFrom, allLinks, inPlaces, linkCounts, linkPlaces}
+use Rattle.model.specs.Named.{isJob, Named, job-says, says-job}
+use Rattle.model.specs.Links.{placeFrom, placeBefore, linkIf, linkBy, linksBy, linksOfJob, linksFrom, allLinks, inPlaces, linkCounts, linkPlaces}
 
 -- the job at place z is job j of task i
-pub record HasJob (jobs : List Job) (z i j : ℕ) : Type 0 where
-  pub task : getD jobs z noJob .task ≡ i
-  pub number : getD jobs z noJob .number ≡ j
+abbrev pub HasJob : List Job → ℕ → ℕ → ℕ → Type 0
+HasJob jobs z i j = Named i j (getD jobs z noJob)
 
 module _ (jobs : List Job) (i j : ℕ) where
-  is-job : (z : ℕ) → isJob (getD jobs z noJob) i j ≡ true → HasJob jobs z i j
-  unfolding isJob
-  is-job z e =
-      let b = both-true (eqb (getD jobs z noJob .task) i) _ e in
-      record { task = eqb-true _ i (b .0); number = eqb-true _ j (b .1) }
-
-  job-is : (z : ℕ) → HasJob jobs z i j → isJob (getD jobs z noJob) i j ≡ true
-  unfolding isJob
-  job-is z v = rw (eq-eqb (getD jobs z noJob .task) i (v .task)) (eq-eqb (getD jobs z noJob .number) j (v .number))
-
   -- the scan, a place at a time
-  pub place-here : (n z : ℕ) → isJob (getD jobs z noJob) i j ≡ true → placeFrom jobs i j (suc n) z ≡ z
+  pub place-here : (n z : ℕ) → isJob i j (getD jobs z noJob) ≡ true → placeFrom jobs i j (suc n) z ≡ z
   unfolding placeFrom
   place-here n z e = rw e
 
-  pub place-later : (n z : ℕ) → isJob (getD jobs z noJob) i j ≡ false → placeFrom jobs i j (suc n) z ≡ placeFrom jobs i j n (z + 1)
+  pub place-later : (n z : ℕ) → isJob i j (getD jobs z noJob) ≡ false → placeFrom jobs i j (suc n) z ≡ placeFrom jobs i j n (z + 1)
   unfolding placeFrom
   place-later n z e = rw e
 
@@ -51,23 +42,23 @@ module _ (jobs : List Job) (i j : ℕ) where
   place-has : (n z : ℕ) → placeFrom jobs i j n z < z + n → HasJob jobs (placeFrom jobs i j n z) i j
   unfolding placeFrom
   place-has zero z h = absurd (omega arith)
-  place-has (suc n) z h = go (isJob (getD jobs z noJob) i j) refl (place-has n (z + 1))
+  place-has (suc n) z h = go (isJob i j (getD jobs z noJob)) refl (place-has n (z + 1))
     where
-      go : (b : Bool) → isJob (getD jobs z noJob) i j ≡ b → (placeFrom jobs i j n (z + 1) < z + 1 + n → HasJob jobs (placeFrom jobs i j n (z + 1)) i j)
+      go : (b : Bool) → isJob i j (getD jobs z noJob) ≡ b → (placeFrom jobs i j n (z + 1) < z + 1 + n → HasJob jobs (placeFrom jobs i j n (z + 1)) i j)
           → HasJob jobs (placeFrom jobs i j (suc n) z) i j
-      go true e rest = rw (place-here n z e) (is-job z e)
+      go true e rest = rw (place-here n z e) (job-says i j (getD jobs z noJob) e)
       go false e rest = rw (place-later n z e) (rest (omega (arith, place-later n z e)))
 
   -- it goes past no place that has the job
   place-le : (n z w : ℕ) → z ≤ w → w < z + n → HasJob jobs w i j → placeFrom jobs i j n z ≤ w
   place-le zero z w a b v = absurd (omega arith)
-  place-le (suc n) z w a b v = go (isJob (getD jobs z noJob) i j) refl (place-le n (z + 1) w)
+  place-le (suc n) z w a b v = go (isJob i j (getD jobs z noJob)) refl (place-le n (z + 1) w)
     where
-      go : (t : Bool) → isJob (getD jobs z noJob) i j ≡ t → (z + 1 ≤ w → w < z + 1 + n → HasJob jobs w i j → placeFrom jobs i j n (z + 1) ≤ w)
+      go : (t : Bool) → isJob i j (getD jobs z noJob) ≡ t → (z + 1 ≤ w → w < z + 1 + n → HasJob jobs w i j → placeFrom jobs i j n (z + 1) ≤ w)
           → placeFrom jobs i j (suc n) z ≤ w
       go true e rest = rw (place-here n z e) a
       go false e rest =
-          let other : z ≢ w = λ q. never (let t = job-is w v in let u : isJob (getD jobs w noJob) i j ≡ false = rw q at e in cc) in
+          let other : z ≢ w = λ q. never (let t = says-job i j (getD jobs w noJob) v in let u : isJob i j (getD jobs w noJob) ≡ false = rw q at e in cc) in
           rw (place-later n z e) (rest (omega arith) (omega arith) v)
 
   place-before-has : (y : ℕ) → placeBefore jobs y i j < y → HasJob jobs (placeBefore jobs y i j) i j
@@ -85,7 +76,8 @@ module _ (jobs : List Job) (i j : ℕ) where
 -- second, if y has its first
 pub data LinkBy (jobs : List Job) (y : ℕ) (pair : Pair) (l : ℕ) : Type 0 where
   to-first : l < y → getD jobs y noJob .task ≡ pair .b → HasJob jobs l (pair .a) (getD jobs y noJob .number) → LinkBy jobs y pair l
-  to-second : (z : ℕ) → l ≡ z + 128 → z < y → getD jobs y noJob .task ≡ pair .a → HasJob jobs z (pair .b) (getD jobs y noJob .number) → LinkBy jobs y pair l
+  to-second : (z : ℕ) → l ≡ z + 128 → z < y → getD jobs y noJob .task ≡ pair .a → HasJob jobs z (pair .b) (getD jobs y noJob .number)
+      → LinkBy jobs y pair l
 
 in-link-if : (y z link l : ℕ) → List·Memᴰ l (linkIf y z link) → (z < y) × (l ≡ link)
 unfolding linkIf
@@ -122,7 +114,8 @@ module _ (jobs : List Job) (y : ℕ) (pair : Pair) where
   unfolding linkBy
   in-link-by l m = go (eqb (job .task) (pair .b)) refl (eqb (job .task) (pair .a)) refl m
     where
-      go : (s : Bool) → eqb (job .task) (pair .b) ≡ s → (t : Bool) → eqb (job .task) (pair .a) ≡ t → List·Memᴰ l (pick s (linkIf y first first) (pick t (linkIf y second (second + 128)) [])) → LinkBy jobs y pair l
+      go : (s : Bool) → eqb (job .task) (pair .b) ≡ s → (t : Bool) → eqb (job .task) (pair .a) ≡ t
+          → List·Memᴰ l (pick s (linkIf y first first) (pick t (linkIf y second (second + 128)) [])) → LinkBy jobs y pair l
       go true e t q m =
           let v = in-link-if y first first l m in
           to-first (omega (arith, v .0, v .1)) (eqb-true _ _ e) (rw (← v .1) at (place-before-has jobs (pair .a) (job .number) y (v .0)))
@@ -159,21 +152,14 @@ module _ (jobs : List Job) (y : ℕ) where
   links-by-few [] = omega arith
   links-by-few (pair ∷ pairs) = omega (arith, length-append (linkBy jobs y pair) (linksBy jobs y pairs), link-by-few jobs y pair, links-by-few pairs)
 
-  -- a pair at a time
-  pub links-next : (pairs : List Pair) (u : ℕ) → u < length pairs → linksBy jobs y (take (suc u) pairs) ≡ linksBy jobs y (take u pairs) ++ linkBy jobs y (getD pairs u noPair)
-  unfolding linksBy
-  links-next [] u h = absurd (omega arith)
-  links-next (pair ∷ pairs) zero h = append-nil (linkBy jobs y pair)
-  links-next (pair ∷ pairs) (suc u) h =
-      ap (λ l. linkBy jobs y pair ++ l) (links-next pairs u (omega arith)) ∙ sym (append-assoc (linkBy jobs y pair) _ _)
-
   links-by : (pairs : List Pair) (u l : ℕ) → u < length pairs → List·Memᴰ l (linkBy jobs y (getD pairs u noPair)) → List·Memᴰ l (linksBy jobs y pairs)
   unfolding linksBy
   links-by [] u l h m = absurd (omega arith)
   links-by (pair ∷ pairs) zero l h m = Memᴰ·append-left _ m
   links-by (pair ∷ pairs) (suc u) l h m = Memᴰ·append-right (linkBy jobs y pair) (links-by pairs u l (omega arith) m)
 
-  in-links-by : (pairs : List Pair) (l : ℕ) → List·Memᴰ l (linksBy jobs y pairs) → (u : ℕ) × (u < length pairs) × List·Memᴰ l (linkBy jobs y (getD pairs u noPair))
+  in-links-by : (pairs : List Pair) (l : ℕ) → List·Memᴰ l (linksBy jobs y pairs)
+      → (u : ℕ) × (u < length pairs) × List·Memᴰ l (linkBy jobs y (getD pairs u noPair))
   unfolding linksBy
   in-links-by [] l m = absurd (List·Memᴰ·not-nil m)
   in-links-by (pair ∷ pairs) l m = go (List·Memᴰ·append-cases (linkBy jobs y pair) m) (in-links-by pairs l)

@@ -2,21 +2,17 @@
 -- A window that opens at r holds one exactly if 2·f ≤ D + since f r. Over the releases, since f r is never below since g P, g = gcd f T,
 -- for g divides f and T; and by the residue law one release has exactly that. Hence the rule 2·f ≤ D + since g P.
 use mathlib.Core.Path.{_≡_, refl, sym, ap, _∙_}
-use mathlib.Core.Logic.{_↔_, _⊎_, inl, inr}
+use mathlib.Core.Logic.{_↔_}
 use Prim.Native.Nat.{ℕ, _+_, _*_, _-_, _/_, _%_, _≤_, _<_, _∣_}
-use native.Mathlib.Nat.{mod-lt, mod-le, mod-mod, mod-mod-of-dvd, dvd-of-mod-eq-zero, div-mul-cancel, le-of-dvd, pos-of-dvd-of-pos, eq-zero-or-pos}
+use native.Mathlib.Nat.{mod-lt, mod-le, mod-mod, mod-mod-of-dvd, dvd-of-mod-eq-zero, div-mul-cancel, le-of-dvd, pos-of-dvd-of-pos}
 use native.Mathlib.Omega.{arith}
 use Rattle.arith.specs.Gcd.{gcdOf, gcdSteps, gcd-dvd}
 use Rattle.arith.specs.Residue.{congruent, residues-reached}
-use Rattle.model.specs.Window.{InWindow, since, since-is, since-le, since-multiple, since-other, window-holds}
+use Rattle.model.specs.Window.{InWindow, since, since-is, since-le, window-holds}
 
 -- every job of the task has a whole frame in its window
 abbrev pub EveryWindowHolds : ℕ → ℕ → ℕ → ℕ → ℕ → Type 0
 EveryWindowHolds H f T D P = (j : ℕ) → j < H / T → (k : ℕ) × InWindow f (P + j * T) D k
-
--- the frame test that knows the phase
-abbrev pub PhaseRule : ℕ → ℕ → ℕ → ℕ → Type 0
-PhaseRule f T D P = ((P % gcdOf f T ≡ 0) × (2 * f ≤ D + gcdOf f T)) ⊎ ((0 < P % gcdOf f T) × (2 * f ≤ D + P % gcdOf f T))
 
 -- for the residue modulo g it is the same to go back one from a multiple f of g as from g
 back-one : (g f m : ℕ) → 0 < f → g ∣ f → (m + (f - 1)) % g ≡ (m + (g - 1)) % g
@@ -63,19 +59,7 @@ module _ (H f T D P : ℕ) (pos : 0 < H) (fh : f ∣ H) (th : T ∣ H) where
   pub plausible-necessary : EveryWindowHolds H f T D P → 2 * f ≤ D + gcdOf f T
   plausible-necessary all = omega (arith, windows-hold .0 all, since-le (gcdOf f T) P g-pos)
 
-  -- The frame test that knows the phase is exact.
-  pub phase-rule-exact : EveryWindowHolds H f T D P ↔ PhaseRule f T D P
-  phase-rule-exact = (λ all. rule (windows-hold .0 all) (eq-zero-or-pos (P % gcdOf f T)), λ r. windows-hold .1 (enough r))
-    where
-      rule : 2 * f ≤ D + since (gcdOf f T) P → (P % gcdOf f T ≡ 0) ⊎ (0 < P % gcdOf f T) → PhaseRule f T D P
-      rule le (inl e) = inl (e, rw since-multiple at le)
-      rule le (inr h) = inr (h, rw since-other at le)
-
-      enough : PhaseRule f T D P → 2 * f ≤ D + since (gcdOf f T) P
-      enough (inl (e, le)) = rw since-multiple le
-      enough (inr (h, le)) = rw since-other le
-
--- Plausible is not enough: for the task (1,10,5,2) of P8 the length 5 is plausible, and yet a window holds no frame.
+-- "and not enough for one, even by windows alone, once phases count": for the task (1,10,5,2) of P8 the length 5 is plausible, and yet a window holds no frame.
 pub plausible-not-enough : (2 * 5 ≤ 5 + gcdOf 5 10) × (¬ EveryWindowHolds 10 5 10 5 2)
 unfolding gcdOf gcdSteps since
 plausible-not-enough = (

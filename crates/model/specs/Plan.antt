@@ -39,8 +39,8 @@ unfoldable pub costOf : List Task → Job → ℕ
 costOf tasks job = slot (getD tasks (job .task) noTask)
 
 -- that of each job
-unfoldable pub costs : List Task → List Job → List ℕ
-costs tasks jobs = map (costOf tasks) jobs
+unfoldable pub costs : Instance → List ℕ
+costs x = map (costOf (x .tasks)) (x .jobs)
 
 -- the frame of the job at place y
 abbrev pub frameAt : List ℕ → ℕ → ℕ
@@ -62,5 +62,5 @@ pub record IsPlan (x : Instance) (f : ℕ) (frames : List ℕ) : Type 0 where
   pub not-early : (y : ℕ) → y < length (x .jobs) → jobAt x y .release ≤ frameAt frames y * f
   pub not-late : (y : ℕ) → y < length (x .jobs) → (frameAt frames y + 1) * f ≤ jobAt x y .due
   -- "Capacity: the C of the jobs in a row, carried ones included, add up to at most f." A job stands in row k mod F.
-  pub capacity : (r : ℕ) → r < rowsAt x f → row-sum (rowsAt x f) (costs (x .tasks) (x .jobs)) frames r ≤ f
+  pub capacity : (r : ℕ) → r < rowsAt x f → row-sum (rowsAt x f) (costs x) frames r ≤ f
   pub order : PairsKept x frames

@@ -1,33 +1,26 @@
 -- What a plan says of a job: its frame lies in its window, and its transfer fits into a row.
 use mathlib.Core.Path.{_≡_, refl}
-use mathlib.Core.List.{List, [], _∷_, map}
+use mathlib.Core.List.{List, [], _∷_}
 use Prim.Native.Nat.{ℕ, zero, suc, _+_, _*_, _%_, _≤_, _<_}
 use native.Mathlib.Nat.{mod-lt, pos-of-dvd-of-pos}
 use native.Mathlib.Omega.{arith}
 use lib.ListN.{length, getD, length-map}
 use borrow.Author.Tests.{eq-eqb}
 use Rattle.arith.specs.Residue.{quotient-pos}
-use Rattle.request.specs.declared.Task.{Task}
+use Rattle.cursor.specs.Padded.{map-at}
 use Rattle.cycle.specs.Planned.{noJob}
-use Rattle.cycle.specs.declared.Job.{Job}
 use Rattle.search.specs.Placing.{row-sum}
 use Rattle.model.specs.Window.{InWindow}
 use Rattle.model.specs.Plan.{Instance, taskAt, jobAt, rowsAt, slot, costOf, costs, frameAt, IsPlan}
 use Rattle.model.specs.Good.{Good, JobFacts, job-facts, PlaceOf, first-job}
 
--- what a list has for the job at place y
-pub map-at : (value : Job → ℕ) (jobs : List Job) (y : ℕ) → y < length jobs → getD (map value jobs) y 0 ≡ value (getD jobs y noJob)
-map-at value [] y h = absurd (omega arith)
-map-at value (job ∷ jobs) zero h = refl
-map-at value (job ∷ jobs) (suc y) h = map-at value jobs y (omega arith)
-
-pub costs-length : (tasks : List Task) (jobs : List Job) → length (costs tasks jobs) ≡ length jobs
+pub costs-length : (x : Instance) → length (costs x) ≡ length (x .jobs)
 unfolding costs
-costs-length tasks jobs = length-map jobs (costOf tasks)
+costs-length x = length-map (x .jobs) (costOf (x .tasks))
 
-pub cost-at : (x : Instance) (y : ℕ) → y < length (x .jobs) → getD (costs (x .tasks) (x .jobs)) y 0 ≡ slot (taskAt x (jobAt x y .task))
+pub cost-at : (x : Instance) (y : ℕ) → y < length (x .jobs) → getD (costs x) y 0 ≡ slot (taskAt x (jobAt x y .task))
 unfolding costs costOf
-cost-at x y h = map-at (costOf (x .tasks)) (x .jobs) y h
+cost-at x y h = map-at (costOf (x .tasks)) 0 noJob (x .jobs) y h
 
 -- the load of a job's row has the job in it
 row-sum-has : (rows : ℕ) (cs ks : List ℕ) (y : ℕ) → y < length cs → y < length ks → getD cs y 0 ≤ row-sum rows cs ks (getD ks y 0 % rows)
@@ -55,11 +48,11 @@ module _ (x : Instance) (g : Good x) (f : ℕ) (frames : List ℕ) (v : IsPlan x
   slot-fits i known =
       let there : PlaceOf x i 0 = first-job x g i known in
       let y : ℕ = there .place in
-      let cost : getD (costs (x .tasks) (x .jobs)) y 0 ≡ slot (taskAt x i) = rw (there .task) at (cost-at x y (there .within)) in
+      let cost : getD (costs x) y 0 ≡ slot (taskAt x i) = rw (there .task) at (cost-at x y (there .within)) in
       let r : ℕ = frameAt frames y % rowsAt x f in
       omega (
         arith,
         cost,
-        row-sum-has (rowsAt x f) (costs (x .tasks) (x .jobs)) frames y (omega (arith, costs-length (x .tasks) (x .jobs), there .within)) (omega (arith, v .all, there .within)),
+        row-sum-has (rowsAt x f) (costs x) frames y (omega (arith, costs-length x, there .within)) (omega (arith, v .all, there .within)),
         v .capacity r (mod-lt (frameAt frames y) rows-pos),
       )

@@ -1,29 +1,24 @@
--- The table of a plan describes it, no other table does, and it describes no other plan; and how long it is.
+-- The table of a plan describes it, and no other table does; and how long it is.
 -- A row of it has the jobs of the row by task, and rises, since no row holds a task twice. Two rows that rise and have the same entries are
--- equal. A job's row and carry give its frame, since that is below 2F.
-use mathlib.Core.Path.{_≡_, refl, sym, ap, subst, _∙_}
-use mathlib.Core.Bool.{Bool, true, false}
+-- equal.
+use mathlib.Core.Path.{_≡_, refl, sym, ap, _∙_}
 use mathlib.Core.Logic.{inl, inr, ⊎-elim}
-use mathlib.Core.List.{List, [], _∷_, map, flatMap, List·Memᴰ}
+use mathlib.Core.List.{List, [], _∷_, map, List·Memᴰ}
 use mathlib.Core.List.List·Memᴰ.{List·Memᴰ·head, List·Memᴰ·tail}
-use Prim.Native.Nat.{ℕ, zero, suc, _+_, _*_, _-_, _%_, _≤_, _<_}
-use native.Mathlib.Nat.{mod-lt, mod-eq-of-lt, mod-eq-sub-mod, div-mul-cancel, eq-of-mul-eq-mul-right, add-zero}
+use Prim.Native.Nat.{ℕ, zero, suc, _+_, _*_, _-_, _≤_, _<_}
+use native.Mathlib.Nat.{mod-lt, div-mul-cancel, eq-of-mul-eq-mul-right, add-zero}
 use native.Mathlib.Omega.{arith}
 use lib.ListN.{length, getD, length-append, length-map}
 use lib.Seq.{ext-getD}
-use lib.Dec.{leb}
-use borrow.Author.Tests.{leb-true, leb-false}
-use Rattle.cursor.specs.Choice.{pick}
-use Rattle.cursor.specs.Fields.{wordBytes}
 use Rattle.cycle.specs.OrderLaws.{All, all-implies, Pairwise}
-use Rattle.table.specs.Table.{Entry, Table, rowOf, rowBytes, rowsBytes, headBytes, encode}
+use Rattle.table.specs.Table.{Entry, Table, rowOf, encode}
 use Rattle.table.specs.WellFormed.{RisingFrom, AllRising}
-use Rattle.table.specs.AnswerLaws.{row-rises}
-use Rattle.table.specs.WriteLaws.{entries-length}
+use Rattle.table.specs.RisingLaws.{row-rises}
+use Rattle.table.specs.LengthLaws.{entryCount, encode-length}
 use Rattle.model.specs.Plan.{Instance, jobAt, rowsAt, frameAt, IsPlan}
-use Rattle.model.specs.Good.{Good, job-facts, same-place}
+use Rattle.model.specs.Good.{Good, job-facts}
 use Rattle.model.specs.PlanLaws.{length-pos, rows-pos}
-use Rattle.model.specs.RowLaws.{frame-small, task-once}
+use Rattle.model.specs.RowLaws.{task-once}
 use Rattle.model.specs.Described.{Among, rowFor, entryFor, StandsIn, Describes, placesByTask, placesIn, planRows, planTable}
 use Rattle.model.specs.Places.{
   up-rises,
@@ -110,7 +105,8 @@ module _ (x : Instance) (g : Good x) (f : ℕ) (frames : List ℕ) (v : IsPlan x
   here : (r : ℕ) → All (Here r) (placesIn (rowFor x f frames) r (placesByTask x))
   here r = all-picked (rowFor x f frames) (Inside x) r (placesByTask x) (places-within x)
 
-  rising-map : (r low : ℕ) (l : List ℕ) → All (Here r) l → All (λ y. low ≤ jobAt x y .task) l → Pairwise Less l → RisingFrom low (map (entryFor x f frames) l)
+  rising-map : (r low : ℕ) (l : List ℕ) → All (Here r) l → All (λ y. low ≤ jobAt x y .task) l → Pairwise Less l
+      → RisingFrom low (map (entryFor x f frames) l)
   unfolding RisingFrom entryFor
   rising-map r low [] h above less = tt
   rising-map r low (y ∷ l) h above less = (
@@ -151,10 +147,13 @@ module _ (x : Instance) (g : Good x) (f : ℕ) (frames : List ℕ) (v : IsPlan x
     };
     same-f = refl;
     same-h = refl;
-    each = λ y h. rw (plan-row x f frames (rowFor x f frames y) (row-below y)) (among-map (entryFor x f frames) (picked (rowFor x f frames) (places-have x g y h)));
+    each = λ y h.
+        rw (plan-row x f frames (rowFor x f frames y) (row-below y))
+        (among-map (entryFor x f frames) (picked (rowFor x f frames) (places-have x g y h)));
     only = λ r h e m.
         let low : r < rowsAt x f = rw (plan-height x f frames) at h in
-        let (y, q, s) = of-map (entryFor x f frames) (Here r) (placesIn (rowFor x f frames) r (placesByTask x)) (here r) e (rw (plan-row x f frames r low) at m) in
+        let places : List ℕ = placesIn (rowFor x f frames) r (placesByTask x) in
+        let (y, q, s) = of-map (entryFor x f frames) (Here r) places (here r) e (rw (plan-row x f frames r low) at m) in
         (y, record { within = q .0; in-row = q .1; is-entry = s });
   }
 
@@ -164,17 +163,21 @@ rising-above : (e : Entry) (low : ℕ) (es : List Entry) → RisingFrom low es �
 unfolding RisingFrom
 rising-above e low [] h m = absurd m
 rising-above e low (a ∷ es) h m =
-    ⊎-elim (λ q. let same : e .task ≡ a .task = ap (λ b. b .task) q in omega (arith, h .0)) (λ m. omega (arith, h .0, rising-above e (a .task + 1) es (h .3) m)) m
+    ⊎-elim (λ q. let same : e .task ≡ a .task = ap (λ b. b .task) q in omega (arith, h .0))
+    (λ m. omega (arith, h .0, rising-above e (a .task + 1) es (h .3) m)) m
 
-rising-same : (low low' : ℕ) (es es' : List Entry) → RisingFrom low es → RisingFrom low' es' → ((e : Entry) → Among e es → Among e es') → ((e : Entry) → Among e es' → Among e es) → es ≡ es'
+rising-same : (low low' : ℕ) (es es' : List Entry) → RisingFrom low es → RisingFrom low' es'
+    → ((e : Entry) → Among e es → Among e es') → ((e : Entry) → Among e es' → Among e es) → es ≡ es'
 unfolding RisingFrom
 rising-same low low' [] [] h h' to from = refl
 rising-same low low' [] (a' ∷ es') h h' to from = absurd (from a' (inl refl))
 rising-same low low' (a ∷ es) [] h h' to from = absurd (to a (inl refl))
 rising-same low low' (a ∷ es) (a' ∷ es') h h' to from =
     let first : a ≡ a' = heads (to a (inl refl)) (from a' (inl refl)) in
-    let to-rest : (e : Entry) → Among e es → Among e es' = λ e m. behind e a a' es' (rising-above e (a .task + 1) es (h .3) m) first (to e (inr m)) in
-    let from-rest : (e : Entry) → Among e es' → Among e es = λ e m. behind e a' a es (rising-above e (a' .task + 1) es' (h' .3) m) (sym first) (from e (inr m)) in
+    let to-rest : (e : Entry) → Among e es → Among e es'
+    = λ e m. behind e a a' es' (rising-above e (a .task + 1) es (h .3) m) first (to e (inr m)) in
+    let from-rest : (e : Entry) → Among e es' → Among e es
+    = λ e m. behind e a' a es (rising-above e (a' .task + 1) es' (h' .3) m) (sym first) (from e (inr m)) in
     rw (first, rising-same (a .task + 1) (a' .task + 1) es es' (h .3) (h' .3) to-rest from-rest)
   where
     heads : Among a (a' ∷ es') → Among a' (a ∷ es) → a ≡ a'
@@ -192,7 +195,8 @@ module _ (x : Instance) (g : Good x) (f : ℕ) (frames : List ℕ) (v : IsPlan x
       eq-of-mul-eq-mul-right f (length-pos x g f frames v) (length (t .rows)) (rowsAt x f)
       (omega (arith, ap (λ z. length (t .rows) * z) (d .same-f), d .form .whole, d .same-h, div-mul-cancel f (v .divides)))
 
-  entries-shared : (t t' : Table) → Describes x f frames t → Describes x f frames t' → (r : ℕ) → r < rowsAt x f → (e : Entry) → Among e (rowOf t r) → Among e (rowOf t' r)
+  entries-shared : (t t' : Table) → Describes x f frames t → Describes x f frames t' → (r : ℕ) → r < rowsAt x f
+      → (e : Entry) → Among e (rowOf t r) → Among e (rowOf t' r)
   entries-shared t t' d d' r h e m = let (y, stands) = d .only r (rw (described-height t d) h) e m in there y stands
     where
       there : (y : ℕ) → StandsIn x f frames r e y → Among e (rowOf t' r)
@@ -205,7 +209,8 @@ module _ (x : Instance) (g : Good x) (f : ℕ) (frames : List ℕ) (v : IsPlan x
     where
       same-row : (r : ℕ) → r < rowsAt x f → rowOf t r ≡ rowOf t' r
       same-row r h =
-          rising-same 0 0 (rowOf t r) (rowOf t' r) (row-rises t r (d .form)) (row-rises t' r (d' .form)) (entries-shared t t' d d' r h) (entries-shared t' t d' d r h)
+          rising-same 0 0 (rowOf t r) (rowOf t' r) (row-rises t r (d .form)) (row-rises t' r (d' .form))
+          (entries-shared t t' d d' r h) (entries-shared t' t d' d r h)
 
       same : t .f ≡ t' .f → t .h ≡ t' .h → t .rows ≡ t' .rows → t ≡ t'
       same p q r = λ i. record { f = p i; h = q i; rows = r i }
@@ -214,76 +219,19 @@ module _ (x : Instance) (g : Good x) (f : ℕ) (frames : List ℕ) (v : IsPlan x
   pub describes-is : (t : Table) → Describes x f frames t → t ≡ planTable x f frames
   describes-is t d = described-once t (planTable x f frames) d (plan-table-describes x g f frames v (omega (arith, d .form .few-ticks, d .same-h)))
 
-  -- Row and carry give the frame.
-  pub frame-of-entry : (y : ℕ) → y < length (x .jobs) → frameAt frames y ≡ rowFor x f frames y + pick (entryFor x f frames y .carried) (rowsAt x f) 0
-  unfolding rowFor entryFor
-  frame-of-entry y h = go (leb (rowsAt x f) (frameAt frames y)) refl
-    where
-      go : (t : Bool) → leb (rowsAt x f) (frameAt frames y) ≡ t → frameAt frames y ≡ frameAt frames y % rowsAt x f + pick t (rowsAt x f) 0
-      go true e =
-          let late : rowsAt x f ≤ frameAt frames y = leb-true (rowsAt x f) (frameAt frames y) e in
-          let row : frameAt frames y % rowsAt x f ≡ frameAt frames y - rowsAt x f = mod-eq-sub-mod late ∙ mod-eq-of-lt (omega (arith, frame-small x g f frames v y h)) in
-          omega arith
-      go false e = omega (arith, mod-eq-of-lt (leb-false (rowsAt x f) (frameAt frames y) e))
-
--- A table describes one plan at most.
-module _ (x : Instance) (g : Good x) where
-  same-frame : (f : ℕ) (frames frames' : List ℕ) → IsPlan x f frames → IsPlan x f frames' → (t : Table) → Describes x f frames t → Describes x f frames' t
-      → (y : ℕ) → y < length (x .jobs) → frameAt frames y ≡ frameAt frames' y
-  unfolding entryFor
-  same-frame f frames frames' v v' t d d' y h =
-      let low : rowFor x f frames y < length (t .rows) = rw (described-height x g f frames v t d) (row-below x g f frames v y) in
-      let (z, stands) = d' .only (rowFor x f frames y) low (entryFor x f frames y) (d .each y h) in
-      there z stands
-    where
-      there : (z : ℕ) → StandsIn x f frames' (rowFor x f frames y) (entryFor x f frames y) z → frameAt frames y ≡ frameAt frames' y
-      there z s =
-          let place : y ≡ z = same-place x g y z h (s .within) (ap (λ e. e .task) (s .is-entry)) (ap (λ e. e .number) (s .is-entry)) in
-          let carry : entryFor x f frames y .carried ≡ entryFor x f frames' z .carried = ap (λ e. e .carried) (s .is-entry) in
-          let frame : frameAt frames y ≡ frameAt frames' z = omega (
-            arith,
-            frame-of-entry x g f frames v y h,
-            frame-of-entry x g f frames' v' z (s .within),
-            s .in-row,
-            ap (λ b. pick b (rowsAt x f) 0) carry,
-          ) in
-          frame ∙ ap (frameAt frames') (sym place)
-
-  pub plan-of-table : (f f' : ℕ) (frames frames' : List ℕ) → IsPlan x f frames → IsPlan x f' frames' → (t : Table)
-      → Describes x f frames t → Describes x f' frames' t → (f ≡ f') × (frames ≡ frames')
-  plan-of-table f f' frames frames' v v' t d d' =
-      let same : f' ≡ f = sym (d' .same-f) ∙ d .same-f in
-      let w : IsPlan x f frames' = subst (λ k. IsPlan x k frames') same v' in
-      let e : Describes x f frames' t = subst (λ k. Describes x k frames' t) same d' in
-      (sym same, ext-getD 0 frames frames' (v .all ∙ sym (v' .all)) (λ y h. same-frame f frames frames' v w t d e y (omega (arith, v .all))))
-
 -- "7 + F + 2·(number of jobs) bytes"
-
--- the entries in all rows
-unfoldable pub entriesIn : List (List Entry) → ℕ
-entriesIn [] = 0
-entriesIn (es ∷ rows) = length es + entriesIn rows
-
-rows-length : (rows : List (List Entry)) → length (rowsBytes rows) ≡ length rows + 2 * entriesIn rows
-unfolding flatMap rowBytes entriesIn
-rows-length [] = refl
-rows-length (es ∷ rows) = omega (arith, length-append (rowBytes es) (rowsBytes rows), entries-length es, rows-length rows)
-
-pub encode-length : (t : Table) → length (encode t) ≡ 7 + length (t .rows) + 2 * entriesIn (t .rows)
-unfolding encode headBytes wordBytes
-encode-length t = omega (arith, rows-length (t .rows))
 
 module _ (x : Instance) (f : ℕ) (frames : List ℕ) where
   -- the rows hold the places, row by row
-  rows-hold : (n r : ℕ) → entriesIn (planRows x f frames n r) ≡ length (spread (rowFor x f frames) (placesByTask x) n r)
-  unfolding entriesIn planRows
+  rows-hold : (n r : ℕ) → entryCount (planRows x f frames n r) ≡ length (spread (rowFor x f frames) (placesByTask x) n r)
+  unfolding entryCount planRows
   rows-hold zero r = refl
   rows-hold (suc n) r =
       let here : List ℕ = placesIn (rowFor x f frames) r (placesByTask x) in
       omega (arith, length-map here (entryFor x f frames), length-append here (spread (rowFor x f frames) (placesByTask x) n (r + 1)), rows-hold n (r + 1))
 
 module _ (x : Instance) (g : Good x) (f : ℕ) (frames : List ℕ) (v : IsPlan x f frames) where
-  pub plan-entries : entriesIn (planTable x f frames .rows) ≡ length (x .jobs)
+  pub plan-entries : entryCount (planTable x f frames .rows) ≡ length (x .jobs)
   unfolding planTable
   plan-entries =
       rows-hold x f frames (rowsAt x f) 0

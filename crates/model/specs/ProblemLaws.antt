@@ -1,16 +1,17 @@
 -- The problem that the search is given at a length f is the plan's: its placings are the plans with that length, and it is proper where f
 -- is plausible. Windows agree frame by frame; each pair is kept exactly if the links by it are, for of its two jobs j the one placed
 -- later has the link to the other.
-use mathlib.Core.Path.{_≡_, refl, sym, ap, subst, _∙_}
-use mathlib.Core.Bool.{Bool, true, false}
+use mathlib.Core.Path.{_≡_, sym, ap, subst, _∙_}
+use mathlib.Core.Bool.{true}
 use mathlib.Core.Logic.{_⊎_, inl, inr, _≢_, _↔_}
 use mathlib.Core.List.{List, List·Memᴰ}
 use Prim.Native.Nat.{ℕ, _+_, _-_, _*_, _≤_, _<_, _∣_}
 use native.Mathlib.Omega.{arith}
 use lib.ListN.{length, getD, length-map, List·getD-eq-default}
-use lib.Dec.{ltb}
-use borrow.Author.Tests.{ltb-true, ltb-false}
+use Rattle.cursor.specs.ChoiceLaws.{lt-or-ge}
+use Rattle.cursor.specs.Padded.{map-at}
 use Rattle.arith.specs.Residue.{quotient-pos}
+use Rattle.cycle.specs.Planned.{noJob}
 use Rattle.search.specs.Placing.{linksOf, Proper}
 use Rattle.search.specs.Plans.{LinkKept, IsPlacing}
 use Rattle.model.specs.Window.{starts-from, ends-by}
@@ -19,16 +20,9 @@ use Rattle.model.specs.Plausible.{plausible}
 use Rattle.model.specs.Links.{linksOfJob}
 use Rattle.model.specs.Chosen.{firstFrameOf, endFrameOf, problemAt}
 use Rattle.model.specs.Good.{Good, job-facts, same-place}
-use Rattle.model.specs.PlanLaws.{map-at, costs-length, cost-at, length-pos}
+use Rattle.model.specs.PlanLaws.{costs-length, cost-at, length-pos}
 use Rattle.model.specs.PlausibleLaws.{IsPlausible, plausible-says}
 use Rattle.model.specs.LinksLaws.{HasJob, LinkBy, to-first, to-second, link-to-first, link-to-second, in-links, by-pair, counts-length, links-at, links-linked}
-
-pub lt-or-ge : (a b : ℕ) → (a < b) ⊎ (b ≤ a)
-lt-or-ge a b = go (ltb a b) refl
-  where
-    go : (t : Bool) → ltb a b ≡ t → (a < b) ⊎ (b ≤ a)
-    go true e = inl (ltb-true a b e)
-    go false e = inr (ltb-false a b e)
 
 abbrev LinksKept : Instance → List ℕ → Type 0
 LinksKept x frames = (y : ℕ) → y < length (x .jobs) → (l : ℕ) → List·Memᴰ l (linksOfJob x y) → LinkKept frames (frameAt frames y) l
@@ -44,7 +38,8 @@ module _ (x : Instance) (g : Good x) (f : ℕ) where
   window-is pos y k h =
       let from = starts-from f (jobAt x y .release) k pos in
       let by = ends-by f (jobAt x y .due) k pos in
-      rw (map-at (firstFrameOf f) (x .jobs) y h, map-at (endFrameOf f) (x .jobs) y h) (λ w. (from .0 (w .0), by .0 (w .1)), λ w. (from .1 (w .0), by .1 (w .1)))
+      rw (map-at (firstFrameOf f) 0 noJob (x .jobs) y h, map-at (endFrameOf f) 0 noJob (x .jobs) y h)
+      (λ w. (from .0 (w .0), by .0 (w .1)), λ w. (from .1 (w .0), by .1 (w .1)))
 
   problem-links : (y : ℕ) → y < n → linksOf (problemAt x f) y ≡ linksOfJob x y
   unfolding problemAt
@@ -58,17 +53,17 @@ module _ (x : Instance) (g : Good x) (f : ℕ) where
       other q = let rises = g .readable .pair u hu .rises in omega arith
 
       only : (w v i j : ℕ) → w < n → v < n → HasJob (x .jobs) w i j → HasJob (x .jobs) v i j → w ≡ v
-      only w v i j hw hv a b = same-place x g w v hw hv (a .task ∙ sym (b .task)) (a .number ∙ sym (b .number))
+      only w v i j hw hv a b = same-place x g w v hw hv (a .task-is ∙ sym (b .task-is)) (a .number-is ∙ sym (b .number-is))
 
       go : (y < z) ⊎ (z ≤ y) → frameAt frames y ≤ frameAt frames z
       go (inl h) =
-          let has : HasJob (x .jobs) y (pairAt x u .a) (jobAt x z .number) = record { task = ty; number = num } in
+          let has : HasJob (x .jobs) y (pairAt x u .a) (jobAt x z .number) = record { task-is = ty; number-is = num } in
           let m = link-to-first (x .jobs) z (pairAt x u) y h tz has (λ w k b. only w y _ _ (omega arith) hy b has) in
           kept z hz y (by-pair x z u y hu m) .0 (omega (arith, g .few-jobs))
       go (inr h) =
           let apart : z ≢ y = λ q. other (sym ty ∙ ap (λ w. jobAt x w .task) (sym q) ∙ tz) in
           let before : z < y = omega arith in
-          let has : HasJob (x .jobs) z (pairAt x u .b) (jobAt x y .number) = record { task = tz; number = sym num } in
+          let has : HasJob (x .jobs) z (pairAt x u .b) (jobAt x y .number) = record { task-is = tz; number-is = sym num } in
           let m = link-to-second (x .jobs) y (pairAt x u) z before ty other has (λ w k b. only w z _ _ (omega arith) hz b has) in
           let e : z + 128 - 128 ≡ z = omega arith in
           rw e at (kept y hy (z + 128) (by-pair x y u (z + 128) hu m) .1 (omega arith))
@@ -79,20 +74,21 @@ module _ (x : Instance) (g : Good x) (f : ℕ) where
     where
       go : (u : ℕ) → u < length (x .pairs) → LinkBy (x .jobs) y (pairAt x u) l → LinkKept frames (frameAt frames y) l
       go u hu (to-first h t has) = (
-        λ small. order u hu l y (omega arith) hy (has .task) t (has .number),
+        λ small. order u hu l y (omega arith) hy (has .task-is) t (has .number-is),
         λ large. absurd (omega (arith, g .few-jobs)),
       )
       go u hu (to-second z e h t has) = (
         λ small. absurd (omega arith),
-        λ large. let q : l - 128 ≡ z = omega arith in rw q (order u hu y z hy (omega arith) t (has .task) (sym (has .number))),
+        λ large. let q : l - 128 ≡ z = omega arith in rw q (order u hu y z hy (omega arith) t (has .task-is) (sym (has .number-is))),
       )
 
   -- a placing is a plan
   pub placing-is-plan : 0 < f → f ∣ x .h → rowsAt x f ≤ 256 → (frames : List ℕ) → IsPlacing (problemAt x f) frames → IsPlan x f frames
   unfolding problemAt
   placing-is-plan pos divides few frames v =
-      let size = costs-length (x .tasks) (x .jobs) in
-      let window : (y : ℕ) → y < n → (jobAt x y .release ≤ frameAt frames y * f) × ((frameAt frames y + 1) * f ≤ jobAt x y .due) = λ y h. window-is pos y (frameAt frames y) h .1 (v .window y (omega arith)) in
+      let size = costs-length x in
+      let window : (y : ℕ) → y < n → (jobAt x y .release ≤ frameAt frames y * f) × ((frameAt frames y + 1) * f ≤ jobAt x y .due)
+      = λ y h. window-is pos y (frameAt frames y) h .1 (v .window y (omega arith)) in
       record {
         divides = divides;
         few-rows = few;
@@ -107,7 +103,7 @@ module _ (x : Instance) (g : Good x) (f : ℕ) where
   pub plan-is-placing : (frames : List ℕ) → IsPlan x f frames → IsPlacing (problemAt x f) frames
   unfolding problemAt
   plan-is-placing frames v =
-      let size = costs-length (x .tasks) (x .jobs) in
+      let size = costs-length x in
       record {
         all = v .all ∙ sym size;
         window = λ y h. window-is (length-pos x g f frames v) y (frameAt frames y) (omega arith) .0 (v .not-early y (omega arith), v .not-late y (omega arith));
@@ -120,7 +116,7 @@ module _ (x : Instance) (g : Good x) (f : ℕ) where
   unfolding problemAt
   problem-proper e =
       let p : IsPlausible x f = plausible-says x f e in
-      let size = costs-length (x .tasks) (x .jobs) in
+      let size = costs-length x in
       record {
         firsts = omega (arith, size, length-map (x .jobs) (firstFrameOf f));
         ends = omega (arith, size, length-map (x .jobs) (endFrameOf f));
@@ -130,6 +126,6 @@ module _ (x : Instance) (g : Good x) (f : ℕ) where
         costs = λ y. go y (lt-or-ge y n);
       }
     where
-      go : (y : ℕ) → (y < n) ⊎ (n ≤ y) → getD (costs (x .tasks) (x .jobs)) y 0 ≤ f
+      go : (y : ℕ) → (y < n) ⊎ (n ≤ y) → getD (costs x) y 0 ≤ f
       go y (inl h) = omega (arith, cost-at x y h, plausible-says x f e .rule (jobAt x y .task) (job-facts x g y h .known) .room)
-      go y (inr h) = omega (arith, List·getD-eq-default (costs (x .tasks) (x .jobs)) 0 {n = y} (omega (arith, costs-length (x .tasks) (x .jobs))))
+      go y (inr h) = omega (arith, List·getD-eq-default (costs x) 0 {n = y} (omega (arith, costs-length x)))

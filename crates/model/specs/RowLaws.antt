@@ -1,16 +1,15 @@
--- Rows of a plan: a job's frame lies in the first two cycles, so it is known by its row and whether it is carried; no row holds a task
--- twice; and no window holds two frames of one row. It is `Disjoint`, said of a plan.
+-- Rows of a plan: a job's frame lies in the first two cycles, so it is known by its row and whether it is carried; and no row holds a task
+-- twice. It is `Disjoint`, said of a plan.
 use mathlib.Core.Path.{_≡_}
 use mathlib.Core.List.{List}
-use Prim.Native.Nat.{ℕ, _+_, _*_, _/_, _%_, _≤_, _<_}
-use native.Mathlib.Omega.{arith}
+use Prim.Native.Nat.{ℕ, _+_, _*_, _/_, _%_, _<_}
 use lib.ListN.{length}
 use Rattle.request.specs.Readable.{TaskKept}
 use Rattle.model.specs.Window.{InWindow}
-use Rattle.model.specs.Disjoint.{one-job-in-row, frame-below, one-frame-of-row, carry-bit}
+use Rattle.model.specs.Disjoint.{one-job-in-row, frame-below}
 use Rattle.model.specs.Plan.{Instance, taskAt, jobAt, rowsAt, frameAt, IsPlan}
 use Rattle.model.specs.Good.{Good, JobFacts, job-facts, same-place}
-use Rattle.model.specs.PlanLaws.{rows-pos, in-window}
+use Rattle.model.specs.PlanLaws.{in-window}
 
 module _ (x : Instance) (g : Good x) (f : ℕ) (frames : List ℕ) (v : IsPlan x f frames) where
   -- "Never is k ≥ 2F."
@@ -22,10 +21,6 @@ module _ (x : Instance) (g : Good x) (f : ℕ) (frames : List ℕ) (v : IsPlan x
       frame-below (x .h) f (taskAt x i .t) (taskAt x i .d) (taskAt x i .p) (g .some-time) (v .divides) (g .whole-periods i (facts .known))
       (jobAt x y .number) (frameAt frames y) (kept .due) (kept .phase) (facts .early) (in-window x g f frames v y h)
 
-  -- carried or not, and not more than once
-  pub carried-once : (y : ℕ) → y < length (x .jobs) → frameAt frames y / rowsAt x f < 2
-  carried-once y h = carry-bit (rowsAt x f) (frameAt frames y) (rows-pos x g f frames v) (frame-small y h)
-
   -- "No row can hold a task twice."
   pub task-once : (y z : ℕ) → y < length (x .jobs) → z < length (x .jobs) → jobAt x y .task ≡ jobAt x z .task
       → frameAt frames y % rowsAt x f ≡ frameAt frames z % rowsAt x f → y ≡ z
@@ -34,17 +29,9 @@ module _ (x : Instance) (g : Good x) (f : ℕ) (frames : List ℕ) (v : IsPlan x
       let facts' : JobFacts x z = job-facts x g z hz in
       let i : ℕ = jobAt x y .task in
       let early : jobAt x z .number < x .h / taskAt x i .t = rw (← same) at (facts' .early) in
-      let window : InWindow f (taskAt x i .p + jobAt x z .number * taskAt x i .t) (taskAt x i .d) (frameAt frames z) = rw (← same) at (in-window x g f frames v z hz) in
+      let window : InWindow f (taskAt x i .p + jobAt x z .number * taskAt x i .t) (taskAt x i .d) (frameAt frames z)
+      = rw (← same) at (in-window x g f frames v z hz) in
       let one = one-job-in-row (x .h) f (taskAt x i .t) (taskAt x i .d) (taskAt x i .p) (g .some-time) (v .divides) (g .whole-periods i (facts .known))
       (jobAt x y .number) (jobAt x z .number) (frameAt frames y) (frameAt frames z) (g .readable .task i (facts .known) .due) (facts .early) early
       (in-window x g f frames v y hy) window row in
       same-place x g y z hy hz same (one .0)
-
-  -- a frame and the frame of the same row one cycle later are not both in a window
-  pub one-frame-in-row : (y k : ℕ) → y < length (x .jobs) → jobAt x y .release ≤ k * f → (k + rowsAt x f + 1) * f ≤ jobAt x y .due → ⊥
-  one-frame-in-row y k h early late =
-      let facts : JobFacts x y = job-facts x g y h in
-      let i : ℕ = jobAt x y .task in
-      one-frame-of-row (x .h) f (taskAt x i .t) (taskAt x i .d) (taskAt x i .p) (g .some-time) (v .divides) (g .whole-periods i (facts .known))
-      (jobAt x y .release) k (g .readable .task i (facts .known) .due)
-      (record { starts = early; ends = omega (arith, facts .due) }) (record { starts = omega arith; ends = omega (arith, facts .due) })

@@ -14,12 +14,12 @@ pub record InWindow (f r D k : ℕ) : Type 0 where
   pub ends : (k + 1) * f ≤ r + D
 
 -- the first frame that starts at r or later
-unfoldable pub firstFrame : ℕ → ℕ → ℕ
-firstFrame f r = (r + (f - 1)) / f
+unfoldable pub firstFrom : ℕ → ℕ → ℕ
+firstFrom f r = (r + (f - 1)) / f
 
 -- the frames that begin at r or later
-pub starts-from : (f r k : ℕ) → 0 < f → (r ≤ k * f) ↔ (firstFrame f r ≤ k)
-unfolding firstFrame
+pub starts-from : (f r k : ℕ) → 0 < f → (r ≤ k * f) ↔ (firstFrom f r ≤ k)
+unfolding firstFrom
 starts-from f r k pos =
     let low = div-lt-iff-lt-mul {x = r + (f - 1)} {y = suc k} pos in
     (λ h. omega (arith, low .1 (omega arith)), λ h. omega (arith, low .0 (omega arith)))
@@ -30,8 +30,8 @@ ends-by f e k pos =
     let high = le-div-iff-mul-le {x = suc k} {y = e} pos in
     (λ h. high .1 (omega arith), λ h. omega (arith, high .0 h))
 
--- the frames of a window are those from firstFrame f r up to, and without, (r + D) / f
-pub window-frames : (f r D k : ℕ) → 0 < f → InWindow f r D k ↔ ((firstFrame f r ≤ k) × (k < (r + D) / f))
+-- the frames of a window are those from firstFrom f r up to, and without, (r + D) / f
+pub window-frames : (f r D k : ℕ) → 0 < f → InWindow f r D k ↔ ((firstFrom f r ≤ k) × (k < (r + D) / f))
 window-frames f r D k pos =
     let from = starts-from f r k pos in
     let by = ends-by f (r + D) k pos in
@@ -73,9 +73,9 @@ pub since-le : (n m : ℕ) → 0 < n → since n m ≤ n
 since-le n m pos = rw (since-is n m pos) (mod-lt (m + (n - 1)) pos)
 
 pub window-holds : (f r D : ℕ) → 0 < f → ((k : ℕ) × InWindow f r D k) ↔ (2 * f ≤ D + since f r)
-unfolding firstFrame
+unfolding firstFrom
 window-holds f r D pos =
-    let first = firstFrame f r in
+    let first = firstFrom f r in
     let split : first * f + since f r ≡ r + f = omega (arith, since-is f r pos, div-add-mod' (r + (f - 1)) f) in (
       λ w. omega (arith, w .1, mul-le-mul-right f (window-frames f r D (w .0) pos .0 (w .1) .0)),
       λ h. (first, record { starts = omega (arith, since-le f r pos); ends = omega arith }),

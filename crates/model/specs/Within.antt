@@ -1,16 +1,16 @@
 -- A request within the limits, and what is planned for it.
-use Prim.Native.Nat.{ℕ}
-use mathlib.Core.Path.{_≡_, refl, sym, _∙_}
+use Prim.Native.Nat.{ℕ, _≤_}
+use mathlib.Core.Path.{_≡_, refl, sym, ap, subst, _∙_}
 use mathlib.Core.List.{List}
 use mathlib.Core.Logic.{_⊎_, inl, inr}
-use Rattle.request.specs.declared.Task.{Task}
-use Rattle.request.specs.declared.Pair.{Pair}
+use native.Mathlib.Omega.{arith}
 use Rattle.cycle.specs.Cycle.{Cycle, cycle, noCycle, cycleOf}
-use Rattle.cycle.specs.LimitLaws.{WithinLimits, cycle-within}
-use Rattle.cycle.specs.declared.Job.{Job}
+use Rattle.cycle.specs.Answers.{answered}
+use Rattle.cycle.specs.LimitLaws.{WithinLimits, cycle-within, no-cycle-number}
+use Rattle.cycle.specs.declared.Cycle as answer
 use Rattle.model.specs.Plan.{Instance}
 use Rattle.model.specs.Good.{Good}
-use Rattle.model.specs.Answers.{instance, instance-good}
+use Rattle.model.specs.Answers.{instance, instanceOf, instance-good, instance-answered}
 
 -- "A request is within the limits if its bytes have the form under Request file with no bytes behind it, H is at most 10,000 and there are at
 -- most 128 jobs.": they give the tasks, the pairs, H and the jobs of x
@@ -24,16 +24,6 @@ module _ (request : List ℕ) where
   pub within-good : (x : Instance) → Within request x → Good x
   within-good x w = instance-good (x .tasks) (x .pairs) (x .h) (x .jobs) (within-limits x w)
 
-  -- one thing is planned at most
-  pub within-once : (x y : Instance) → Within request x → Within request y → x ≡ y
-  within-once x y w v =
-      let same : cycle (x .tasks) (x .pairs) (x .h) (x .jobs) ≡ cycle (y .tasks) (y .pairs) (y .h) (y .jobs) = sym w ∙ v in
-      let tasks : x .tasks ≡ y .tasks = cc in
-      let pairs : x .pairs ≡ y .pairs = cc in
-      let h : x .h ≡ y .h = cc in
-      let jobs : x .jobs ≡ y .jobs = cc in
-      λ i. record { tasks = tasks i; pairs = pairs i; h = h i; jobs = jobs i }
-
   -- within the limits, or refused with a number
   pub within-or-not : ((x : Instance) × Within request x) ⊎ ((number : ℕ) × (cycleOf request ≡ noCycle number))
   within-or-not = go (cycleOf request) refl
@@ -41,3 +31,35 @@ module _ (request : List ℕ) where
       go : (c : Cycle) → cycleOf request ≡ c → ((x : Instance) × Within request x) ⊎ ((number : ℕ) × (cycleOf request ≡ noCycle number))
       go (cycle tasks pairs h jobs) e = inl (instance tasks pairs h jobs, e)
       go (noCycle number) e = inr (number, e)
+
+-- What the answer of reading a request tells: what is planned, and that it is within the limits; or the number of the refusal.
+pub record Taken (request : List ℕ) (c : answer.Cycle) : Type 0 where
+  pub within : Within request (instanceOf c)
+  pub good : Good (instanceOf c)
+  pub few-tasks : c .n ≤ 16
+  pub few-pairs : c .m ≤ 16
+  pub few-jobs : c .count ≤ 128
+
+module _ (request : List ℕ) (c : answer.Cycle) (is : c ≡ answered (cycleOf request)) where
+  pub read-within : c .refusal ≡ 0 → Taken request c
+  read-within z = go (cycleOf request) refl is
+    where
+      go : (d : Cycle) → cycleOf request ≡ d → c ≡ answered d → Taken request c
+      go (cycle tasks pairs h jobs) e q =
+          let w = cycle-within request tasks pairs h jobs e in
+          let same : instanceOf c ≡ instance tasks pairs h jobs = ap instanceOf q ∙ instance-answered tasks pairs h jobs w in
+          record {
+            within = e ∙ ap (λ (x : Instance). cycle (x .tasks) (x .pairs) (x .h) (x .jobs)) (sym same);
+            good = subst Good (sym same) (instance-good tasks pairs h jobs w);
+            few-tasks = omega (arith, ap (λ (d : answer.Cycle). d .n) q, w .readable .few-tasks);
+            few-pairs = omega (arith, ap (λ (d : answer.Cycle). d .m) q, w .readable .few-pairs);
+            few-jobs = omega (arith, ap (λ (d : answer.Cycle). d .count) q, w .jobs-few);
+          }
+      go (noCycle number) e q = let pos = no-cycle-number request number e in absurd (omega (arith, ap (λ (d : answer.Cycle). d .refusal) q))
+
+  pub read-refused : (c .refusal ≡ 0 → ⊥) → cycleOf request ≡ noCycle (c .refusal)
+  read-refused ne = go (cycleOf request) refl is
+    where
+      go : (d : Cycle) → cycleOf request ≡ d → c ≡ answered d → cycleOf request ≡ noCycle (c .refusal)
+      go (cycle tasks pairs h jobs) e q = absurd (ne (ap (λ (d : answer.Cycle). d .refusal) q))
+      go (noCycle number) e q = e ∙ ap noCycle (sym (ap (λ (d : answer.Cycle). d .refusal) q))

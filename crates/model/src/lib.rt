@@ -2,17 +2,18 @@
 use cycle::Cycle;
 use request::Task;
 ghost use mathlib.Core.Path.{_≡_};
-ghost use Prim.Native.Nat.{_≤_, min};
+ghost use Prim.Native.Nat.{_≤_};
 ghost use Rattle.cursor.specs.Padded.{firsts};
 ghost use Rattle.request.specs.Request.{noTask};
+ghost use Rattle.model.specs.Plan.{slot};
 ghost use Rattle.model.specs.Plausible.{frameRules, plausible};
 ghost use Rattle.model.specs.Answers.{instanceOf};
 
-// The smaller of the two.
-pub fn at_most(n: usize, limit: usize) -> usize
-    ensures { λ r. ⌜ r ≡ min n limit ⌝ }
+// The time that a transfer of the task takes in its row.
+pub fn slot(task: Task) -> u32
+    ensures { λ r. ⌜ r ≡ slot task ⌝ }
 {
-    if n < limit { n } else { limit }
+    task.c as u32
 }
 
 // f ≥ C and 2f − gcd(f, T) ≤ D for the first n tasks.
@@ -23,7 +24,7 @@ fn frame_rules(tasks: [Task; 16], n: usize, f: u16) -> bool
     let mut i: usize = 0;
     while i < n {
         let x = tasks[i];
-        if f < x.c {
+        if (f as u32) < slot(x) {
             return false;
         }
         let g = arith::gcd(f, x.t);
@@ -49,6 +50,6 @@ pub fn plausible(cycle: Cycle, f: u16) -> bool
         return false;
     }
     let tasks = cycle.tasks;
-    let n = at_most(cycle.n, 16);
+    let n = arith::at_most(cycle.n, 16);
     frame_rules(tasks, n, f)
 }

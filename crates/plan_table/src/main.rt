@@ -3,17 +3,14 @@
 use libc::STDERR_FILENO;
 use libc::STDIN_FILENO;
 use libc::STDOUT_FILENO;
+use table::Written;
+ghost use Rattle.io.specs.Counts.{Counts};
 
-fn put_refused(out: &mut [u8], number: u8) -> usize {
-    let at = text::put_all(out, 0, b"refused ");
-    let end = text::put_number(out, at, number as u32);
-    text::put(out, end, b'\n')
-}
-
-fn print(fd: i32, out: &[u8], n: usize) {
-    if n <= out.len() {
-        io::write_all(fd, &out[..n]);
-    }
+// The planner's answer, whose length is within the buffer.
+fn plan(request: &[u8], out: &mut [u8]) -> Written
+    ensures { λ r. ⌜ Counts (r .length) (now (out .exit)) ⌝ }
+{
+    planner::plan(request, out)
 }
 
 // A request has at most 162 bytes: what longer input is refused with is decided by its first 163.
@@ -21,11 +18,12 @@ fn main() {
     let mut input = io::buffer();
     let n = io::read_full(STDIN_FILENO, &mut input);
     let mut out = io::buffer();
-    let written = planner::plan(&input[..n], &mut out);
+    let written = plan(&input[..n], &mut out);
     if written.refusal != 0 {
-        let length = put_refused(&mut out, written.refusal);
-        print(STDERR_FILENO, &out, length);
+        let end = listing::refused(written.refusal, &mut out);
+        io::write_all(STDERR_FILENO, &out[..end]);
         return;
     }
-    print(STDOUT_FILENO, &out, written.length);
+    let length = written.length;
+    io::write_all(STDOUT_FILENO, &out[..length]);
 }

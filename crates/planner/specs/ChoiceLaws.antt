@@ -1,11 +1,11 @@
 -- The loop over the numbers of rows: with those left to try, it comes to the definition's choice.
-use Prim.Native.Nat.{ℕ, zero, suc, _+_, _-_, _/_, _%_, _≤_, _<_}
+use Prim.Native.Nat.{ℕ, suc, _+_, _-_, _/_, _%_, _≤_, _<_}
 use mathlib.Core.Path.{_≡_, refl, sym, ap, _∙_}
 use mathlib.Core.Bool.{Bool, true, false}
 use mathlib.Core.List.{List, []}
 use native.Mathlib.Nat.{div-zero}
 use native.Mathlib.Omega.{arith}
-use lib.Dec.{ltb, eqb}
+use lib.Dec.{eqb}
 use Rattle.cursor.specs.Choice.{pick, both}
 use Rattle.cursor.specs.ParsedLaws.{never, both-true}
 use Rattle.cursor.specs.Padded.{padded}
@@ -15,7 +15,7 @@ use Rattle.search.specs.Placing.{plan}
 use Rattle.model.specs.Plan.{Instance, costs}
 use Rattle.model.specs.Answers.{instanceOf}
 use Rattle.model.specs.Plausible.{plausible}
-use Rattle.model.specs.Chosen.{Choice, chosen, noPlan, noPlausible, isTried, foundOr, chooseFrom, choose, problemAt}
+use Rattle.model.specs.Chosen.{Choice, noPlan, noPlausible, isTried, foundOr, chooseFrom, problemAt}
 use Rattle.model.specs.ChosenLaws.{choose-end, choose-skipped, choose-tried}
 use Rattle.problem.specs.Answers.{linksAnswer}
 use Rattle.problem.specs.declared.JobLinks.{JobLinks}
@@ -36,8 +36,8 @@ pub tried-plausible : (x : Instance) (rows : ℕ) → isTried x rows ≡ true �
 unfolding isTried
 tried-plausible x rows e = both-true (eqb (x .h % rows) 0) (plausible x (x .h / rows)) e .1
 
-pub searchable : (c : Cycle) (cost : List ℕ) (links : JobLinks) (rows : ℕ) → Planned c → cost ≡ padded 128 0 (costs (instanceOf c .tasks) (instanceOf c .jobs)) → links ≡ linksAnswer (instanceOf c)
-    → isTried (instanceOf c) rows ≡ true → Searchable c cost links (c .h / rows)
+pub searchable : (c : Cycle) (cost : List ℕ) (links : JobLinks) (rows : ℕ) → Planned c
+    → cost ≡ padded 128 0 (costs (instanceOf c)) → links ≡ linksAnswer (instanceOf c) → isTried (instanceOf c) rows ≡ true → Searchable c cost links (c .h / rows)
 unfolding instanceOf
 searchable c cost links rows p e l t = record { planned = p; plausible-is = tried-plausible (instanceOf c) rows t; cost-is = e; links-are = l }
 
@@ -49,16 +49,23 @@ module _ (x : Instance) (rows : ℕ) (few : rows ≤ 256) (some : Bool) where
   pub skipped : isTried x rows ≡ false → chooseFrom x (257 - (rows + 1)) (rows + 1) some ≡ chooseFrom x (257 - rows) rows some
   skipped e = rw left (sym (choose-skipped x (257 - (rows + 1)) rows some e))
 
-  module _ (tried : isTried x rows ≡ true) (r : FoundPlan) (is : r ≡ foundAnswer (plan (problemAt x (x .h / rows)) [])) where
-    turn : chooseFrom x (257 - rows) rows some ≡ foundOr (x .h / rows) (plan (problemAt x (x .h / rows)) []) (chooseFrom x (257 - (rows + 1)) (rows + 1) true)
+  -- the length, and the choice among those behind it
+  abbrev f : ℕ
+  f = x .h / rows
+
+  abbrev after : Choice
+  after = chooseFrom x (257 - (rows + 1)) (rows + 1) true
+
+  module _ (tried : isTried x rows ≡ true) (r : FoundPlan) (is : r ≡ foundAnswer (plan (problemAt x f) [])) where
+    turn : chooseFrom x (257 - rows) rows some ≡ foundOr f (plan (problemAt x f) []) after
     turn = rw left (choose-tried x (257 - (rows + 1)) rows some tried)
 
     -- a length without a plan
-    pub none-with : r .found ≡ false → chooseFrom x (257 - (rows + 1)) (rows + 1) true ≡ chooseFrom x (257 - rows) rows some
+    pub none-with : r .found ≡ false → after ≡ chooseFrom x (257 - rows) rows some
     unfolding foundAnswer foundOr
-    none-with e = go (plan (problemAt x (x .h / rows)) []) is ∙ sym turn
+    none-with e = go (plan (problemAt x f) []) is ∙ sym turn
       where
-        go : (o : Found) → r ≡ foundAnswer o → chooseFrom x (257 - (rows + 1)) (rows + 1) true ≡ foundOr (x .h / rows) o (chooseFrom x (257 - (rows + 1)) (rows + 1) true)
+        go : (o : Found) → r ≡ foundAnswer o → after ≡ foundOr f o after
         go (at frames) q = absurd (never (no-bool (sym (ap (λ (p : FoundPlan). p .found) q) ∙ e)))
           where
             no-bool : true ≡ false → _≡_ {A = ℕ} 0 1
@@ -66,13 +73,14 @@ module _ (x : Instance) (rows : ℕ) (few : rows ≤ 256) (some : Bool) where
         go none q = refl
 
     -- a length with one
-    pub one-with : r .found ≡ true → _≡_ {A = ChosenPlan} (record { refusal = 0; f = x .h / rows; frames = r .frames }) (choiceAnswer (chooseFrom x (257 - rows) rows some))
+    pub one-with : r .found ≡ true
+        → _≡_ {A = ChosenPlan} (record { refusal = 0; f = f; frames = r .frames }) (choiceAnswer (chooseFrom x (257 - rows) rows some))
     unfolding foundAnswer foundOr choiceAnswer
-    one-with e = go (plan (problemAt x (x .h / rows)) []) is ∙ ap choiceAnswer (sym turn)
+    one-with e = go (plan (problemAt x f) []) is ∙ ap choiceAnswer (sym turn)
       where
         go : (o : Found) → r ≡ foundAnswer o
-            → _≡_ {A = ChosenPlan} (record { refusal = 0; f = x .h / rows; frames = r .frames }) (choiceAnswer (foundOr (x .h / rows) o (chooseFrom x (257 - (rows + 1)) (rows + 1) true)))
-        go (at frames) q = λ i. record { refusal = 0; f = x .h / rows; frames = q i .frames }
+            → _≡_ {A = ChosenPlan} (record { refusal = 0; f = f; frames = r .frames }) (choiceAnswer (foundOr f o after))
+        go (at frames) q = λ i. record { refusal = 0; f = f; frames = q i .frames }
         go none q = absurd (never (no-bool (sym (ap (λ (p : FoundPlan). p .found) q) ∙ e)))
           where
             no-bool : false ≡ true → _≡_ {A = ℕ} 0 1

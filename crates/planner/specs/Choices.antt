@@ -38,5 +38,5 @@ pub record Planned (c : Cycle) : Type 0 where
 pub record Searchable (c : Cycle) (cost : List ℕ) (links : JobLinks) (f : ℕ) : Type 0 where
   pub planned : Planned c
   pub plausible-is : plausible (instanceOf c) f ≡ true
-  pub cost-is : cost ≡ padded 128 0 (costs (instanceOf c .tasks) (instanceOf c .jobs))
+  pub cost-is : cost ≡ padded 128 0 (costs (instanceOf c))
   pub links-are : links ≡ linksAnswer (instanceOf c)

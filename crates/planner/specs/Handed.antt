@@ -9,6 +9,7 @@ use mathlib.Core.List.{List, _++_}
 use native.Mathlib.Omega.{arith}
 use lib.ListN.{length, drop}
 use borrow.Author.Tests.{lt-ltb}
+use Rattle.cursor.specs.ChoiceLaws.{lt-or-ge}
 use Rattle.cycle.specs.Cycle.{noCycle, cycleOf}
 use Rattle.table.specs.Table.{Table, encode}
 use Rattle.table.specs.Layout as table
@@ -16,14 +17,14 @@ use Rattle.table.specs.declared.Written.{Written}
 use Rattle.model.specs.Plan.{Instance, IsPlan, rowsAt}
 use Rattle.model.specs.Plausible.{plausible}
 use Rattle.model.specs.PlausibleLaws.{plausible-needed}
-use Rattle.model.specs.ProblemLaws.{lt-or-ge}
 use Rattle.model.specs.Good.{Good}
 use Rattle.model.specs.Within.{Within, within-limits, within-good}
 use Rattle.model.specs.Chosen.{Choice, chosen, noPlan, noPlausible, choose, IsChosen, NoPlan, RightChoice}
 use Rattle.model.specs.ChosenLaws.{choose-right, chosen-exactly}
 use Rattle.model.specs.Described.{Describes, planTable}
 use Rattle.model.specs.PlanTable.{plan-table-describes, plan-table-length}
-use Rattle.planner.specs.Outcome.{Outcome, refusal, outcome, inCycle, byChoice, answer, buffer}
+use Rattle.planned_table.specs.Outcome.{refusal, answer, buffer}
+use Rattle.planner.specs.Outcome.{outcome, inCycle, byChoice}
 use Rattle.planner.specs.TableLaws.{handed-answer, handed-buffer}
 
 -- "A buffer is long enough if it holds the chosen table, which has 7 + F + 2·(number of jobs) bytes; without a plan, any length is."
@@ -71,7 +72,8 @@ pub record Handed (x : Instance) (request out : List ℕ) : Type 0 where
   -- "buffer shorter than the table"
   pub eleven : (answer (outcome request) out .refusal ≡ 11) ↔ TooShort x out
   -- "A refusal returns its number, length 0 .. and the buffer untouched."
-  pub untouched : (answer (outcome request) out .refusal ≡ 0 → ⊥) → (answer (outcome request) out .length ≡ 0) × (buffer (outcome request) out ≡ out)
+  pub untouched : (answer (outcome request) out .refusal ≡ 0 → ⊥)
+      → (answer (outcome request) out .length ≡ 0) × (buffer (outcome request) out ≡ out)
 
 -- a request that is not within the limits is refused with its own number
 pub not-planned : (request out : List ℕ) (number : ℕ) → cycleOf request ≡ noCycle number
@@ -185,7 +187,8 @@ module _ (request out : List ℕ) (x : Instance) (within : Within request x) whe
     given : answer (outcome request) out .refusal ≡ number
     given = ap (λ (w : Written). w .refusal) refused-is
 
-    without-plan : (number ≡ 9) ↔ NonePlausible x → (number ≡ 10) ↔ (SomePlausible x × NoPlan x) → 0 < number → number < 11 → Handed x request out
+    without-plan : (number ≡ 9) ↔ NonePlausible x → (number ≡ 10) ↔ (SomePlausible x × NoPlan x) → 0 < number → number < 11
+        → Handed x request out
     without-plan is-nine is-ten pos few = record {
       exactly = λ enough. (λ z. absurd (omega (arith, given)), λ plan. absurd (none (plan .0) (plan .1) (plan .2)));
       chosen-one = λ z. absurd (omega (arith, given));
@@ -201,7 +204,8 @@ module _ (request out : List ℕ) (x : Instance) (within : Within request x) whe
   table-handed = go (choose x) refl (choose-right x good)
     where
       go : (o : Choice) → choose x ≡ o → RightChoice x o → Handed x request out
-      go (chosen f frames) q r = ⊎-elim (without-room f frames q r) (with-table f frames q r) (lt-or-ge (length out) (7 + rowsAt x f + 2 * length (x .jobs)))
+      go (chosen f frames) q r =
+          ⊎-elim (without-room f frames q r) (with-table f frames q r) (lt-or-ge (length out) (7 + rowsAt x f + 2 * length (x .jobs)))
       go noPlan q r =
           without-plan 10 (outcome-is noPlan q) (r .0)
           (λ z. absurd (omega arith), λ c. absurd (c (r .1 .0) (r .1 .1)))

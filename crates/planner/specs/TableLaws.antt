@@ -10,24 +10,27 @@ use lib.Seq.{take-append-seam}
 use lib.Dec.{ltb}
 use borrow.Author.Tests.{le-ltb, ltb-false}
 use Rattle.cursor.specs.Choice.{pick}
+use Rattle.cursor.specs.ParsedLaws.{never}
 use Rattle.cycle.specs.Cycle.{Cycle, cycle, noCycle, cycleOf}
 use Rattle.cycle.specs.LimitLaws.{cycle-within, no-cycle-number}
 use Rattle.table.specs.Table.{Table, encode}
 use Rattle.table.specs.WellFormed.{WellFormed}
 use Rattle.table.specs.Layout as table
+use Rattle.table.specs.LengthLaws.{entryCount}
 use Rattle.table.specs.declared.Written.{Written}
 use Rattle.model.specs.Plan.{Instance}
 use Rattle.model.specs.Good.{Good}
 use Rattle.model.specs.Answers.{instance, instance-good}
 use Rattle.model.specs.Chosen.{Choice, chosen, noPlan, noPlausible, choose, RightChoice}
 use Rattle.model.specs.ChosenLaws.{choose-right}
-use Rattle.model.specs.Described.{planTable}
-use Rattle.model.specs.PlanTable.{entriesIn, plan-entries, plan-table-describes, plan-table-length}
-use Rattle.planner.specs.Outcome.{Outcome, handed, refusal, byChoice, inCycle, outcome, answer, buffer}
+use Rattle.model.specs.PlanTable.{plan-entries, plan-table-describes, plan-table-length}
+use Rattle.model.specs.Within.{Within}
+use Rattle.planned_table.specs.Outcome.{Outcome, handed, refusal, answer, buffer}
+use Rattle.planner.specs.Outcome.{byChoice, inCycle, outcome}
 
 pub record GoodTable (t : Table) : Type 0 where
   pub form : WellFormed t
-  pub few-entries : entriesIn (t .rows) ≤ 128
+  pub few-entries : entryCount (t .rows) ≤ 128
   pub short : length (encode t) ≤ 519
 
 abbrev pub GoodOutcome : Outcome → Type 0
@@ -101,6 +104,16 @@ unfolding answer table.written table.tooShort
 answer-within (refusal number) out = omega arith
 answer-within (handed t) out = go (ltb (length out) (length (encode t))) refl
   where
-    go : (b : Bool) → ltb (length out) (length (encode t)) ≡ b → pick {A = Written} b (record { refusal = 11; length = 0 }) (record { refusal = 0; length = length (encode t) }) .length ≤ length out
+    go : (b : Bool) → ltb (length out) (length (encode t)) ≡ b
+        → pick {A = Written} b (record { refusal = 11; length = 0 }) (record { refusal = 0; length = length (encode t) }) .length ≤ length out
     go true e = omega arith
     go false e = ltb-false (length out) (length (encode t)) e
+
+-- what is handed out belongs to a request within the limits
+pub handed-cycle : (request : List ℕ) (t : Table) → outcome request ≡ handed t → (x : Instance) × Within request x
+unfolding outcome
+handed-cycle request t e = go (cycleOf request) refl e
+  where
+    go : (c : Cycle) → cycleOf request ≡ c → inCycle c ≡ handed t → (x : Instance) × Within request x
+    go (cycle tasks pairs h jobs) is q = (instance tasks pairs h jobs, is)
+    go (noCycle number) is q = absurd (never (cc))

@@ -23,7 +23,7 @@ struct FoundPlan {
 }
 
 // The first plan with frames of length f.
-fn plan_with(cycle: Cycle, cost: [u16; 128], links: JobLinks, f: u16) -> FoundPlan
+fn plan_with(cycle: Cycle, cost: [u32; 128], links: JobLinks, f: u16) -> FoundPlan
     requires { ⌜ Searchable cycle cost links f ⌝ }
     ensures { λ r. ⌜ r ≡ foundAnswer (plan (problemAt (instanceOf cycle) f) []) ⌝ }
 {
@@ -35,7 +35,7 @@ fn plan_with(cycle: Cycle, cost: [u16; 128], links: JobLinks, f: u16) -> FoundPl
     let counts = links.counts;
     let places = links.places;
     let mut frames = [0u16; 128];
-    let mut load = [0u16; 256];
+    let mut load = [0u32; 256];
     let found = place_job(
         &costs[..n],
         &first[..n],
@@ -43,7 +43,7 @@ fn plan_with(cycle: Cycle, cost: [u16; 128], links: JobLinks, f: u16) -> FoundPl
         &counts[..n],
         &places[..m],
         cycle.h / f,
-        f,
+        f as u32,
         &mut frames[..n],
         &mut load,
         0,

@@ -4,7 +4,8 @@ mod place;
 
 use table::Written;
 ghost use mathlib.Core.Path.{_≡_};
-ghost use Rattle.planner.specs.Outcome.{outcome, answer, buffer};
+ghost use Rattle.planned_table.specs.Outcome.{answer, buffer};
+ghost use Rattle.planner.specs.Outcome.{outcome};
 
 fn refused(number: u8) -> Written
     ensures { λ r. ⌜ (r .refusal ≡ number) × (r .length ≡ 0) ⌝ }

@@ -64,15 +64,15 @@ fn upper_bound(counts: &[u8], links: &[u8], place: &[u16], i: usize) -> u16
 // Places job i and those after it: tries the frames of its window, the earliest first. False: there is no way to place them after
 // the jobs before i, as those stand.
 pub(super) fn place_job(
-    cost: &[u16],
+    cost: &[u32],
     first: &[u16],
     end: &[u16],
     counts: &[u8],
     links: &[u8],
     rows: u16,
-    f: u16,
+    f: u32,
     place: &mut [u16],
-    load: &mut [u16],
+    load: &mut [u32],
     i: usize,
 ) -> bool
     requires { ⌜ i ≤ length (now cost) ⌝ }
@@ -111,15 +111,15 @@ pub(super) fn place_job(
 
 // Tries job i in frame k, with the jobs after it, where its links leave it the frames from `low` to `high`.
 fn try_frame(
-    cost: &[u16],
+    cost: &[u32],
     first: &[u16],
     end: &[u16],
     counts: &[u8],
     links: &[u8],
     rows: u16,
-    f: u16,
+    f: u32,
     place: &mut [u16],
-    load: &mut [u16],
+    load: &mut [u32],
     i: usize,
     k: u16,
     low: u16,

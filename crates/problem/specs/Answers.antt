@@ -1,11 +1,9 @@
--- What the functions answer: a number of each job in an array, the links of each job in 16 places of one. Together they are the problem
--- that the search is given.
+-- What the functions answer: a number of each job in an array, the links of each job in 16 places of one.
 use Prim.Native.Nat.{ℕ, _*_}
 use mathlib.Core.Path.{_≡_}
 use mathlib.Core.List.{List, [], _∷_, _++_}
-use lib.ListN.{length, take}
+use lib.ListN.{length}
 use Rattle.cursor.specs.Padded.{padded}
-use Rattle.search.specs.Placing.{Problem, problem}
 use Rattle.model.specs.Plan.{Instance}
 use Rattle.model.specs.Links.{linkCounts, linkPlaces}
 use Rattle.problem.specs.declared.JobLinks.{JobLinks}
@@ -14,11 +12,6 @@ use Rattle.problem.specs.declared.LinkFound.the-variants.{Link, NoLink}
 
 unfoldable pub linksAnswer : Instance → JobLinks
 linksAnswer x = record { counts = padded 128 0 (linkCounts x); places = padded 2048 0 (linkPlaces x) }
-
--- the problem of n jobs, from the first places of arrays
-unfoldable pub problemIn : ℕ → List ℕ → List ℕ → List ℕ → JobLinks → ℕ → ℕ → Problem
-problemIn n costs firstFrames endFrames links rows f =
-    problem (take n costs) (take n firstFrames) (take n endFrames) (take n (links .counts)) (take (16 * n) (links .places)) rows f
 
 -- at most one link
 abbrev pub asList : LinkFound → List ℕ

@@ -13,7 +13,7 @@ use Rattle.request.specs.declared.Task.{Task}
 use Rattle.cycle.specs.Planned.{noJob}
 use Rattle.cycle.specs.declared.Job.{Job}
 use Rattle.model.specs.Plan.{slot, costOf}
-use Rattle.model.specs.Window.{firstFrame}
+use Rattle.model.specs.Window.{firstFrom}
 use Rattle.model.specs.Chosen.{firstFrameOf, endFrameOf}
 
 -- one element more, stored at place k
@@ -53,14 +53,14 @@ module _ (places : List Task) (n : ℕ) (job : Job) where
   cost-unknown h =
       sym (ap (λ (x : Task). x .c) (List·getD-eq-default (firsts n noTask places) noTask {n = job .task} (omega (arith, firsts-length noTask places n))))
 
-  pub cost-known : job .task < n → getD places (job .task) noTask .c ≡ costOf (firsts n noTask places) job
-  unfolding costOf slot
-  cost-known h = sym (ap (λ (x : Task). x .c) (getD-firsts noTask places n (job .task) h))
+  pub cost-known : job .task < n → slot (getD places (job .task) noTask) ≡ costOf (firsts n noTask places) job
+  unfolding costOf
+  cost-known h = sym (ap slot (getD-firsts noTask places n (job .task) h))
 
 -- frames of length 0 have no number but 0
 module _ (f : ℕ) (job : Job) where
   pub first-of-none : f ≡ 0 → 0 ≡ firstFrameOf f job
-  unfolding firstFrameOf firstFrame
+  unfolding firstFrameOf firstFrom
   first-of-none e = rw e (sym (div-zero _))
 
   pub end-of-none : f ≡ 0 → 0 ≡ endFrameOf f job

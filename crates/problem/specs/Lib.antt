@@ -2,4 +2,3 @@
 pub mod Answers
 pub mod JobLaws
 pub mod LinkLaws
-pub mod ProblemLaws

@@ -17,7 +17,8 @@ use Rattle.cycle.specs.Planned.{noJob}
 use Rattle.cycle.specs.declared.Job.{Job}
 use Rattle.cycle.specs.declared.Cycle.{Cycle}
 use Rattle.model.specs.Plan.{Instance}
-use Rattle.model.specs.Links.{isJob, placeFrom, placeBefore, linkIf, linkBy, linksBy, linksOfJob, linksFrom, allLinks, inPlaces, linkCounts, linkPlaces}
+use Rattle.model.specs.Named.{isJob}
+use Rattle.model.specs.Links.{placeFrom, placeBefore, linkIf, linkBy, linksBy, linksOfJob, linksFrom, allLinks, inPlaces, linkCounts, linkPlaces}
 use Rattle.model.specs.LinksLaws.{place-here, place-later, links-few, links-from-length}
 use Rattle.model.specs.Answers.{instance, instanceOf}
 use Rattle.problem.specs.Answers.{linksAnswer, Stored}
@@ -33,10 +34,10 @@ module _ (jobs : List Job) (y i j z : ℕ) where
   unfolding isJob
   scan-found h a b =
       let left : y - z ≡ suc (y - (z + 1)) = omega arith in
-      let is : isJob job i j ≡ true = rw (eq-eqb (job .task) i a) (eq-eqb (job .number) j b) in
+      let is : isJob i j job ≡ true = rw (eq-eqb (job .task) i a) (eq-eqb (job .number) j b) in
       rw left (place-here jobs i j (y - (z + 1)) z is)
 
-  other : isJob job i j ≡ false → z < y → placeFrom jobs i j (y - (z + 1)) (z + 1) ≡ placeFrom jobs i j (y - z) z
+  other : isJob i j job ≡ false → z < y → placeFrom jobs i j (y - (z + 1)) (z + 1) ≡ placeFrom jobs i j (y - z) z
   other e h =
       let left : y - z ≡ suc (y - (z + 1)) = omega arith in
       rw left (sym (place-later jobs i j (y - (z + 1)) z e))
@@ -124,7 +125,8 @@ module _ (jobs : List Job) (y : ℕ) where
             stored = λ done size b.
                 let all = done ++ linksSo u in
                 let at : length all ≡ 16 * y + count = omega (arith, length-append done (linksSo u), s .counted) in
-                rw (s .stored done size b) (set-next 2048 0 all link (16 * y + count) at room ∙ ap (padded 2048 0) (append-assoc done (linksSo u) (link ∷ [])));
+                rw (s .stored done size b)
+                (set-next 2048 0 all link (16 * y + count) at room ∙ ap (padded 2048 0) (append-assoc done (linksSo u) (link ∷ [])));
           })
 
 -- what is found before place y in the first n places of an array
@@ -141,7 +143,8 @@ module _ (jobs : List Job) (n : ℕ) where
     link-known : (pair : Pair) → linkBy known y pair ≡ linkBy jobs y pair
     unfolding linkBy placeBefore
     link-known pair =
-        rw (getD-firsts noJob jobs n y h, place-known (pair .a) (getD jobs y noJob .number) y 0 (omega arith), place-known (pair .b) (getD jobs y noJob .number) y 0 (omega arith))
+        let number = getD jobs y noJob .number in
+        rw (getD-firsts noJob jobs n y h, place-known (pair .a) number y 0 (omega arith), place-known (pair .b) number y 0 (omega arith))
 
     pub links-known : (pairs : List Pair) → linksBy known y pairs ≡ linksBy jobs y pairs
     unfolding linksBy
@@ -187,19 +190,22 @@ module _ (x : Instance) where
   unfolding linksFrom inPlaces
   no-job-linked = record { size = refl; counted = none-stored 128 0; stored = none-stored 2048 0 }
 
-  module _ (y : ℕ) (counts places : List ℕ) (s : LinksSoFar x y counts places) (after : List ℕ) (count : ℕ) (links : List ℕ) (own : linksOfJob x y ≡ links) (one : Stored y links places after count) where
-    one-job-linked : y < 128 → length links ≤ 16 → LinksSoFar x (y + 1) (set counts y count) after
+  module _ (y : ℕ) (counts places : List ℕ) (s : LinksSoFar x y counts places) where
+    one-job-linked : (after : List ℕ) (count : ℕ) (links : List ℕ) → linksOfJob x y ≡ links → Stored y links places after count → y < 128
+        → length links ≤ 16 → LinksSoFar x (y + 1) (set counts y count) after
     unfolding inPlaces
-    one-job-linked room few =
+    one-job-linked after count links own one room few =
         let before = linksFrom x y 0 in
         let more : linksFrom x (y + 1) 0 ≡ before ++ (links ∷ []) = links-upto y ∙ rw own in
-        let placed : inPlaces (linksFrom x (y + 1) 0) ≡ inPlaces before ++ padded 16 0 links = rw more (in-places-append before (links ∷ []) ∙ rw append-nil) in
+        let placed : inPlaces (linksFrom x (y + 1) 0) ≡ inPlaces before ++ padded 16 0 links
+        = rw more (in-places-append before (links ∷ []) ∙ rw append-nil) in
         let listed : map length (linksFrom x (y + 1) 0) ≡ map length before ++ (length links ∷ []) = rw (more, map-append) refl in
         let sized : length (map length before) ≡ y = length-map before length ∙ links-from-length x y 0 in
         record {
           size = rw placed (omega (arith, length-append (inPlaces before) (padded 16 0 links), padded-length 16 0 links few, s .size));
           counted = rw (s .counted, listed, one .counted) (set-next 128 0 (map length before) (length links) y sized room);
-          stored = rw placed (one .stored (inPlaces before) (s .size) (s .stored) ∙ pad-part 2048 16 0 (inPlaces before) links few (omega (arith, s .size)));
+          stored = rw placed
+              (one .stored (inPlaces before) (s .size) (s .stored) ∙ pad-part 2048 16 0 (inPlaces before) links few (omega (arith, s .size)));
         }
 
 -- the links stand on the jobs and the pairs alone

@@ -25,8 +25,8 @@ enum LinkFound {
     NoLink,
 }
 
-// The C of the job's task, 0 where that is not one of the n tasks.
-fn cost(tasks: [Task; 16], n: usize, job: Job) -> u16
+// The slot of the job's task, 0 where that is not one of the n tasks.
+fn cost(tasks: [Task; 16], n: usize, job: Job) -> u32
     requires { ⌜ n ≤ 16 ⌝ }
     ensures { λ r. ⌜ r ≡ costOf (firsts n noTask tasks) job ⌝ }
 {
@@ -35,18 +35,18 @@ fn cost(tasks: [Task; 16], n: usize, job: Job) -> u16
         return 0;
     }
     let x = tasks[i];
-    x.c
+    model::slot(x)
 }
 
 // The time that each job takes in its row.
-pub fn costs(cycle: Cycle) -> [u16; 128]
-    ensures { λ r. ⌜ r ≡ padded 128 0 (costs (instanceOf cycle .tasks) (instanceOf cycle .jobs)) ⌝ }
+pub fn costs(cycle: Cycle) -> [u32; 128]
+    ensures { λ r. ⌜ r ≡ padded 128 0 (costs (instanceOf cycle)) ⌝ }
 {
     let tasks = cycle.tasks;
     let jobs = cycle.jobs;
-    let n = model::at_most(cycle.n, 16);
-    let count = model::at_most(cycle.count, 128);
-    let mut out = [0u16; 128];
+    let n = arith::at_most(cycle.n, 16);
+    let count = arith::at_most(cycle.count, 128);
+    let mut out = [0u32; 128];
     let mut y: usize = 0;
     while y < count {
         let job = jobs[y];
@@ -72,7 +72,7 @@ pub fn first_frames(cycle: Cycle, f: u16) -> [u16; 128]
     ensures { λ r. ⌜ r ≡ padded 128 0 (map (firstFrameOf f) (instanceOf cycle .jobs)) ⌝ }
 {
     let jobs = cycle.jobs;
-    let count = model::at_most(cycle.count, 128);
+    let count = arith::at_most(cycle.count, 128);
     let mut out = [0u16; 128];
     let mut y: usize = 0;
     while y < count {
@@ -98,7 +98,7 @@ pub fn end_frames(cycle: Cycle, f: u16) -> [u16; 128]
     ensures { λ r. ⌜ r ≡ padded 128 0 (map (endFrameOf f) (instanceOf cycle .jobs)) ⌝ }
 {
     let jobs = cycle.jobs;
-    let count = model::at_most(cycle.count, 128);
+    let count = arith::at_most(cycle.count, 128);
     let mut out = [0u16; 128];
     let mut y: usize = 0;
     while y < count {
@@ -182,8 +182,8 @@ pub fn links(cycle: Cycle) -> JobLinks
 {
     let jobs = cycle.jobs;
     let pairs = cycle.pairs;
-    let m = model::at_most(cycle.m, 16);
-    let n = model::at_most(cycle.count, 128);
+    let m = arith::at_most(cycle.m, 16);
+    let n = arith::at_most(cycle.count, 128);
     let mut counts = [0u8; 128];
     let mut places = [0u8; 2048];
     let mut y: usize = 0;

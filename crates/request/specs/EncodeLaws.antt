@@ -9,7 +9,7 @@ use borrow.Author.Tests.{le-leb, lt-ltb, eq-eqb}
 use Rattle.cursor.specs.Parsed.{Parsed, got, refused, then, records}
 use Rattle.cursor.specs.ParsedLaws.{never}
 use Rattle.cursor.specs.Fields.{byteOf, wordOf}
-use Rattle.cursor.specs.Front.{Bytes, Front, front-then, byte-front, word-read, records-front, records-read}
+use Rattle.cursor.specs.Front.{Bytes, Front, front-then, byte-front, byte-read, word-read, records-front, records-read}
 use Rattle.cursor.specs.OwnBytes.{OwnBytes, ByOwnBytes, value-own, rule-own, byte-own, word-own, then-own, records-own}
 use Rattle.request.specs.Request.{
   noTask,
@@ -66,8 +66,9 @@ task-own =
 -- A pair, for the tasks of the first section.
 module _ (tasks : List Task) where
   pair-back : (q : Pair) → PairKept tasks q → (rest : List ℕ) → pairOf tasks (pairBytes q ++ rest) ≡ got q rest
-  unfolding pairOf judgedPair pairRule pairBytes byteOf
-  pair-back q kept rest = rw (lt-ltb (q .a) (q .b) (kept .rises), lt-ltb (q .b) (length tasks) (kept .known), eq-eqb _ _ (kept .period))
+  unfolding pairOf judgedPair pairRule pairBytes
+  pair-back q kept rest =
+      rw (byte-read 1 (q .a), byte-read 1 (q .b), lt-ltb (q .a) (q .b) (kept .rises), lt-ltb (q .b) (length tasks) (kept .known), eq-eqb _ _ (kept .period))
 
   pair-own : ByOwnBytes 1 (pairOf tasks)
   unfolding pairOf judgedPair
@@ -84,8 +85,8 @@ module _ {A : Type 0} (test : ℕ → Bool) (one : List ℕ → Parsed A) (numbe
     section-back : (blank : A) (Kept : A → Type 0) → ((x : A) → Kept x → (rest : List ℕ) → one (write x ++ rest) ≡ got x rest)
         → (xs : List A) (rest : List ℕ) → test (length xs) ≡ true → ((i : ℕ) → i < length xs → Kept (getD xs i blank))
         → section test one number (sectionBytes write xs ++ rest) ≡ got xs rest
-    unfolding sectionBytes byteOf
-    section-back blank Kept back xs rest count kept = rw count (records-read one write blank Kept back xs rest kept)
+    unfolding sectionBytes
+    section-back blank Kept back xs rest count kept = rw (byte-read 1 (length xs), count) (records-read one write blank Kept back xs rest kept)
 
     section-front : ((bytes : List ℕ) (x : A) (rest : List ℕ) → one bytes ≡ got x rest → Bytes bytes → Front bytes (write x) rest)
         → (bytes : List ℕ) (xs : List A) (rest : List ℕ) → section test one number bytes ≡ got xs rest → Bytes bytes → Front bytes (sectionBytes write xs) rest
@@ -97,18 +98,21 @@ module _ {A : Type 0} (test : ℕ → Bool) (one : List ℕ → Parsed A) (numbe
 
 -- The first section of a request, and the second.
 
-tasks-back : (tasks : List Task) (pairs : List Pair) → Readable tasks pairs → (rest : List ℕ) → tasksOf (sectionBytes taskBytes tasks ++ rest) ≡ got tasks rest
+tasks-back : (tasks : List Task) (pairs : List Pair) → Readable tasks pairs → (rest : List ℕ)
+    → tasksOf (sectionBytes taskBytes tasks ++ rest) ≡ got tasks rest
 unfolding tasksOf
 tasks-back tasks pairs kept rest =
     let count : taskCount (length tasks) ≡ true = rw (le-leb 1 (length tasks) (kept .some-task), le-leb (length tasks) 16 (kept .few-tasks)) in
     section-back taskCount taskOf 2 taskBytes noTask TaskKept task-back tasks rest count (kept .task)
 
-pairs-back : (tasks : List Task) (pairs : List Pair) → Readable tasks pairs → (rest : List ℕ) → pairsOf tasks (sectionBytes pairBytes pairs ++ rest) ≡ got pairs rest
+pairs-back : (tasks : List Task) (pairs : List Pair) → Readable tasks pairs → (rest : List ℕ)
+    → pairsOf tasks (sectionBytes pairBytes pairs ++ rest) ≡ got pairs rest
 unfolding pairsOf
 pairs-back tasks pairs kept rest =
     section-back pairCount (pairOf tasks) 4 pairBytes noPair (PairKept tasks) (pair-back tasks) pairs rest (le-leb (length pairs) 16 (kept .few-pairs)) (kept .pair)
 
-tasks-front : (bytes : List ℕ) (tasks : List Task) (rest : List ℕ) → tasksOf bytes ≡ got tasks rest → Bytes bytes → Front bytes (sectionBytes taskBytes tasks) rest
+tasks-front : (bytes : List ℕ) (tasks : List Task) (rest : List ℕ) → tasksOf bytes ≡ got tasks rest
+    → Bytes bytes → Front bytes (sectionBytes taskBytes tasks) rest
 unfolding tasksOf
 tasks-front bytes tasks rest e = section-front taskCount taskOf 2 taskBytes (λ b x r e. task-read b x r e .front) bytes tasks rest e
 

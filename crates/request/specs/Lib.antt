@@ -4,4 +4,5 @@ pub mod Answers
 pub mod ReadingLaws
 pub mod SectionLaws
 pub mod Readable
+pub mod AnswerLaws
 pub mod EncodeLaws

@@ -1,4 +1,5 @@
 -- What a readable request keeps: the form under 01's 'Request file', as facts. Crates above go by these.
+-- A request that was read has its two sections, and each record of a section keeps its rule and stands in the bytes as it is written.
 use Prim.Native.Nat.{ℕ, _≤_, _<_}
 use mathlib.Core.Path.{_≡_, refl, sym, ap, _∙_}
 use mathlib.Core.Bool.{true}
@@ -63,7 +64,12 @@ rule-kept x e =
     let one = both-true (leb 1 (x .c)) _ e in
     let two = both-true (leb (x .c) (x .d)) _ (one .1) in
     let three = both-true (leb (x .d) (x .t)) _ (two .1) in
-    record { some = leb-true 1 (x .c) (one .0); room = leb-true (x .c) (x .d) (two .0); due = leb-true (x .d) (x .t) (three .0); phase = ltb-true (x .p) (x .t) (three .1) }
+    record {
+      some = leb-true 1 (x .c) (one .0);
+      room = leb-true (x .c) (x .d) (two .0);
+      due = leb-true (x .d) (x .t) (three .0);
+      phase = ltb-true (x .p) (x .t) (three .1);
+    }
 
 -- a record that was read keeps its rule, and its bytes stand at the front
 pub record RecordRead {A : Type 0} (Kept : A → Type 0) (write : A → List ℕ) (bytes : List ℕ) (x : A) (rest : List ℕ) : Type 0 where
@@ -97,7 +103,8 @@ pair-rule-kept tasks a b e =
     let two = both-true (ltb b (length tasks)) _ (one .1) in
     record { rises = ltb-true a b (one .0); known = ltb-true b (length tasks) (two .0); period = eqb-true (periodOf tasks a) (periodOf tasks b) (two .1) }
 
-pub pair-read : (tasks : List Task) (bytes : List ℕ) (q : Pair) (rest : List ℕ) → pairOf tasks bytes ≡ got q rest → RecordRead (PairKept tasks) pairBytes bytes q rest
+pub pair-read : (tasks : List Task) (bytes : List ℕ) (q : Pair) (rest : List ℕ)
+    → pairOf tasks bytes ≡ got q rest → RecordRead (PairKept tasks) pairBytes bytes q rest
 unfolding pairOf judgedPair pairBytes
 pair-read tasks bytes q rest e =
     let s1 = then-got (byteOf 1 bytes) _ q rest e in
@@ -153,7 +160,8 @@ pub unreadable-number : (bytes : List ℕ) (number : ℕ) → reading bytes ≡ 
 unfolding reading
 unreadable-number bytes number e = first (tasksOf bytes) (tasks-section bytes) e
   where
-    second : (ts : List Task) (rest : List ℕ) (r : Parsed (List Pair)) → Section PairNumber pairCount 2 rest r → ended ts r ≡ unreadable number → (1 ≤ number) × (number ≤ 6)
+    second : (ts : List Task) (rest : List ℕ) (r : Parsed (List Pair)) → Section PairNumber pairCount 2 rest r → ended ts r ≡ unreadable number
+        → (1 ≤ number) × (number ≤ 6)
     second ts rest (got ps []) k f = absurd (never (cc))
     second ts rest (got ps (b ∷ tail)) k f = let six : 6 ≡ number = cc in omega arith
     second ts rest (refused m) k f = let same : m ≡ number = cc in omega arith

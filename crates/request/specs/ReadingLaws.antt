@@ -46,7 +46,7 @@ pair-wide tasks bytes =
     then-wide PairNumber 1 0 rest (byteOf 1 rest) _ (byte rest) (λ b rest. rule-wide PairNumber (pairRule tasks a b) _ rest 5 (omega arith)))
 
 -- four words in a row are a task, which is judged
-module _ (s : List ℕ) (at c t d p : ℕ) (k1 k2 k3 k4 : Cursor)
+module _ (s : List ℕ) (at : ℕ) {c t d p : ℕ} {k1 k2 k3 k4 : Cursor}
     (e1 : wordAt s at ≡ Word c k1) (e2 : wordAt s (k1 .at) ≡ Word t k2) (e3 : wordAt s (k2 .at) ≡ Word d k3) (e4 : wordAt s (k3 .at) ≡ Word p k4) where
   pub task-words : taskOf (drop at s) ≡ judgedTask (record { c = c; t = t; d = d; p = p }) (drop (k4 .at) s)
   unfolding taskOf
@@ -62,12 +62,11 @@ module _ (s : List ℕ) (at c t d p : ℕ) (k1 k2 k3 k4 : Cursor)
       λ i. record { at = moved i }
 
 -- two bytes in a row are a pair, which is judged
-module _ (tasks : List Task) (s : List ℕ) (at a b : ℕ) (k1 k2 : Cursor) (e1 : byteAt s at ≡ Byte a k1) (e2 : byteAt s (k1 .at) ≡ Byte b k2) where
-  pub pair-bytes : pairOf tasks (drop at s) ≡ judgedPair tasks a b (drop (k2 .at) s)
+module _ (s : List ℕ) (at : ℕ) {a b : ℕ} {k1 k2 : Cursor} (e1 : byteAt s at ≡ Byte a k1) (e2 : byteAt s (k1 .at) ≡ Byte b k2) where
+  pub pair-bytes : (tasks : List Task) → pairOf tasks (drop at s) ≡ judgedPair tasks a b (drop (k2 .at) s)
   unfolding pairOf
-  pair-bytes = simp (byte-taken 1 s at a k1 e1 .field, byte-taken 1 s (k1 .at) b k2 e2 .field)
+  pair-bytes tasks = simp (byte-taken 1 s at a k1 e1 .field, byte-taken 1 s (k1 .at) b k2 e2 .field)
 
-module _ (s : List ℕ) (at a b : ℕ) (k1 k2 : Cursor) (e1 : byteAt s at ≡ Byte a k1) (e2 : byteAt s (k1 .at) ≡ Byte b k2) where
   pub pair-end : k2 ≡ record { at = at + 2 }
   pair-end =
       let moved : k2 .at ≡ at + 2 = omega (arith, byte-taken 1 s at a k1 e1 .moved, byte-taken 1 s (k1 .at) b k2 e2 .moved) in
@@ -83,17 +82,17 @@ pairTold (OnePair x next) = a-record x next
 pairTold (NoPair number) = a-number number
 
 module _ (s : List ℕ) (at : ℕ) where
-  pub task-taken : (x : Task) (next : Cursor) → taskRead at (taskOf (drop at s)) ≡ OneTask x next
+  pub task-taken : {x : Task} {next : Cursor} → taskRead at (taskOf (drop at s)) ≡ OneTask x next
       → (taskOf (drop at s) ≡ got x (drop (next .at) s)) × (next .at ≡ at + 8)
-  task-taken = record-taken OneTask NoTask taskTold (λ x next. refl) (λ number. refl) 8 at s TaskNumber (taskOf (drop at s)) (task-wide (drop at s))
+  task-taken = record-taken OneTask NoTask taskTold (λ x next. refl) (λ number. refl) 8 at s TaskNumber (taskOf (drop at s)) (task-wide (drop at s)) _ _
 
-  pub task-refused : (number : ℕ) → taskRead at (taskOf (drop at s)) ≡ NoTask number → taskOf (drop at s) ≡ refused number
-  task-refused = record-refused OneTask NoTask taskTold (λ x next. refl) (λ number. refl) 8 at s (taskOf (drop at s))
+  pub task-refused : {number : ℕ} → taskRead at (taskOf (drop at s)) ≡ NoTask number → taskOf (drop at s) ≡ refused number
+  task-refused = record-refused OneTask NoTask taskTold (λ x next. refl) (λ number. refl) 8 at s (taskOf (drop at s)) _
 
 module _ (tasks : List Task) (s : List ℕ) (at : ℕ) where
-  pub pair-taken : (x : Pair) (next : Cursor) → pairRead at (pairOf tasks (drop at s)) ≡ OnePair x next
+  pub pair-taken : {x : Pair} {next : Cursor} → pairRead at (pairOf tasks (drop at s)) ≡ OnePair x next
       → (pairOf tasks (drop at s) ≡ got x (drop (next .at) s)) × (next .at ≡ at + 2)
-  pair-taken = record-taken OnePair NoPair pairTold (λ x next. refl) (λ number. refl) 2 at s PairNumber (pairOf tasks (drop at s)) (pair-wide tasks (drop at s))
+  pair-taken = record-taken OnePair NoPair pairTold (λ x next. refl) (λ number. refl) 2 at s PairNumber (pairOf tasks (drop at s)) (pair-wide tasks (drop at s)) _ _
 
-  pub pair-refused : (number : ℕ) → pairRead at (pairOf tasks (drop at s)) ≡ NoPair number → pairOf tasks (drop at s) ≡ refused number
-  pair-refused = record-refused OnePair NoPair pairTold (λ x next. refl) (λ number. refl) 2 at s (pairOf tasks (drop at s))
+  pub pair-refused : {number : ℕ} → pairRead at (pairOf tasks (drop at s)) ≡ NoPair number → pairOf tasks (drop at s) ≡ refused number
+  pair-refused = record-refused OnePair NoPair pairTold (λ x next. refl) (λ number. refl) 2 at s (pairOf tasks (drop at s)) _

@@ -14,7 +14,7 @@ use Rattle.cursor.specs.Parsed.{Parsed, got, refused, then, records}
 use Rattle.cursor.specs.ParsedLaws.{then-got, rule-got, both-true}
 use Rattle.cursor.specs.Fields.{byteOf}
 use Rattle.cursor.specs.Widths.{Wide, byte-wide, records-wide, records-count}
-use Rattle.cursor.specs.RecordLaws.{records-each}
+use Rattle.cursor.specs.RecordLaws.{SoFar, all-records, records-each}
 use Rattle.cursor.specs.Padded.{padded, padded-length, take-padded}
 use Rattle.request.specs.Request.{section, taskCount, taskOf, tasksOf, pairCount, pairOf, pairsOf, reading, ended, afterTasks, readable, unreadable, noTask, noPair}
 use Rattle.request.specs.Answers.{sectionAnswer, taskAnswer, taskSection, pairAnswer, pairSection, unread, answered}
@@ -36,7 +36,8 @@ Section Number test width bytes (got xs rest) = SectionRead test width bytes xs 
 Section Number test width bytes (refused number) = Number number
 
 module _ {A : Type 0} (Number : ℕ → Type 0) (test : ℕ → Bool) (one : List ℕ → Parsed A) (width number : ℕ) (bytes : List ℕ) where
-  section-read : Number 1 → Number number → ((bytes : List ℕ) → Wide Number width bytes (one bytes)) → Section Number test width bytes (section test one number bytes)
+  section-read : Number 1 → Number number → ((bytes : List ℕ) → Wide Number width bytes (one bytes))
+      → Section Number test width bytes (section test one number bytes)
   section-read short bad wide = go (byteOf 1 bytes) (byte-wide Number 1 short bytes)
     where
       read : (n : ℕ) (tail : List ℕ) → (1 ≤ length bytes) × (tail ≡ drop 1 bytes) → test n ≡ true → (r : Parsed (List A)) → records one n [] tail ≡ r
@@ -103,7 +104,8 @@ pub record SectionOf {A : Type 0} (test : ℕ → Bool) (width : ℕ) (bytes : L
   pub read : SectionRead test width bytes items rest
 
 -- What a section is, by its answer, whose refusal number `refusal` gives; and its answer, from its parts.
-module _ {A R : Type 0} (answer : ℕ → ℕ → List A → ℕ → R) (refusal : R → ℕ) (says : (number n : ℕ) (xs : List A) (end : ℕ) → refusal (answer number n xs end) ≡ number)
+module _ {A R : Type 0} (answer : ℕ → ℕ → List A → ℕ → R) (refusal : R → ℕ)
+    (says : (number n : ℕ) (xs : List A) (end : ℕ) → refusal (answer number n xs end) ≡ number)
     (blank : A) (width : ℕ) where
   section-refused : (r : Parsed (List A)) → (refusal (sectionAnswer answer blank width r) ≡ 0 → ⊥) → r ≡ refused (refusal (sectionAnswer answer blank width r))
   section-refused (got xs rest) ne = absurd (ne (says 0 (length xs) (padded 16 blank xs) (1 + width * length xs)))
@@ -114,12 +116,15 @@ module _ {A R : Type 0} (answer : ℕ → ℕ → List A → ℕ → R) (refusal
   section-got Number some test bytes (got xs rest) h e = record { items = xs; rest = rest; is = refl; read = h }
   section-got Number some test bytes (refused number) h e = let none : number ≡ 0 = rw says at e in absurd (some (rw none at h))
 
-module _ {A R : Type 0} (answer : ℕ → ℕ → List A → ℕ → R) (blank : A) (width : ℕ) where
-  pub section-answer : (n at : ℕ) (places xs : List A) (rest : List ℕ) → length xs ≡ n → places ≡ padded 16 blank xs → at ≡ 1 + width * n
-      → answer 0 n places at ≡ sectionAnswer answer blank width (got xs rest)
-  section-answer n at places xs rest size stored end =
-      let bytes : at ≡ 1 + width * length xs = end ∙ rw size in
-      λ i. answer 0 (sym size i) (stored i) (bytes i)
+-- all its records are read
+module _ {A R : Type 0} (answer : ℕ → ℕ → List A → ℕ → R) (width : ℕ)
+    {one : List ℕ → Parsed A} {blank : A} {whole : Parsed (List A)} {s : List ℕ} {n i at : ℕ} {places : List A} where
+  pub section-answer : SoFar one 16 blank whole s n i at places → n ≤ i → i ≤ n → at ≡ 1 + width * n
+      → answer 0 n places at ≡ sectionAnswer answer blank width whole
+  section-answer so-far end most place =
+      let size : length (so-far .done) ≡ n = omega (arith, so-far .count) in
+      let bytes : at ≡ 1 + width * length (so-far .done) = place ∙ rw size in
+      (λ q. answer 0 (sym size q) (so-far .stored q) (bytes q)) ∙ ap (sectionAnswer answer blank width) (sym (all-records so-far end))
 
 -- What is known of the first section once its answer has no refusal number.
 pub record FirstSection (s : List ℕ) (a : TaskSection) : Type 0 where
@@ -152,7 +157,8 @@ section-is s a tasks rest is read answer =
 pub first-section : (s : List ℕ) (a : TaskSection) → a ≡ taskSection (tasksOf s) → a .refusal ≡ 0 → FirstSection s a
 first-section s a e z =
     let none = ap (λ (x : TaskSection). x .refusal) (sym e) ∙ z in
-    let h = section-got taskAnswer (λ x. x .refusal) (λ number n xs end. refl) noTask 8 TaskNumber (λ k. omega arith) taskCount s (tasksOf s) (tasks-section s) none in
+    let h = section-got taskAnswer (λ x. x .refusal) (λ number n xs end. refl) noTask 8 TaskNumber (λ k. omega arith) taskCount s
+    (tasksOf s) (tasks-section s) none in
     section-is s a (h .items) (h .rest) (h .is) (h .read) (e ∙ ap taskSection (h .is))
 
 -- the request is refused in its first section

@@ -145,22 +145,22 @@ fn read_tasks(s: &[u8]) -> TaskSection
         d: 0,
         p: 0,
     }; 16];
-    let mut at = start.at;
+    let mut here = start;
     let mut i: usize = 0;
     while i < n {
-        let r = read_task(s, Cursor { at });
+        let r = read_task(s, here);
         let TaskRead::OneTask(x, next) = r else {
             return no_tasks(number_of_task(r));
         };
         tasks[i] = x;
-        at = next.at;
+        here = next;
         i += 1;
     }
     TaskSection {
         refusal: 0,
         n,
         tasks,
-        end: at,
+        end: here.at,
     }
 }
 
@@ -233,22 +233,22 @@ fn read_pairs(s: &[u8], tasks: [Task; 16], n: usize) -> PairSection
     }
     let m = count as usize;
     let mut pairs = [Pair { a: 0, b: 0 }; 16];
-    let mut at = start.at;
+    let mut here = start;
     let mut i: usize = 0;
     while i < m {
-        let r = read_pair(s, Cursor { at }, tasks, n);
+        let r = read_pair(s, here, tasks, n);
         let PairRead::OnePair(x, next) = r else {
             return no_pairs(number_of_pair(r));
         };
         pairs[i] = x;
-        at = next.at;
+        here = next;
         i += 1;
     }
     PairSection {
         refusal: 0,
         m,
         pairs,
-        end: at,
+        end: here.at,
     }
 }
 

@@ -5,15 +5,14 @@ use Rattle.cycle.specs.Cycle.{Cycle, cycle, noCycle, cycleOf}
 use Rattle.table.specs.Table.{decode}
 use Rattle.model.specs.Answers.{instance}
 use Rattle.model.specs.Described.{planTable}
-use Rattle.planner.specs.Outcome.{Outcome, handed, refusal}
+use Rattle.planned_table.specs.Outcome.{Outcome, handed, refusal}
 use Rattle.checker.specs.Checked as checker
 
 -- the table of the plan that was read, or the number of the check's refusal
 abbrev pub planRead : Cycle → checker.Verdict → Outcome
+planRead c (checker.refusal number) = refusal number
 planRead (cycle tasks pairs h jobs) (checker.plan f frames) = handed (planTable (instance tasks pairs h jobs) f frames)
-planRead (cycle tasks pairs h jobs) (checker.refusal number) = refusal number
 planRead (noCycle n) (checker.plan f frames) = refusal n
-planRead (noCycle n) (checker.refusal number) = refusal number
 
 unfoldable pub rewritten : List ℕ → List ℕ → Outcome
 rewritten request table = planRead (cycleOf request) (checker.checked (cycleOf request) (decode table))

@@ -14,7 +14,7 @@ use Rattle.model.specs.Plan.{Instance, IsPlan}
 use Rattle.model.specs.Within.{Within, within-good}
 use Rattle.model.specs.Described.{Describes, Accepted}
 use Rattle.model.specs.PlanTable.{describes-is}
-use Rattle.planner.specs.Outcome.{handed, answer, buffer}
+use Rattle.planned_table.specs.Outcome.{handed, answer, buffer}
 use Rattle.checker.specs.Checked as checker
 use Rattle.checker.specs.Accepts.{accepts-described}
 use Rattle.rewriter.specs.Rewritten.{planRead, rewritten}
@@ -33,7 +33,8 @@ module _ (request : List ℕ) (x : Instance) (within : Within request x) where
 
     -- An accepted table is written again with the same bytes, and the bytes behind it keep their content.
     pub same-bytes : Bytes bytes → (out : List ℕ) → length bytes ≤ length out
-        → (answer (rewritten request bytes) out ≡ record { refusal = 0; length = length bytes }) × (buffer (rewritten request bytes) out ≡ bytes ++ drop (length bytes) out)
+        → (answer (rewritten request bytes) out ≡ record { refusal = 0; length = length bytes })
+        × (buffer (rewritten request bytes) out ≡ bytes ++ drop (length bytes) out)
     unfolding answer buffer layout.written layout.buffer layout.tooShort
     same-bytes are out room =
         let own : encode t ≡ bytes = encode-decode bytes t are read in

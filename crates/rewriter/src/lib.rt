@@ -1,7 +1,7 @@
 // Rewriting: a table is checked against its request, and the plan read from it is written again.
 use table::Written;
 ghost use mathlib.Core.Path.{_≡_};
-ghost use Rattle.planner.specs.Outcome.{answer, buffer};
+ghost use Rattle.planned_table.specs.Outcome.{answer, buffer};
 ghost use Rattle.rewriter.specs.Rewritten.{rewritten};
 
 // The table of the plan that was read, written into `out`; the answer holds its length. A refusal leaves `out` as it was.

@@ -17,10 +17,10 @@ fn show(name: &[u8], request: &[u8]) {
     let mut table = [0u8; 1024];
     let mut again = [0u8; 1024];
     let planned = planner::plan(request, &mut table);
-    let end = model::at_most(planned.length, 1024);
+    let end = arith::at_most(planned.length, 1024);
     let refusal = checker::check(request, &table[..end]);
     let written = rewriter::rewrite(request, &table[..end], &mut again);
-    let again_end = model::at_most(written.length, 1024);
+    let again_end = arith::at_most(written.length, 1024);
     print(
         name,
         refusal,

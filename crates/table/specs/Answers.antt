@@ -1,13 +1,14 @@
--- The reader's answers, of what the bytes decode to.
-use Prim.Native.Nat.{ℕ, zero, suc}
+-- The reader's answers, of what the bytes decode to, and the entries that an answer says.
+use Prim.Native.Nat.{ℕ, zero, suc, _+_}
 use mathlib.Core.List.{List, [], _∷_, map}
-use lib.ListN.{length, replicate}
+use lib.ListN.{length, getD, replicate}
 use lib.Dec.{ltb}
 use Rattle.cursor.specs.Choice.{pick}
-use Rattle.table.specs.Table.{Entry, Decoded, table, malformed, jobByte, rowOf}
+use Rattle.cursor.specs.Padded.{padded}
+use Rattle.table.specs.Table.{Entry, Decoded, table, malformed, jobByte, entryOf, rowOf}
 use Rattle.table.specs.declared.Sizes.{Sizes}
 use Rattle.table.specs.declared.Row.{Row}
-use Rattle.table.specs.declared.read.TableRead.{TableRead}
+use Rattle.table.specs.declared.TableRead.{TableRead}
 
 abbrev pub sizesRefused : Sizes
 sizesRefused = record { refusal = 12; f = 0; h = 0; height = 0 }
@@ -17,18 +18,12 @@ unfoldable pub sizesOf : Decoded → Sizes
 sizesOf (table t) = record { refusal = 0; f = t .f; h = t .h; height = length (t .rows) }
 sizesOf malformed = sizesRefused
 
--- "places filled from the first", "unused places are 0"
-unfoldable pub padded : ℕ → List ℕ → List ℕ
-padded zero xs = []
-padded (suc n) [] = 0 ∷ padded n []
-padded (suc n) (x ∷ xs) = x ∷ padded n xs
+abbrev pub taskByte : Entry → ℕ
+taskByte e = e .task
 
-abbrev pub taskOf : Entry → ℕ
-taskOf e = e .task
-
--- "a number and 16 places .., each a task byte and a job byte as in the table"
+-- "a number and 16 places filled from the first .., each a task byte and a job byte as in the table (unused places are 0)"
 unfoldable pub rowGiven : List Entry → Row
-rowGiven es = record { refusal = 0; count = length es; tasks = padded 16 (map taskOf es); jobs = padded 16 (map jobByte es) }
+rowGiven es = record { refusal = 0; count = length es; tasks = padded 16 0 (map taskByte es); jobs = padded 16 0 (map jobByte es) }
 
 abbrev pub rowRefused : ℕ → Row
 rowRefused n = record { refusal = n; count = 0; tasks = replicate 16 0; jobs = replicate 16 0 }
@@ -38,9 +33,17 @@ unfoldable pub rowAnswer : ℕ → Decoded → Row
 rowAnswer k (table t) = pick (ltb k (length (t .rows))) (rowGiven (rowOf t k)) (rowRefused 15)
 rowAnswer k malformed = rowRefused 12
 
-abbrev pub tableRefused : TableRead
-tableRefused = record { sizes = sizesRefused; row = rowRefused 12 }
-
 -- both answers, of one reading
 unfoldable pub tableRead : ℕ → Decoded → TableRead
 tableRead k d = record { sizes = sizesOf d; row = rowAnswer k d }
+
+abbrev pub tableRefused : TableRead
+tableRefused = record { sizes = sizesRefused; row = rowRefused 12 }
+
+-- the entries that places say: n of them from place p on
+unfoldable pub entriesAt : List ℕ → List ℕ → ℕ → ℕ → List Entry
+entriesAt tasks jobs zero p = []
+entriesAt tasks jobs (suc n) p = entryOf (getD tasks p 0) (getD jobs p 0) ∷ entriesAt tasks jobs n (p + 1)
+
+abbrev pub entriesSaid : Row → List Entry
+entriesSaid r = entriesAt (r .tasks) (r .jobs) (r .count) 0

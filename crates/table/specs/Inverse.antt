@@ -1,13 +1,13 @@
 -- Decoding and encoding undo each other, and what is decoded is well formed: each reading by itself, then the whole.
-use Prim.Native.Nat.{ℕ, zero, suc, _+_, _*_, _%_, _≤_, _<_}
-use mathlib.Core.Path.{_≡_, refl, sym, ap, subst, _∙_}
+use Prim.Native.Nat.{ℕ, zero, suc, _+_, _*_, _≤_, _<_}
+use mathlib.Core.Path.{_≡_, refl, ap, subst, _∙_}
 use mathlib.Core.List.{List, [], _∷_, _++_, append-nil, append-assoc}
-use mathlib.Core.Bool.{Bool, true, false}
+use mathlib.Core.Bool.{true}
 use native.Mathlib.Omega.{arith}
-use lib.ListN.{length, getD}
+use lib.ListN.{length}
 use lib.Seq.{append-snoc}
 use lib.Dec.{leb, ltb, eqb}
-use borrow.Author.Tests.{leb-true, ltb-true, eqb-true, le-leb, lt-leb, lt-ltb, eq-eqb, leb-false}
+use borrow.Author.Tests.{leb-true, ltb-true, eqb-true, le-leb, lt-ltb, eq-eqb}
 use Rattle.cursor.specs.Choice.{pick, both}
 use Rattle.cursor.specs.Parsed.{Parsed, got, refused, then, records}
 use Rattle.cursor.specs.ParsedLaws.{never, then-got, rule-got, got-same, both-true}
@@ -38,28 +38,8 @@ use Rattle.table.specs.Table.{
   encode,
 }
 use Rattle.table.specs.WellFormed.{RisingFrom, AllRising, WellFormed}
-
--- the job byte is the job's number and carry, both ways
-pub job-of-byte : (task byte : ℕ) → byte < 256 → jobByte (entryOf task byte) ≡ byte
-unfolding jobByte entryOf
-job-of-byte task byte h = go (leb 128 byte) refl
-  where
-    go : (t : Bool) → leb 128 byte ≡ t → byte % 128 + pick t 128 0 ≡ byte
-    go true q = omega (arith, leb-true 128 byte q)
-    go false q = omega (arith, leb-false 128 byte q)
-
-byte-of-job : (task number : ℕ) (c : Bool) → number < 128 → entryOf task (number + pick c 128 0) ≡ record { task = task; number = number; carried = c }
-unfolding entryOf
-byte-of-job task number true h =
-    let same : (number + 128) % 128 ≡ number = omega arith in
-    rw (same, le-leb 128 (number + 128) (omega arith))
-byte-of-job task number false h =
-    let same : (number + 0) % 128 ≡ number = omega arith in
-    rw (same, lt-leb 128 (number + 0) (omega arith))
-
-pub entry-back : (e : Entry) → e .number < 128 → entryOf (e .task) (jobByte e) ≡ e
-unfolding jobByte
-entry-back e h = byte-of-job (e .task) (e .number) (e .carried) h
+use Rattle.table.specs.EntryLaws.{job-of-byte, entry-back}
+use Rattle.table.specs.RisingLaws.{rising-few, rising-at, all-rising}
 
 -- what is written is read back
 
@@ -68,31 +48,16 @@ unfolding entryFrom byteOf
 entry-read low e rest a b c =
     rw (le-leb low (e .task) a, lt-ltb (e .task) 16 b, entry-back e c)
 
-entries-read : (es : List Entry) (low : ℕ) (done : List Entry) (rest : List ℕ) → RisingFrom low es → entriesFrom (length es) low done (entriesBytes es ++ rest) ≡ got (done ++ es) rest
+entries-read : (es : List Entry) (low : ℕ) (done : List Entry) (rest : List ℕ) → RisingFrom low es
+    → entriesFrom (length es) low done (entriesBytes es ++ rest) ≡ got (done ++ es) rest
 unfolding entriesFrom entriesBytes RisingFrom
 entries-read [] low done rest h = rw append-nil
 entries-read (e ∷ es) low done rest h =
     rw (entry-read low e (entriesBytes es ++ rest) (h .0) (h .1) (h .2)) (entries-read es (e .task + 1) (done ++ (e ∷ [])) rest (h .3) ∙ rw append-snoc)
 
-pub rising-few : (es : List Entry) (low : ℕ) → low ≤ 16 → RisingFrom low es → length es + low ≤ 16
-unfolding RisingFrom
-rising-few [] low l h = omega arith
-rising-few (e ∷ es) low l h = omega (arith, h .0, rising-few es (e .task + 1) (omega (arith, h .1)) (h .3))
-
 row-read : (es : List Entry) (rest : List ℕ) → RisingFrom 0 es → rowFrom (rowBytes es ++ rest) ≡ got es rest
 unfolding rowFrom rowBytes byteOf
 row-read es rest h = rw (le-leb (length es) 16 (omega (arith, rising-few es 0 (omega arith) h))) (entries-read es 0 [] rest h)
-
-pub rising-at : (rows : List (List Entry)) → AllRising rows → (k : ℕ) → RisingFrom 0 (getD rows k [])
-unfolding AllRising RisingFrom
-rising-at [] h k = tt
-rising-at (es ∷ rows) h zero = h .0
-rising-at (es ∷ rows) h (suc k) = rising-at rows (h .1) k
-
-all-rising : (rows : List (List Entry)) → ((k : ℕ) → k < length rows → RisingFrom 0 (getD rows k [])) → AllRising rows
-unfolding AllRising
-all-rising [] each = tt
-all-rising (es ∷ rows) each = (each 0 (omega arith), all-rising rows (λ k h. each (suc k) (omega arith)))
 
 rows-read : (rows : List (List Entry)) → AllRising rows → records rowFrom (length rows) [] (rowsBytes rows) ≡ got rows []
 rows-read rows h =
@@ -271,8 +236,8 @@ record Taken (bytes : List ℕ) (t : Table) : Type 0 where
   form : WellFormed t
   bytes-are : Bytes bytes → encode t ≡ bytes
 
-sections-taken : (bytes : List ℕ) (z : Lengths) (between : List ℕ) (t : Table) → SizesTaken bytes z between → TableTaken z between t [] → Taken bytes t
-sections-taken bytes z between t sizes rows =
+sections-taken : (bytes : List ℕ) (z : Lengths) (tail : List ℕ) (t : Table) → SizesTaken bytes z tail → TableTaken z tail t [] → Taken bytes t
+sections-taken bytes z tail t sizes rows =
     record {
       form = record {
         some-ticks = rw (rows .h-is) (sizes .some-ticks);
@@ -301,7 +266,3 @@ decode-wellformed bytes t q = decode-taken bytes t q .form
 
 pub encode-decode : (bytes : List ℕ) (t : Table) → Bytes bytes → decode bytes ≡ table t → encode t ≡ bytes
 encode-decode bytes t k q = decode-taken bytes t q .bytes-are k
-
--- a table has one byte string
-pub decode-injective : (a b : List ℕ) (t : Table) → Bytes a → Bytes b → decode a ≡ table t → decode b ≡ table t → a ≡ b
-decode-injective a b t h k p q = sym (encode-decode a t h p) ∙ encode-decode b t k q

@@ -2,11 +2,14 @@ pub mod Table
 pub mod WellFormed
 pub mod Answers
 pub mod Layout
-pub mod Steps
+pub mod Promises
 pub mod Left
+pub mod EntryLaws
+pub mod RisingLaws
 pub mod Inverse
-pub mod ReadLaws
 pub mod AnswerLaws
+pub mod ReadLaws
+pub mod LengthLaws
+pub mod ChainLaws
 pub mod WriteLaws
-pub mod LayoutLaws
 pub mod TableBytes

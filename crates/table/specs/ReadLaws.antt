@@ -1,11 +1,11 @@
 -- One turn of each loop of the reader, and its ends: some records are read, and the rest of the reading gives what the whole gives.
-use Prim.Native.Nat.{ℕ, zero, suc, _+_, _-_, _≤_, _<_}
+use Prim.Native.Nat.{ℕ, _+_, _-_, _≤_, _<_}
 use mathlib.Core.Path.{_≡_, refl, sym, ap, _∙_}
-use mathlib.Core.List.{List, [], _∷_, _++_, map, map-append}
+use mathlib.Core.List.{List, [], _∷_, _++_}
 use mathlib.Core.Bool.{Bool, true, false}
 use native.Mathlib.Omega.{arith}
 use native.Mathlib.Nat.{sub-zero}
-use lib.ListN.{length, getD, drop, set, replicate, length-append, length-map, drop-of-length-le, List·getD-append}
+use lib.ListN.{length, getD, drop, set, replicate, length-append, drop-of-length-le, List·getD-append}
 use lib.Seq.{drop-cons, getD-at}
 use lib.Dec.{ltb}
 use borrow.Author.Tests.{ltb-true, ltb-false, lt-ltb, le-ltb, le-leb}
@@ -13,67 +13,50 @@ use Rattle.cursor.specs.Choice.{pick}
 use Rattle.cursor.specs.Parsed.{got, refused, records}
 use Rattle.cursor.specs.Fields.{byteOf, wordOf}
 use Rattle.table.specs.Left.{less-one, none-left}
-use Rattle.table.specs.Table.{Entry, Lengths, table, malformed, jobByte, entryOf, entriesFrom, rowFrom, heightFits, rowsFrom, ended}
-use Rattle.table.specs.Inverse.{job-of-byte}
-use Rattle.table.specs.Answers.{padded, taskOf, rowGiven, rowRefused, sizesOf, rowAnswer, tableRead}
-use Rattle.table.specs.Steps.{EntryAt, RowHere}
+use Rattle.table.specs.Table.{Entry, Lengths, table, malformed, entryOf, entriesFrom, rowFrom, heightFits, rowsFrom, ended}
+use Rattle.table.specs.EntryLaws.{task-of-byte}
+use Rattle.table.specs.Answers.{rowGiven, rowRefused, sizesOf, rowAnswer, tableRead}
+use Rattle.table.specs.AnswerLaws.{EntriesPlaced, none-placed, one-placed, placed-given}
+use Rattle.table.specs.Promises.{EntryAt, RowHere}
 use Rattle.table.specs.declared.Row.{Row}
 use Rattle.table.specs.declared.read.EntryRead.the-variants.{EntryBytes, NoEntry}
 
 one-longer : {A : Type 0} (xs : List A) (x : A) (i : ℕ) → length xs ≡ i → length (xs ++ (x ∷ [])) ≡ i + 1
 one-longer xs x i e = rw (length-append, e)
 
--- the next place is filled
-padded-more : (n : ℕ) (xs : List ℕ) (x : ℕ) → set (padded n xs) (length xs) x ≡ padded n (xs ++ (x ∷ []))
-unfolding padded
-padded-more zero xs x = refl
-padded-more (suc n) [] x = refl
-padded-more (suc n) (y ∷ ys) x = ap (λ (l : List ℕ). y ∷ l) (padded-more n ys x)
-
-filled-more : (f : Entry → ℕ) (done : List Entry) (e : Entry) (i : ℕ) → length done ≡ i → set (padded 16 (map f done)) i (f e) ≡ padded 16 (map f (done ++ (e ∷ [])))
-filled-more f done e i h =
-    let place : length (map f done) ≡ i = length-map done f ∙ h in
-    rw (map-append f done (e ∷ []), ← place) (padded-more 16 (map f done) (f e))
-
 -- the first i of a row's n entries are read, and stand in the places
 pub record EntriesSoFar (s : List ℕ) (n start : ℕ) (tasks jobs : List ℕ) (low at i : ℕ) : Type 0 where
   pub done : List Entry
-  pub count : length done ≡ i
-  pub tasks-are : tasks ≡ padded 16 (map taskOf done)
-  pub jobs-are : jobs ≡ padded 16 (map jobByte done)
+  pub placed : EntriesPlaced done i tasks jobs
   pub left : entriesFrom (n - i) low done (drop at s) ≡ entriesFrom n 0 [] (drop start s)
 
 module _ (s : List ℕ) (n start : ℕ) where
   pub entries-start : EntriesSoFar s n start (replicate 16 0) (replicate 16 0) 0 start 0
-  unfolding padded
-  entries-start = record { done = []; count = refl; tasks-are = refl; jobs-are = refl; left = simp sub-zero }
+  entries-start = record { done = []; placed = none-placed; left = simp sub-zero }
 
   module _ (tasks jobs : List ℕ) (low at i : ℕ) (so : EntriesSoFar s n start tasks jobs low at i) where
-    pub entries-more : (task job : ℕ) (next : _) → i < n → EntryAt s at low (EntryBytes task job next) → EntriesSoFar s n start (set tasks i task) (set jobs i job) (task + 1) (next .at) (i + 1)
-    unfolding entriesFrom entryOf
-    entries-more task job next h e =
-        let x = entryOf task job in
-        record {
-          done = so .done ++ (x ∷ []);
-          count = one-longer (so .done) x i (so .count);
-          tasks-are = rw (so .tasks-are) (filled-more taskOf (so .done) x i (so .count));
-          jobs-are = rw (so .jobs-are) (ap (set (padded 16 (map jobByte (so .done))) i) (sym (job-of-byte task job (e .2))) ∙ filled-more jobByte (so .done) x i (so .count));
-          left = sym (rw (less-one n i h, e .0)) ∙ so .left;
-        }
+    pub entries-more : (task job : ℕ) (next : _) → i < n → n ≤ 16 → EntryAt s at low (EntryBytes task job next)
+        → EntriesSoFar s n start (set tasks i task) (set jobs i job) (task + 1) (next .at) (i + 1)
+    unfolding entriesFrom
+    entries-more task job next h few e = record {
+      done = so .done ++ (entryOf task job ∷ []);
+      placed = one-placed (so .done) i tasks jobs (so .placed) task job (omega arith) (e .2);
+      left = ap (λ (low : ℕ). entriesFrom (n - (i + 1)) (low + 1) (so .done ++ (entryOf task job ∷ [])) (drop (next .at) s)) (sym (task-of-byte task job))
+          ∙ sym (rw (less-one n i h, e .0)) ∙ so .left;
+    }
 
     pub entries-refused : i < n → EntryAt s at low NoEntry → entriesFrom n 0 [] (drop start s) ≡ refused 12
     unfolding entriesFrom
     entries-refused h e = sym (so .left) ∙ rw (less-one n i h, e)
 
-    pub entries-row : (first : ℕ) → n ≤ i → i ≤ n → n ≤ 16 → byteOf 12 (drop first s) ≡ got n (drop start s)
-        → RowHere s first tasks jobs n at
-    unfolding rowFrom entriesFrom rowGiven
+    pub entries-row : (first : ℕ) → n ≤ i → i ≤ n → n ≤ 16 → byteOf 12 (drop first s) ≡ got n (drop start s) → RowHere s first tasks jobs n at
+    unfolding rowFrom entriesFrom
     entries-row first h k few byte =
-        let all : length (so .done) ≡ n = omega (arith, so .count) in
+        let all : i ≡ n = omega arith in
         record {
           entries = so .done;
           read = rw (byte, le-leb n 16 few) (sym (so .left) ∙ rw (none-left n i h));
-          given = rw (all, so .tasks-are, so .jobs-are);
+          given = rw (← all) (placed-given (so .done) i tasks jobs (so .placed));
         }
 
 -- the rows' section as far as its first i rows: the row k is kept once it is read
@@ -88,11 +71,13 @@ module _ (z : Lengths) (k : ℕ) (done : List (List Entry)) (es : List Entry) (i
   unfolding rowAnswer
   row-found e = rw (one-longer done es i count, lt-ltb k (i + 1) (omega arith), getD-at done es [] [] k (count ∙ e))
 
-  row-other : (i ≡ k → ⊥) → rowAnswer k (table (record { f = z .f; h = z .h; rows = done })) ≡ rowAnswer k (table (record { f = z .f; h = z .h; rows = done ++ (es ∷ []) }))
+  row-other : (i ≡ k → ⊥) → rowAnswer k (table (record { f = z .f; h = z .h; rows = done }))
+      ≡ rowAnswer k (table (record { f = z .f; h = z .h; rows = done ++ (es ∷ []) }))
   unfolding rowAnswer
   row-other n = rw (count, one-longer done es i count) (go (ltb k i) refl)
     where
-      go : (t : Bool) → ltb k i ≡ t → pick (ltb k i) (rowGiven (getD done k [])) (rowRefused 15) ≡ pick (ltb k (i + 1)) (rowGiven (getD (done ++ (es ∷ [])) k [])) (rowRefused 15)
+      go : (t : Bool) → ltb k i ≡ t → pick (ltb k i) (rowGiven (getD done k [])) (rowRefused 15)
+          ≡ pick (ltb k (i + 1)) (rowGiven (getD (done ++ (es ∷ [])) k [])) (rowRefused 15)
       go true q =
           let before : k < i = ltb-true k i q in
           rw (q, lt-ltb k (i + 1) (omega arith), List·getD-append done (es ∷ []) [] k (rw count before))
@@ -121,7 +106,8 @@ module _ (s : List ℕ) (z : Lengths) (height start k : ℕ) where
         → RowsSoFar s z height start k (record { refusal = 0; count = n; tasks = tasks; jobs = jobs }) next (i + 1)
     rows-kept tasks jobs n next h here e = rows-more tasks jobs n next _ h here (here .given ∙ row-found z k (so .done) (here .entries) i (so .count) e)
 
-    pub rows-passed : (tasks jobs : List ℕ) (n next : ℕ) → i < height → RowHere s at tasks jobs n next → (i ≡ k → ⊥) → RowsSoFar s z height start k kept next (i + 1)
+    pub rows-passed : (tasks jobs : List ℕ) (n next : ℕ) → i < height → RowHere s at tasks jobs n next → (i ≡ k → ⊥)
+        → RowsSoFar s z height start k kept next (i + 1)
     rows-passed tasks jobs n next h here e = rows-more tasks jobs n next kept h here (so .kept-is ∙ row-other z k (so .done) (here .entries) i (so .count) e)
 
     module _ (word : wordOf 12 s ≡ got height (drop start s)) (fits : heightFits height z ≡ true) where
@@ -133,7 +119,8 @@ module _ (s : List ℕ) (z : Lengths) (height start k : ℕ) where
       unfolding rowsFrom records
       rows-tail h l = rw (word, fits) (rw (← so .left, none-left height i h, drop-cons s at 0 l))
 
-      pub rows-end : height ≤ i → i ≤ height → length s ≤ at → tableRead k (ended (rowsFrom z s)) ≡ record { sizes = record { refusal = 0; f = z .f; h = z .h; height = height }; row = kept }
+      pub rows-end : height ≤ i → i ≤ height → length s ≤ at
+          → tableRead k (ended (rowsFrom z s)) ≡ record { sizes = record { refusal = 0; f = z .f; h = z .h; height = height }; row = kept }
       unfolding rowsFrom records tableRead sizesOf
       rows-end h l e =
           let all : length (so .done) ≡ height = omega (arith, so .count) in

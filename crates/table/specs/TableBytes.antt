@@ -2,7 +2,7 @@
 use Prim.Native.Nat.{ℕ}
 use mathlib.Core.Path.{_≡_, sym, ap, _∙_}
 use mathlib.Core.List.{List}
-use Rattle.table.specs.Table.{Table, Decoded, table, malformed, decode, encode}
+use Rattle.table.specs.Table.{Table, table, decode, encode}
 use Rattle.table.specs.WellFormed.{WellFormed}
 use Rattle.cursor.specs.Front.{Bytes}
 use Rattle.table.specs.Inverse.{decode-encode, encode-decode, decode-wellformed}
@@ -17,9 +17,3 @@ says-decodes bytes t s = ap decode (sym (s .bytes-are)) ∙ decode-encode t (s .
 
 pub decodes-says : (bytes : List ℕ) (t : Table) → Bytes bytes → decode bytes ≡ table t → SaysTable bytes t
 decodes-says bytes t are e = record { form = decode-wellformed bytes t e; bytes-are = encode-decode bytes t are e }
-
--- bytes say one table at most
-pub says-once : (bytes : List ℕ) (t u : Table) → SaysTable bytes t → SaysTable bytes u → t ≡ u
-says-once bytes t u s v =
-    let same : table t ≡ table u = sym (says-decodes bytes t s) ∙ says-decodes bytes u v in
-    cc

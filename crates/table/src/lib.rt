@@ -18,6 +18,12 @@ pub struct Row {
     pub jobs: [u8; 16],
 }
 
+// The sizes and one row, of one reading.
+pub struct TableRead {
+    pub sizes: Sizes,
+    pub row: Row,
+}
+
 // Entries in a given order, `count` of them and at most 128, each with its row: row k of the table holds those whose row is k.
 pub struct Layout {
     pub f: u16,

@@ -1,6 +1,7 @@
 // Reading a table: each part by a cursor, the rows from the part of the bytes behind the sizes.
 use crate::Row;
 use crate::Sizes;
+use crate::TableRead;
 use cursor::ByteRead;
 use cursor::Cursor;
 use cursor::WordRead;
@@ -8,7 +9,7 @@ ghost use mathlib.Core.Path.{_≡_};
 ghost use lib.ListN.{replicate};
 ghost use Rattle.table.specs.Table.{decode, ended, rowsFrom, heightFits};
 ghost use Rattle.table.specs.Answers.{sizesOf, rowAnswer, rowRefused, tableRead, tableRefused};
-ghost use Rattle.table.specs.Steps.{EntryAt, RowAt, SizesAt};
+ghost use Rattle.table.specs.Promises.{EntryAt, RowAt, SizesAt};
 
 // An entry's task byte and job byte.
 enum EntryRead {
@@ -26,11 +27,6 @@ enum RowRead {
 enum SizesRead {
     TwoSizes(u16, u16, Cursor),
     NoSizes,
-}
-
-struct TableRead {
-    sizes: Sizes,
-    row: Row,
 }
 
 // An entry whose task is at least `low`.
@@ -187,22 +183,22 @@ fn read_rows(s: &[u8], f: u16, h: u16, k: u16) -> TableRead
     TableRead { sizes, row: kept }
 }
 
-// The whole table: the rows are read from the part of the bytes behind the sizes.
-fn read_table(s: &[u8], k: u16) -> TableRead
-    ensures { λ r. ⌜ (r .sizes ≡ sizesOf (decode (now (s .entry)))) × (r .row ≡ rowAnswer k (decode (now (s .entry)))) ⌝ }
+// The sizes and the row k: the rows are read from the part of the bytes behind the sizes.
+pub fn row_and_sizes(table: &[u8], k: u16) -> TableRead
+    ensures { λ r. ⌜ (r .sizes ≡ sizesOf (decode (now (table .entry)))) × (r .row ≡ rowAnswer k (decode (now (table .entry)))) ⌝ }
 {
-    let SizesRead::TwoSizes(f, h, next) = read_sizes(s) else {
+    let SizesRead::TwoSizes(f, h, next) = read_sizes(table) else {
         return no_table();
     };
     let end = next.at;
-    read_rows(&s[end..], f, h, k)
+    read_rows(&table[end..], f, h, k)
 }
 
 // f, H and F: 12 where the bytes do not have the form.
 pub fn sizes(table: &[u8]) -> Sizes
     ensures { λ r. ⌜ r ≡ sizesOf (decode (now (table .entry))) ⌝ }
 {
-    let r = read_table(table, 0);
+    let r = row_and_sizes(table, 0);
     r.sizes
 }
 
@@ -210,6 +206,6 @@ pub fn sizes(table: &[u8]) -> Sizes
 pub fn row(table: &[u8], k: u16) -> Row
     ensures { λ r. ⌜ r ≡ rowAnswer k (decode (now (table .entry))) ⌝ }
 {
-    let r = read_table(table, k);
+    let r = row_and_sizes(table, k);
     r.row
 }

@@ -13,6 +13,15 @@ abbrev pub ascii : String → List ℕ
 ascii empty = []
 ascii (before c s) = code c ∷ ascii s
 
+-- k bounds the number of digits before the last
+unfoldable pub decimalSteps : ℕ → ℕ → List ℕ
+decimalSteps zero n = (48 + n) ∷ []
+decimalSteps (suc k) n = cond (ltb n 10) ((48 + n) ∷ []) (decimalSteps k (n / 10) ++ ((48 + n % 10) ∷ []))
+
+-- the decimal digits of n in ASCII, the most significant first
+unfoldable pub decimalOf : ℕ → List ℕ
+decimalOf n = decimalSteps n n
+
 -- the buffer's bytes and the place where the next one goes
 pub record Filled : Type 0 where
   pub end : ℕ
@@ -28,15 +37,6 @@ putOf x b = cond (ltb (x .end) (length (x .bytes))) (filledTo (x .end + 1) (set 
 unfoldable pub putAllOf : Filled → List ℕ → Filled
 putAllOf x [] = x
 putAllOf x (b ∷ bs) = putAllOf (putOf x b) bs
-
--- k bounds the number of digits before the last
-unfoldable pub decimalSteps : ℕ → ℕ → List ℕ
-decimalSteps zero n = (48 + n) ∷ []
-decimalSteps (suc k) n = cond (ltb n 10) ((48 + n) ∷ []) (decimalSteps k (n / 10) ++ ((48 + n % 10) ∷ []))
-
--- the decimal digits of n in ASCII, the most significant first
-unfoldable pub decimalOf : ℕ → List ℕ
-decimalOf n = decimalSteps n n
 
 -- what a buffer holds once a text was put into it from the front: as much of the text as there is room for, and behind it the old bytes
 unfoldable pub laid : List ℕ → List ℕ → List ℕ

@@ -1,13 +1,13 @@
 -- Putting two texts one after the other; what a buffer holds after a text was put into it from the front; and the two laws of the
 -- decimal digits: a number below 10 is one digit, and any other has the digits of its tenth and then its last one.
-use Prim.Native.Nat.{ℕ, zero, suc, _+_, _-_, _/_, _%_, _≤_, _<_, min}
+use Prim.Native.Nat.{ℕ, zero, suc, _+_, _-_, _/_, _%_, _≤_, _<_, _^_, min}
 use mathlib.Core.Path.{_≡_, refl, sym, ap, _∙_}
-use mathlib.Core.List.{List, [], _∷_, _++_, append-nil}
+use mathlib.Core.List.{List, [], _∷_, _++_}
 use mathlib.Core.Bool.{Bool, true, false}
 use native.Mathlib.Omega.{arith}
-use native.Mathlib.Nat.{le-refl, zero-add}
+use native.Mathlib.Nat.{le-refl, zero-add, pow-suc}
 use native.Mathlib.Numerals.{add-one}
-use borrow.Author.Tests.{lt-ltb, le-ltb, ltb-false}
+use borrow.Author.Tests.{lt-ltb, le-ltb, ltb-true, ltb-false}
 use lib.Dec.{ltb}
 use lib.ListN.{length, drop, getD, length-append, length-take, length-drop, drop-of-length-le}
 use lib.Seq.{drop-cons, drop-nil, take-nil, take-all, length-take-le, set-append-seam, append-snoc}
@@ -90,11 +90,6 @@ put-behind (b ∷ text) p (r ∷ rest) =
 pub put-laid : (out text : List ℕ) → putAllOf (filledTo 0 out) text ≡ filledTo (min (length text) (length out)) (laid text out)
 put-laid out text = put-behind text [] out ∙ rw (zero-add (min (length text) (length out)))
 
--- where the buffer is long enough the text stands in it whole
-pub laid-whole : (text out : List ℕ) → length text ≤ length out → laid text out ≡ text ++ drop (length text) out
-unfolding laid
-laid-whole text out h = rw (take-all (length out) text h)
-
 pub laid-length : (text out : List ℕ) → length (laid text out) ≡ length out
 unfolding laid
 laid-length text out = simp (length-append, length-take, length-drop) (omega arith)
@@ -106,3 +101,17 @@ put-front text old new end e =
     let holds : new ≡ laid text old = ap (λ (x : Filled). x .bytes) whole in
     let long : length new ≡ length old = ap length holds ∙ laid-length text old in
     (ends, holds, sym (length-take-le end new (omega arith)))
+
+-- where the buffer is long enough, the text stands in it whole, with the old bytes behind it
+pub put-whole : (text old new : List ℕ) (end : ℕ) → length text ≤ length old → PutIn text old end new → (end ≡ length text) × (new ≡ text ++ drop (length text) old)
+unfolding laid
+put-whole text old new end h put = (omega (arith, put .0), put .1 ∙ rw (take-all (length old) text h))
+
+-- a number below 10 ^ k has at most k digits
+pub decimal-length : (k n : ℕ) → n < 10 ^ suc k → length (decimalOf n) ≤ suc k
+decimal-length zero n h = rw (decimal-short n h) (omega arith)
+decimal-length (suc k) n h = go (ltb n 10) refl (decimal-length k (n / 10))
+  where
+    go : (t : Bool) → ltb n 10 ≡ t → (n / 10 < 10 ^ suc k → length (decimalOf (n / 10)) ≤ suc k) → length (decimalOf n) ≤ suc (suc k)
+    go true e more = rw (decimal-short n (ltb-true n 10 e)) (omega arith)
+    go false e more = rw (decimal-long n (ltb-false n 10 e), length-append) (omega (arith, more (omega (arith, pow-suc 10 (suc k)))))

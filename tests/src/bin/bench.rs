@@ -1,124 +1,119 @@
-//! Run times of the library beside a plain Rust version of the same search, measured in turn
-//! in the same run, in processor time of this thread. Buffers are cleared once before the first
-//! call and not between calls.
+//! Run times of the library beside the same search in C, written for speed (bench/search.c), and
+//! beside a plain Rust version of its calls. Before a call is timed the sides are compared: where
+//! an answer, a table or a number of tries differs, the run ends with a failure.
 
 use std::hint::black_box;
 
 use bus_tests::bus::{Bus, ENTRIES_LEN, STATE_LEN};
-use bus_tests::clock::seconds_used;
+use bus_tests::hard;
 use bus_tests::library::Library;
-use bus_tests::plain;
+use bus_tests::plain::{self, Effort};
+use bus_tests::reference::{read_cycle, table};
 use bus_tests::sheet::{self, request, Short};
+use bus_tests::timing::{least, measure, median, quantile, Turns};
 
-/// Turns of each side; the shortest counts. Long calls get fewer.
-const TURNS: usize = 15;
-const TURNS_OF_LONG_CALLS: usize = 5;
-/// Each turn repeats its call for at least this many seconds.
-const TURN: f64 = 0.02;
+/// More than the longest table.
+const TABLE_LEN: usize = 600;
 
-/// Seconds for one call, over so many calls.
-fn timed(calls: u64, call: &mut dyn FnMut() -> i32) -> f64 {
-    let start = seconds_used();
-    for _ in 0..calls {
-        black_box(call());
+/// Turns of most calls, of a hard request, and of the longest search.
+const TURNS: usize = 40;
+const TURNS_OF_HARD: usize = 10;
+const TURNS_OF_LONGEST: usize = 12;
+
+const LEGEND: &str = "\
+In each turn both sides are timed once, by turns the library first and the other first, in
+processor time of one thread. ms, us: for one call, the least of all turns. M/s: million tries a
+second at that. ratio: library / other by the least times. median, quartiles: of library / other
+within a turn. passed over: tries of a frame that did not place the job.";
+
+mod c {
+    extern "C" {
+        pub fn search_plan(
+            request: *const u8,
+            f: *mut u16,
+            frames: *mut [u16; 128],
+            tries: *mut u64,
+        ) -> i32;
     }
-    (seconds_used() - start) / calls as f64
 }
 
-/// How many calls fill a turn.
-fn calls_in_a_turn(call: &mut dyn FnMut() -> i32) -> u64 {
-    let mut calls = 1;
-    while timed(calls, call) * (calls as f64) < TURN {
-        calls *= 2;
-    }
-    calls
+/// What the search in C found: the number of jobs and the plan, or a refusal below 0.
+struct Searched {
+    answer: i32,
+    f: u16,
+    frames: [u16; 128],
+    tries: u64,
 }
 
-/// The shortest time for one call of the library and of the plain version, taken in turn.
-fn measure(library: &mut dyn FnMut() -> i32, plain: &mut dyn FnMut() -> i32) -> (f64, f64) {
-    assert_eq!(library(), plain(), "the two differ");
-    let calls = calls_in_a_turn(plain);
-    let turns = if calls == 1 {
-        TURNS_OF_LONG_CALLS
-    } else {
-        TURNS
+/// The request is one that the library plans or refuses with 9 or 10, as all here are.
+fn search_in_c(request: &[u8]) -> Searched {
+    let (mut f, mut frames, mut tries) = (0, [0; 128], 0);
+    let answer = unsafe { c::search_plan(request.as_ptr(), &mut f, &mut frames, &mut tries) };
+    Searched {
+        answer,
+        f,
+        frames,
+        tries,
+    }
+}
+
+/// The table of the plan that C found, or its refusal.
+fn table_by_c(request: &[u8], found: &Searched) -> Result<Vec<u8>, i32> {
+    if found.answer < 0 {
+        return Err(-found.answer);
+    }
+    let placed = &found.frames[..found.answer as usize];
+    let frames: Vec<i64> = placed.iter().map(|&k| i64::from(k)).collect();
+    let cycle = read_cycle(request)?;
+    let planned = table::of_plan(&cycle, i64::from(found.f), &frames);
+    Ok(table::encode(&planned))
+}
+
+/// The bytes that a call writes, or its refusal.
+fn written(call: impl Fn(&mut [u8]) -> i32) -> Result<Vec<u8>, i32> {
+    let mut out = vec![0; TABLE_LEN];
+    let answer = call(&mut out);
+    if answer < 0 {
+        return Err(-answer);
+    }
+    out.truncate(answer as usize);
+    Ok(out)
+}
+
+/// A request whose search is timed.
+struct Search {
+    name: String,
+    request: Vec<u8>,
+    effort: Effort,
+    turns: usize,
+    answer: String,
+}
+
+/// The request, after the three sides were compared on it.
+fn compared(name: &str, request: Vec<u8>, effort: Effort, turns: usize) -> Search {
+    let library = written(|out| Library.plan(&request, out));
+    let rust = written(|out| plain::plan(&request, out));
+    assert_eq!(library, rust, "{name}: library and plain Rust differ");
+    let found = search_in_c(&request);
+    let c = table_by_c(&request, &found);
+    assert_eq!(library, c, "{name}: library and C differ");
+    assert_eq!(effort.tries, found.tries, "{name}: Rust and C count");
+    let answer = match library {
+        Ok(_) => format!("f {}", found.f),
+        Err(number) => format!("refused {number}"),
     };
-    let (mut best_library, mut best_plain) = (f64::MAX, f64::MAX);
-    for _ in 0..turns {
-        best_library = best_library.min(timed(calls, library));
-        best_plain = best_plain.min(timed(calls, plain));
-    }
-    (best_library, best_plain)
-}
-
-fn shown(seconds: f64) -> String {
-    if seconds >= 1e-3 {
-        format!("{:.2} ms", seconds * 1e3)
-    } else if seconds >= 1e-6 {
-        format!("{:.2} us", seconds * 1e6)
-    } else {
-        format!("{:.1} ns", seconds * 1e9)
+    Search {
+        name: name.to_string(),
+        request,
+        effort,
+        turns,
+        answer,
     }
 }
 
-fn line(name: &str, tries: Option<u64>, (library, plain): (f64, f64)) {
-    let (count, rate) = match tries {
-        Some(tries) => (
-            tries.to_string(),
-            format!("{:.1}", tries as f64 / library / 1e6),
-        ),
-        None => ("-".to_string(), "-".to_string()),
-    };
-    println!(
-        "| {name:44} | {count:>10} | {:>10} | {:>10} | {:>6.2} | {rate:>8} |",
-        shown(library),
-        shown(plain),
-        library / plain
-    );
-}
-
-fn bench_plan(name: &str, request: &[u8]) {
-    let tries = plain::tries_within(request, 10_000_000_000);
-    let mut first = [0; 600];
-    let mut second = [0; 600];
-    let times = measure(
-        &mut || Library.plan(black_box(request), &mut first),
-        &mut || plain::plan(black_box(request), &mut second),
-    );
-    assert_eq!(first, second, "{name}: the tables differ");
-    line(&format!("plan: {name}"), tries, times);
-}
-
-fn table_of(request: &[u8]) -> Vec<u8> {
-    let mut out = vec![0; 600];
-    let length = plain::plan(request, &mut out);
-    assert!(length > 0, "no table: {length}");
-    out.truncate(length as usize);
-    out
-}
-
-fn bench_check(name: &str, request: &[u8]) {
-    let table = table_of(request);
-    let times = measure(
-        &mut || Library.check(black_box(request), black_box(&table)),
-        &mut || plain::check(black_box(request), black_box(&table)),
-    );
-    line(&format!("check: {name}"), None, times);
-}
-
-fn bench_next_frame(name: &str, request: &[u8]) {
-    let table = table_of(request);
-    let mut states = [[0; STATE_LEN]; 2];
-    let mut entries = [[0; ENTRIES_LEN]; 2];
-    for state in &mut states {
-        assert_eq!(Library.fresh(state), 0);
-    }
-    let [first_state, second_state] = &mut states;
-    let [first, second] = &mut entries;
-    let mut whole_table = || Library.next_frame(black_box(&table), first_state, first);
-    let mut again = || plain::next_frame(black_box(&table), second_state, second);
-    let times = measure(&mut whole_table, &mut again);
-    line(&format!("next_frame: {name}"), None, times);
+fn by_hand(name: &str, request: Vec<u8>, turns: usize) -> Search {
+    let effort = plain::effort_within(&request, u64::MAX - 1).expect("no search is that long");
+    compared(name, request, effort, turns)
 }
 
 /// `count` jobs of 13 ticks for `holes` frames of 13 ticks: one too many.
@@ -146,31 +141,266 @@ fn paired_pigeons(holes: i64) -> Vec<u8> {
     request(&tasks, &pairs)
 }
 
-/// A cycle of 256 rows, every row with an entry of its own or none.
-fn many_rows() -> Vec<u8> {
-    let mut tasks = vec![(1, 4, 1, 0)];
-    tasks.extend((0..14).map(|i| (1, 256, 1, 17 * i + 1 + i / 3)));
+fn searches_by_hand() -> Vec<Search> {
+    vec![
+        by_hand("10 jobs for 9 frames", pigeons(10, 9), TURNS),
+        by_hand("11 jobs for 10 frames", pigeons(11, 10), TURNS_OF_LONGEST),
+        by_hand("16 pairs, 128 jobs", paired_pigeons(10), TURNS),
+        by_hand("16 pairs, 128 jobs, no plan", paired_pigeons(9), TURNS),
+    ]
+}
+
+fn hard_searches() -> Vec<Search> {
+    hard::requests()
+        .into_iter()
+        .map(|hard| compared(&hard.name, hard.request, hard.effort, TURNS_OF_HARD))
+        .collect()
+}
+
+/// The other side of planning: its name and its call.
+type Other = (&'static str, fn(&[u8]) -> i32);
+
+const IN_C: Other = ("C", |request| search_in_c(request).answer);
+const IN_RUST: Other = ("Rust", |request| plain::plan(request, &mut [0; TABLE_LEN]));
+
+fn timed(search: &Search, other: Other) -> Turns {
+    let mut out = [0; TABLE_LEN];
+    measure(
+        search.turns,
+        &mut || Library.plan(black_box(&search.request), &mut out),
+        &mut || other.1(black_box(&search.request)),
+    )
+}
+
+/// The first cell to the left, the others to the right.
+fn print_row(widths: &[usize], cells: &[String]) {
+    print!("{:<1$}", cells[0], widths[0]);
+    for (cell, width) in cells.iter().zip(widths).skip(1) {
+        print!("  {cell:>width$}");
+    }
+    println!();
+}
+
+fn cells(names: &[&str]) -> Vec<String> {
+    names.iter().map(|name| name.to_string()).collect()
+}
+
+/// Library / other: of the least times, and the median and quartiles of the turns.
+fn ratio_cells(times: &Turns) -> [String; 3] {
+    let ratios = times.ratios();
+    [
+        format!("{:.2}", least(&times.library) / least(&times.other)),
+        format!("{:.2}", median(&ratios)),
+        format!("{:.2} to {:.2}", quantile(&ratios, 1), quantile(&ratios, 3)),
+    ]
+}
+
+const SEARCH_WIDTHS: [usize; 12] = [29, 10, 9, 11, 5, 10, 8, 11, 8, 5, 6, 12];
+
+fn print_search_header(other: &str) {
+    println!("\nPlanning, beside {other}");
+    let mut header = cells(&["request", "answer", "tries", "passed over", "turns"]);
+    header.extend(cells(&["library ms", &format!("{other} ms")]));
+    header.extend(cells(&["library M/s", &format!("{other} M/s")]));
+    header.extend(cells(&["ratio", "median", "quartiles"]));
+    print_row(&SEARCH_WIDTHS, &header);
+}
+
+/// Seconds of both sides, and the tries a second that they come to.
+fn rate_cells(tries: u64, library: f64, other: f64) -> [String; 4] {
+    [
+        format!("{:.2}", library * 1e3),
+        format!("{:.2}", other * 1e3),
+        format!("{:.0}", tries as f64 / library / 1e6),
+        format!("{:.0}", tries as f64 / other / 1e6),
+    ]
+}
+
+fn print_search(search: &Search, times: &Turns) {
+    let Effort { tries, placings } = search.effort;
+    let passed_over = 100.0 * (tries - placings) as f64 / tries as f64;
+    let mut row = vec![
+        search.name.clone(),
+        search.answer.clone(),
+        tries.to_string(),
+        format!("{passed_over:.0} %"),
+        search.turns.to_string(),
+    ];
+    row.extend(rate_cells(
+        tries,
+        least(&times.library),
+        least(&times.other),
+    ));
+    row.extend(ratio_cells(times));
+    print_row(&SEARCH_WIDTHS, &row);
+}
+
+/// The sums of one figure of each search, and their ratio.
+fn print_sum(name: &str, tries: u64, all: &[Turns], figure: fn(&[f64]) -> f64) {
+    let library: f64 = all.iter().map(|times| figure(&times.library)).sum();
+    let other: f64 = all.iter().map(|times| figure(&times.other)).sum();
+    let mut row = cells(&[name, "", &tries.to_string(), "", ""]);
+    row.extend(rate_cells(tries, library, other));
+    row.push(format!("{:.2}", library / other));
+    print_row(&SEARCH_WIDTHS, &row);
+}
+
+fn print_searches(other: Other, by_hand: &[Search], hard: &[Search]) {
+    print_search_header(other.0);
+    for search in by_hand {
+        print_search(search, &timed(search, other));
+    }
+    let mut all = Vec::new();
+    for search in hard {
+        let times = timed(search, other);
+        print_search(search, &times);
+        all.push(times);
+    }
+    let tries = hard.iter().map(|search| search.effort.tries).sum();
+    print_sum("all with seeds, least times", tries, &all, least);
+    print_sum("all with seeds, median times", tries, &all, median);
+}
+
+const CALL_WIDTHS: [usize; 7] = [40, 5, 10, 8, 5, 6, 12];
+
+fn print_call(name: &str, times: &Turns) {
+    let mut row = cells(&[name, &times.library.len().to_string()]);
+    row.push(format!("{:.3}", least(&times.library) * 1e6));
+    row.push(format!("{:.3}", least(&times.other) * 1e6));
+    row.extend(ratio_cells(times));
+    print_row(&CALL_WIDTHS, &row);
+}
+
+fn time_plan(name: &str, request: &[u8]) {
+    let library = written(|out| Library.plan(request, out));
+    let rust = written(|out| plain::plan(request, out));
+    assert_eq!(library, rust, "plan, {name}");
+    let mut outs = [[0; TABLE_LEN]; 2];
+    let [first, second] = &mut outs;
+    let times = measure(
+        TURNS,
+        &mut || Library.plan(black_box(request), first),
+        &mut || plain::plan(black_box(request), second),
+    );
+    print_call(&format!("plan: {name}"), &times);
+}
+
+fn table_of(request: &[u8]) -> Vec<u8> {
+    written(|out| plain::plan(request, out)).expect("there is a plan")
+}
+
+fn time_check(name: &str, request: &[u8]) {
+    let table = &table_of(request)[..];
+    let answers = [Library.check(request, table), plain::check(request, table)];
+    assert_eq!(answers, [0, 0], "check, {name}");
+    let times = measure(
+        TURNS,
+        &mut || Library.check(black_box(request), black_box(table)),
+        &mut || plain::check(black_box(request), black_box(table)),
+    );
+    print_call(&format!("check: {name}"), &times);
+}
+
+fn time_rewrite(name: &str, request: &[u8]) {
+    let table = &table_of(request)[..];
+    let library = written(|out| Library.rewrite(request, table, out));
+    let rust = written(|out| plain::rewrite(request, table, out));
+    assert_eq!(library, rust, "rewrite, {name}");
+    let mut outs = [[0; TABLE_LEN]; 2];
+    let [first, second] = &mut outs;
+    let times = measure(
+        TURNS,
+        &mut || Library.rewrite(black_box(request), black_box(table), first),
+        &mut || plain::rewrite(black_box(request), black_box(table), second),
+    );
+    print_call(&format!("rewrite: {name}"), &times);
+}
+
+/// What one side of the dispatcher keeps.
+struct Flight {
+    state: [u8; STATE_LEN],
+    entries: [u8; ENTRIES_LEN],
+}
+
+fn fresh() -> Flight {
+    let mut state = [0; STATE_LEN];
+    assert_eq!(Library.fresh(&mut state), 0);
+    let entries = [0; ENTRIES_LEN];
+    Flight { state, entries }
+}
+
+fn next_of_library(table: &[u8], flight: &mut Flight) -> i32 {
+    Library.next_frame(table, &mut flight.state, &mut flight.entries)
+}
+
+fn next_of_rust(table: &[u8], flight: &mut Flight) -> i32 {
+    plain::next_frame(table, &mut flight.state, &mut flight.entries)
+}
+
+/// Three cycles of up to 256 rows, answer by answer.
+fn compare_flights(name: &str, table: &[u8]) {
+    let (mut library, mut rust) = (fresh(), fresh());
+    for _ in 0..3 * 256 {
+        let answers = [
+            next_of_library(table, &mut library),
+            next_of_rust(table, &mut rust),
+        ];
+        assert_eq!(answers[0], answers[1], "next_frame, {name}");
+        assert_eq!(library.entries, rust.entries, "next_frame, {name}");
+        assert_eq!(library.state, rust.state, "next_frame, {name}");
+    }
+}
+
+fn time_next_frame(name: &str, request: &[u8]) {
+    let table = &table_of(request)[..];
+    compare_flights(name, table);
+    let (mut library, mut rust) = (fresh(), fresh());
+    let times = measure(
+        TURNS,
+        &mut || next_of_library(black_box(table), &mut library),
+        &mut || next_of_rust(black_box(table), &mut rust),
+    );
+    print_call(&format!("next_frame: {name}"), &times);
+}
+
+/// The longest table that there is: 128 jobs in 256 rows.
+fn longest_table() -> Vec<u8> {
+    let tasks = [
+        (1, 4, 1, 0),
+        (1, 8, 1, 1),
+        (1, 16, 1, 2),
+        (1, 32, 1, 3),
+        (1, 64, 1, 5),
+        (1, 128, 1, 6),
+        (1, 256, 1, 7),
+        (1, 256, 1, 10),
+    ];
     request(&tasks, &[])
 }
 
+fn print_calls() {
+    println!("\nShort calls, beside Rust");
+    let header = ["call", "turns", "library us", "Rust us"];
+    let ratios = ["ratio", "median", "quartiles"];
+    print_row(&CALL_WIDTHS, &cells(&[&header[..], &ratios[..]].concat()));
+    time_plan("P3, 4 tasks, 1 pair", &sheet::p3());
+    time_plan("P5, no plan", &sheet::p5());
+    time_plan("P9, 1 job, 256 rows", &sheet::p9());
+    time_plan("128 jobs, 256 rows", &longest_table());
+    time_check("P3, 9 jobs, 6 rows", &sheet::p3());
+    time_check("16 pairs, 128 jobs, 64 rows", &paired_pigeons(10));
+    time_check("128 jobs, 256 rows", &longest_table());
+    time_rewrite("128 jobs, 256 rows", &longest_table());
+    time_next_frame("P1, 2 rows", &sheet::p1());
+    time_next_frame("128 jobs, 64 rows", &paired_pigeons(10));
+    time_next_frame("128 jobs, 256 rows", &longest_table());
+}
+
 fn main() {
-    println!(
-        "| {:44} | {:>10} | {:>10} | {:>10} | {:>6} | {:>8} |",
-        "case", "tries", "library", "plain", "ratio", "M tries/s"
-    );
-    println!("|---|---|---|---|---|---|");
-    bench_plan("P3, 4 tasks, 1 pair", &sheet::p3());
-    bench_plan("P5, no plan", &sheet::p5());
-    bench_plan("P9, 256 rows", &sheet::p9());
-    bench_plan("10 jobs for 9 frames, no pairs", &pigeons(10, 9));
-    bench_plan("11 jobs for 10 frames, no pairs", &pigeons(11, 10));
-    bench_plan("16 pairs, 128 jobs, a table", &paired_pigeons(10));
-    bench_plan("16 pairs, 128 jobs, no plan", &paired_pigeons(9));
-    bench_plan("15 tasks, 78 jobs, 256 rows", &many_rows());
-    bench_check("P3", &sheet::p3());
-    bench_check("16 pairs, 128 jobs, 64 rows", &paired_pigeons(10));
-    bench_check("15 tasks, 78 jobs, 256 rows", &many_rows());
-    bench_next_frame("P1, 2 rows", &sheet::p1());
-    bench_next_frame("128 jobs, 64 rows", &paired_pigeons(10));
-    bench_next_frame("78 jobs, 256 rows", &many_rows());
+    println!("{LEGEND}");
+    let by_hand = searches_by_hand();
+    let hard = hard_searches();
+    print_searches(IN_C, &by_hand, &hard);
+    print_searches(IN_RUST, &by_hand, &hard);
+    print_calls();
 }

@@ -1,10 +1,10 @@
 -- `gcd` follows the definition's two laws, gcd-zero and gcd-step; its measure is the second number, which falls to a remainder.
 use Prim.Native.Nat.{ℕ, _<_, _%_}
-use mathlib.Core.Path.{sym, _∙_, subst}
+use mathlib.Core.Path.{sym, _∙_}
 use native.Mathlib.Nat.{pos-of-ne-zero, mod-lt}
 use borrow.Author.Needs.{needs}
 use native.Mathlib.Omega.{arith}
-use Rattle.arith.specs.Gcd.{gcdOf, gcd-zero, gcd-step}
+use Rattle.arith.specs.Gcd.{gcd-zero, gcd-step}
 use borrow.Fn.Kinds.{In}
 use borrow.Fn.PlainCycle.{Measures, is, falls, and}
 use Rattle.arith.proofs.gcd.Reads as gcd

@@ -1,11 +1,10 @@
 -- `lcm` is the definition's quotient times b; only a = b = 0 has the gcd 0, and then the definition gives 0 too. A quotient of a
 -- u16 is one, and the product of two u16 is a u32.
-use Prim.Native.Nat.{ℕ, _≤_, _*_, _/_}
-use mathlib.Core.Path.{_≡_, sym, _∙_}
+use Prim.Native.Nat.{_≤_, _*_, _/_}
+use mathlib.Core.Path.{sym, _∙_}
 use native.Mathlib.Nat.{div-le-self, mul-le-mul}
 use native.Mathlib.Omega.{arith}
 use borrow.Author.Needs.{needs}
-use Rattle.arith.specs.Gcd.{gcdOf}
 use Rattle.arith.specs.Lcm.{lcmOf, lcm-none}
 use Rattle.arith.proofs.lcm.Statement.{statement}
 use Rattle.arith.proofs.lcm.Tie as tie
@@ -21,13 +20,14 @@ div-parts c = search needs
 
 cast-result : tie.Need-cast-result
 cast-result c =
-    let s = c .before .before in
-    omega (arith, div-le-self (s .args .a) (c .before .gcd .result))
+    omega (arith, div-le-self (c .before .before .args .a) (c .before .gcd .result))
 
 mul-result : tie.Need-mul-result
 mul-result c =
-    let s = c .before .before in
-    let small : s .args .a / c .before .gcd .result * s .args .b ≤ 65535 * 65535 = mul-le-mul {n₂ = 65535} {m₂ = 65535} (omega (arith, div-le-self (s .args .a) (c .before .gcd .result))) (omega arith) in
+    let a = c .before .before .args .a in
+    let g = c .before .gcd .result in
+    let parts : a / g ≤ 65535 = omega (arith, div-le-self a g) in
+    let small : a / g * c .before .before .args .b ≤ 65535 * 65535 = mul-le-mul {m₂ = 65535} parts (omega arith) in
     record { fits = omega arith }
 
 returns-2 : tie.Need-returns-2

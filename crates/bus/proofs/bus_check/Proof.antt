@@ -1,5 +1,5 @@
 -- The check's number, negated where it is not 0.
-use mathlib.Core.Path.{_≡_, refl, sym, _∙_, ap}
+use mathlib.Core.Path.{_∙_}
 use Rattle.bus.specs.ReplyLaws.{kept}
 use Rattle.bus.specs.CallLaws.{check-refused, check-passed}
 use borrow.Author.Needs.{needs}

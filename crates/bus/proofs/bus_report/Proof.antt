@@ -1,72 +1,53 @@
 -- The state is read, the dispatcher answers, and only an answer without a refusal is written.
-use mathlib.Core.Path.{_≡_, refl, sym, _∙_, ap}
+use mathlib.Core.Path.{_≡_, sym, _∙_}
+use mathlib.Core.Bool.{true}
 use borrow.Author.Tests.{not-true, not-false}
 use Rattle.bus.specs.ReplyLaws.{kept}
-use Rattle.request.specs.Request.{reading}
-use Rattle.dispatcher.specs.Dispatch.{reported}
+use Rattle.bus.specs.State.{isState}
 use Rattle.bus.specs.StateLaws.{state-long}
+use Rattle.bus.specs.Calls.{reportOf}
 use Rattle.bus.specs.CallLaws.{not-taken, report-refused, report-made}
 use borrow.Author.Needs.{needs}
 use Rattle.bus.proofs.bus_report.Statement.{statement}
 use Rattle.bus.proofs.bus_report.Tie as tie
 
-is-state-requires : tie.Need-is-state-requires
-is-state-requires c κs = search needs
-
-refusal-requires : tie.Need-refusal-requires
-refusal-requires c κs = search needs
-
-same-length : tie.Need-same-length
-same-length c = search needs
-
 returns : tie.Need-returns
 returns c =
-    let law = not-taken (c .before .before .before .before .before .before .args .request .now) (c .before .before .before .before .before .before .args .task) (c .before .before .before .before .before .before .args .ticks) (c .before .before .before .before .before .before .args .state .now) (sym (c .before .before .is-state .ensures) ∙ not-true _ (c .before .if1 .taken)) in
+    let a = c .before .before .before .before .before .before .args in
+    let law = not-taken (a .request .now) (a .task) (a .ticks) (a .state .now) (sym (c .before .before .is-state .ensures) ∙ not-true _ (c .before .if1 .taken)) in
     (kept _ (c .refusal .ok) ∙ c .refusal .ensures ∙ law .0, law .1)
 
+-- the lent bytes are a state
+a-state : (c : tie.Else1) → isState (c .before .before .before .before .before .args .state .now) ≡ true
+a-state c = sym (c .before .is-state .ensures) ∙ not-false _ (c .if1 .left)
+
 read-state-requires : tie.Need-read-state-requires
-read-state-requires c κs = state-long (c .before .before .before .before .before .before .args .state .now) (sym (c .before .before .is-state .ensures) ∙ not-false _ (c .before .if1 .left))
+read-state-requires c κs = state-long _ (a-state (c .before))
 
-report-requires : tie.Need-report-requires
-report-requires c κs = search needs
-
-refusal-requires-2 : tie.Need-refusal-requires-2
-refusal-requires-2 c κs = search needs
-
-same-length-2 : tie.Need-same-length-2
-same-length-2 c = search needs
+-- the dispatcher's report on that state
+report-is : (c : tie.After-report) → let a = c .before .before .before .before .before .before .before .before .args in
+    c .report .result ≡ reportOf (a .request .now) (a .task) (a .ticks) (a .state .now)
+report-is c = rw (c .before .read-state .ensures) at (c .report .ensures)
 
 returns-2 : tie.Need-returns-2
 returns-2 c =
-    let e = c .before .before .before .report .ensures ∙ ap (reported (reading (c .before .before .before .before .before .before .before .before .before .before .before .args .request .now)) (c .before .before .before .before .before .before .before .before .before .before .before .args .task) (c .before .before .before .before .before .before .before .before .before .before .before .args .ticks)) (c .before .before .before .before .read-state .ensures) in
-    let law = report-refused (c .before .before .before .before .before .before .before .before .before .before .before .args .request .now) (c .before .before .before .before .before .before .before .before .before .before .before .args .task) (c .before .before .before .before .before .before .before .before .before .before .before .args .ticks) (c .before .before .before .before .before .before .before .before .before .before .before .args .state .now) (sym (c .before .before .before .before .before .before .before .is-state .ensures) ∙ not-false _ (c .before .before .before .before .before .before .if1 .left)) _ e (c .before .if2 .taken) in
+    let r = c .before .before .before in
+    let a = r .before .before .before .before .before .before .before .before .args in
+    let law = report-refused (a .request .now) (a .task) (a .ticks) _ (a-state (r .before .before .before)) _ (report-is r) (c .before .if2 .taken) in
     (kept _ (c .refusal2 .ok) ∙ c .refusal2 .ensures ∙ law .0, law .1)
 
 write-state-requires : tie.Need-write-state-requires
-write-state-requires c κs = state-long (c .before .before .before .before .before .before .before .before .before .before .before .args .state .now) (sym (c .before .before .before .before .before .before .before .is-state .ensures) ∙ not-false _ (c .before .before .before .before .before .before .if1 .left))
-
-same-length-3 : tie.Need-same-length-3
-same-length-3 c = search needs
+write-state-requires c κs = state-long _ (a-state (c .before .before .before .before .before .before))
 
 returns-3 : tie.Need-returns-3
 returns-3 c =
-    let e = c .before .before .before .before .before .before .report .ensures ∙ ap (reported (reading (c .before .before .before .before .before .before .before .before .before .before .before .before .before .before .args .request .now)) (c .before .before .before .before .before .before .before .before .before .before .before .before .before .before .args .task) (c .before .before .before .before .before .before .before .before .before .before .before .before .before .before .args .ticks)) (c .before .before .before .before .before .before .before .read-state .ensures) in
-    let law = report-made (c .before .before .before .before .before .before .before .before .before .before .before .before .before .before .args .request .now) (c .before .before .before .before .before .before .before .before .before .before .before .before .before .before .args .task) (c .before .before .before .before .before .before .before .before .before .before .before .before .before .before .args .ticks) (c .before .before .before .before .before .before .before .before .before .before .before .before .before .before .args .state .now) (sym (c .before .before .before .before .before .before .before .before .before .before .is-state .ensures) ∙ not-false _ (c .before .before .before .before .before .before .before .before .before .if1 .left)) _ e (c .before .before .before .before .if2 .left) in
+    let r = c .before .before .before .before .before .before in
+    let a = r .before .before .before .before .before .before .before .before .args in
+    let law = report-made (a .request .now) (a .task) (a .ticks) _ (a-state (r .before .before .before)) _ (report-is r) (c .before .before .before .before .if2 .left) in
     (law .0, c .before .before .write-state .ensures ∙ law .1)
 
 pub bus-report-spec : {M : Type 1} → statement M
 bus-report-spec =
     tie.close
-    (tie.spec
-    is-state-requires
-    refusal-requires
-    same-length
-    returns
-    read-state-requires
-    report-requires
-    refusal-requires-2
-    same-length-2
-    returns-2
-    write-state-requires
-    same-length-3
-    returns-3)
+    (tie.spec (λ c κs. search needs) (λ c κs. search needs) (λ c. search needs) returns read-state-requires (λ c κs. search needs)
+    (λ c κs. search needs) (λ c. search needs) returns-2 write-state-requires (λ c. search needs) returns-3)

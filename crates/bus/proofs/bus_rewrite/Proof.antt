@@ -1,42 +1,30 @@
 -- The rewriter's answer, of which a refusal is negated and a length is small.
-use mathlib.Core.Path.{_≡_, refl, sym, _∙_, ap}
+use mathlib.Core.Path.{_∙_}
 use Rattle.bus.specs.ReplyLaws.{kept}
 use Rattle.bus.specs.Rewrite.{rewriteBuffer, rewrite-few, rewrite-refused, rewrite-written}
 use borrow.Author.Needs.{needs}
 use Rattle.bus.proofs.bus_rewrite.Statement.{statement}
 use Rattle.bus.proofs.bus_rewrite.Tie as tie
 
-rewrite-requires : tie.Need-rewrite-requires
-rewrite-requires c κs = search needs
-
-refusal-requires : tie.Need-refusal-requires
-refusal-requires c κs = search needs
-
-same-length : tie.Need-same-length
-same-length c = search needs
-
 returns : tie.Need-returns
 unfolding rewriteBuffer
-returns c = (kept _ (c .refusal .ok) ∙ c .refusal .ensures ∙ rewrite-refused _ _ _ _ (c .before .before .before .before .before .rewrite .ensures .0) (c .before .if1 .taken), c .before .before .before .before .before .rewrite .ensures .1)
+returns c = (
+  kept _ (c .refusal .ok) ∙ c .refusal .ensures ∙ rewrite-refused _ _ _ _ (c .before .before .before .before .before .rewrite .ensures .0)
+      (c .before .if1 .taken),
+  c .before .before .before .before .before .rewrite .ensures .1,
+)
 
 value-requires : tie.Need-value-requires
 value-requires c κs = rw (c .before .before .before .before .rewrite .ensures .0) (rewrite-few _ _ _)
 
-same-length-2 : tie.Need-same-length-2
-same-length-2 c = search needs
-
 returns-2 : tie.Need-returns-2
 unfolding rewriteBuffer
-returns-2 c = (kept _ (c .value .ok) ∙ c .value .ensures ∙ rewrite-written _ _ _ _ (c .before .before .before .before .before .rewrite .ensures .0) (c .before .if1 .left), c .before .before .before .before .before .rewrite .ensures .1)
+returns-2 c = (
+  kept _ (c .value .ok) ∙ c .value .ensures ∙ rewrite-written _ _ _ _ (c .before .before .before .before .before .rewrite .ensures .0)
+      (c .before .if1 .left),
+  c .before .before .before .before .before .rewrite .ensures .1,
+)
 
 pub bus-rewrite-spec : {M : Type 1} → statement M
 bus-rewrite-spec =
-    tie.close
-    (tie.spec
-    rewrite-requires
-    refusal-requires
-    same-length
-    returns
-    value-requires
-    same-length-2
-    returns-2)
+    tie.close (tie.spec (λ c κs. search needs) (λ c κs. search needs) (λ c. search needs) returns value-requires (λ c. search needs) returns-2)

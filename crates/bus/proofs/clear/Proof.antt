@@ -1,12 +1,9 @@
 -- The loop keeps that the first i bytes are 0, and the rest as they were.
 use Prim.Native.Nat.{_≤_, _-_}
-use mathlib.Core.Path.{_≡_, sym, _∙_}
 use native.Mathlib.Omega.{arith}
-use lib.ListN.{length-set}
-use Rattle.table.specs.WriteLaws.{PartWay}
+use Rattle.cursor.specs.Pieces.{PartWay}
 use Rattle.bus.specs.State.{zeros}
 use Rattle.bus.specs.StateLaws.{cleared-start, cleared-room, cleared-more, cleared-end}
-use borrow.Author.Needs.{needs}
 use Rattle.bus.proofs.clear.Statement.{statement}
 use Rattle.bus.proofs.clear.Tie as tie
 
@@ -22,12 +19,6 @@ loop-holds c = (omega arith, cleared-start (c .args .state .now) (c .pre))
 slice-write-state : tie.Need-slice-write-state Inv-loop μ-loop
 slice-write-state c = cleared-room _ _ _ (c .before .loop .inv .1) (c .loop-test .taken)
 
-add-i : tie.Need-add-i Inv-loop μ-loop
-add-i c = omega arith
-
-loop-less : tie.Need-loop-less Inv-loop μ-loop
-loop-less c = omega arith
-
 loop-again : tie.Need-loop-again Inv-loop μ-loop
 loop-again c = (omega arith, cleared-more _ _ _ (c .before .loop .inv .1) (c .loop-test .taken))
 
@@ -39,14 +30,4 @@ returns c = cleared-end _ _ _ (c .before .loop .inv .1) (c .loop-test .left)
 
 pub clear-spec : {M : Type 1} → statement M
 clear-spec =
-    tie.close
-    (tie.spec
-    Inv-loop
-    μ-loop
-    loop-holds
-    slice-write-state
-    add-i
-    loop-less
-    loop-again
-    same-length
-    returns)
+    tie.close (tie.spec Inv-loop μ-loop loop-holds slice-write-state (λ c. omega arith) (λ c. omega arith) loop-again same-length returns)

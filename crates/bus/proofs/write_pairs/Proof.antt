@@ -1,9 +1,9 @@
 -- The loop keeps that the bytes of the first i pairs are in their places and those of the pairs left are to come.
 use Prim.Native.Nat.{_≤_, _-_, _+_}
-use mathlib.Core.Path.{_≡_, sym, _∙_}
+use mathlib.Core.Path.{_≡_}
 use native.Mathlib.Omega.{arith}
 use lib.ListN.{length-set}
-use Rattle.table.specs.WriteLaws.{PartWay}
+use Rattle.cursor.specs.Pieces.{PartWay}
 use Rattle.bus.specs.State.{pairBytes}
 use Rattle.bus.specs.StateLaws.{pairs-start, pairs-room, pairs-more, pairs-end}
 use borrow.Author.Needs.{needs}
@@ -19,14 +19,8 @@ abbrev μ-loop : tie.MeasureT-loop
 loop-holds : tie.Need-loop-holds Inv-loop μ-loop
 loop-holds c = (omega arith, omega arith, pairs-start _ _ (c .args .entries .now) (c .pre))
 
-array-read-entries : tie.Need-array-read-entries Inv-loop μ-loop
-array-read-entries c = search needs
-
 slice-write-entries : tie.Need-slice-write-entries Inv-loop μ-loop
 slice-write-entries c = omega (arith, pairs-room _ _ _ _ _ _ (c .before .loop .inv .2) (c .loop-test .taken))
-
-array-read-entries-2 : tie.Need-array-read-entries-2 Inv-loop μ-loop
-array-read-entries-2 c = search needs
 
 add-entries : tie.Need-add-entries Inv-loop μ-loop
 add-entries c = omega (arith, c .before .loop .inv .1)
@@ -36,12 +30,6 @@ slice-write-entries-2 c = simp length-set (omega (arith, pairs-room _ _ _ _ _ _ 
 
 add-at : tie.Need-add-at Inv-loop μ-loop
 add-at c = omega (arith, c .before .loop .inv .1)
-
-add-i : tie.Need-add-i Inv-loop μ-loop
-add-i c = omega arith
-
-loop-less : tie.Need-loop-less Inv-loop μ-loop
-loop-less c = omega arith
 
 loop-again : tie.Need-loop-again Inv-loop μ-loop
 loop-again c = (omega arith, omega (arith, c .before .loop .inv .1), pairs-more _ _ _ _ _ _ (c .before .loop .inv .2) (c .loop-test .taken))
@@ -55,18 +43,5 @@ returns c = pairs-end _ _ _ _ _ _ (c .before .loop .inv .2) (c .loop-test .left)
 pub write-pairs-spec : {M : Type 1} → statement M
 write-pairs-spec =
     tie.close
-    (tie.spec
-    Inv-loop
-    μ-loop
-    loop-holds
-    array-read-entries
-    slice-write-entries
-    array-read-entries-2
-    add-entries
-    slice-write-entries-2
-    add-at
-    add-i
-    loop-less
-    loop-again
-    same-length
-    returns)
+    (tie.spec Inv-loop μ-loop loop-holds (λ c. search needs) slice-write-entries (λ c. search needs) add-entries slice-write-entries-2 add-at
+    (λ c. omega arith) (λ c. omega arith) loop-again same-length returns)

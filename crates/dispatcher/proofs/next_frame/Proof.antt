@@ -1,63 +1,47 @@
 -- A refusal is the table reader's; a row that is there is the definition's, with or without its carried entries by the mark.
 use mathlib.Core.Path.{_∙_}
+use Rattle.table.specs.AnswerLaws.{RowFound, row-found}
+use Rattle.dispatcher.specs.StepLaws.{row-refused, few-entries, row-below, first-frame, later-frame}
 use borrow.Author.Needs.{needs}
-use Rattle.dispatcher.specs.StepLaws.{row-refused, row-found, few-entries, row-below, first-frame, later-frame}
 use Rattle.dispatcher.proofs.next_frame.Statement.{statement}
 use Rattle.dispatcher.proofs.next_frame.Tie as tie
 
-row-requires : tie.Need-row-requires
-row-requires c κs = search needs
-
-frame-of-requires : tie.Need-frame-of-requires
-frame-of-requires c κs = search needs
-
 returns : tie.Need-returns
-returns c = c .frame-of .ensures ∙ row-refused _ _ _ (c .before .before .before .row .ensures) (c .before .if1 .taken)
+returns c = c .frame-of .ensures ∙ row-refused _ _ _ (c .before .before .before .before .row-and-sizes .ensures .1) (c .before .if1 .taken)
 
-sizes-requires : tie.Need-sizes-requires
-sizes-requires c κs = search needs
+there : (c : tie.Else1) → let read = c .before .before .before in let a = read .before .before .args in
+    RowFound (a .table .now) (a .state .row) (read .row-and-sizes .result .row)
+there c = row-found _ _ _ (c .before .before .before .row-and-sizes .ensures .1) (c .if1 .left)
 
 move-on-requires : tie.Need-move-on-requires
 move-on-requires c κs =
-    let s = c .before .before .before .before .before .args in
-    let found = row-found _ _ _ (c .before .before .before .row .ensures) (c .before .if1 .left) in
-    row-below _ (s .state) _ found _ (c .sizes .ensures)
+    let read = c .before .before .before .before in
+    row-below _ (read .before .before .args .state) _ (there (c .before)) _ (read .row-and-sizes .ensures .0)
 
 without-carried-requires : tie.Need-without-carried-requires
 without-carried-requires c κs =
-    let s = c .before .before .before .before .before .before .before .args in
-    let found = row-found _ _ _ (c .before .before .before .before .before .row .ensures) (c .before .before .before .if1 .left) in
-    few-entries _ (s .state) _ found
-
-frame-of-requires-2 : tie.Need-frame-of-requires-2
-frame-of-requires-2 c κs = search needs
+    let e = c .before .before .before in
+    few-entries _ (e .before .before .before .before .before .args .state) _ (there e)
 
 returns-2 : tie.Need-returns-2
 returns-2 c =
-    let s = c .before .before .before .before .before .before .before .before .before .args in
-    let found = row-found _ _ _ (c .before .before .before .before .before .before .before .row .ensures) (c .before .before .before .before .before .if1 .left) in
-    c .frame-of2 .ensures ∙ rw (c .before .before .before .move-on .ensures) (first-frame _ (s .state) _ found _ (c .before .before .before .before .sizes .ensures) _ (c .before .before .if2 .taken) (c .before .without-carried .ensures))
-
-frame-of-requires-3 : tie.Need-frame-of-requires-3
-frame-of-requires-3 c κs = search needs
+    let e = c .before .before .before .before .before in
+    let read = e .before .before .before in
+    let state = read .before .before .args .state in
+    c .frame-of2 .ensures
+    ∙ rw (c .before .before .before .move-on .ensures)
+    (first-frame _ state _ (there e) _ (read .row-and-sizes .ensures .0) _ (c .before .before .if2 .taken) (c .before .without-carried .ensures))
 
 returns-3 : tie.Need-returns-3
 returns-3 c =
-    let s = c .before .before .before .before .before .before .before .before .args in
-    let found = row-found _ _ _ (c .before .before .before .before .before .before .row .ensures) (c .before .before .before .before .if1 .left) in
-    c .frame-of3 .ensures ∙ rw (c .before .before .move-on .ensures) (later-frame _ (s .state) _ found _ (c .before .before .before .sizes .ensures) (c .before .if2 .left))
+    let e = c .before .before .before .before in
+    let read = e .before .before .before in
+    let state = read .before .before .args .state in
+    c .frame-of3 .ensures
+    ∙ rw (c .before .before .move-on .ensures) (later-frame _ state _ (there e) _ (read .row-and-sizes .ensures .0) (c .before .if2 .left))
 
 pub next-frame-spec : {M : Type 1} → statement M
 next-frame-spec =
     tie.close
-    (tie.spec
-    row-requires
-    frame-of-requires
-    returns
-    sizes-requires
-    move-on-requires
-    without-carried-requires
-    frame-of-requires-2
-    returns-2
-    frame-of-requires-3
-    returns-3)
+    (tie.spec (λ c κs. search needs) (λ c κs. search needs) returns move-on-requires without-carried-requires (λ c κs. search needs) returns-2
+    (λ c κs. search needs) returns-3)

@@ -2,58 +2,40 @@
 use Prim.Native.Nat.{_≤_, _<_}
 use native.Mathlib.Omega.{arith}
 use borrow.Author.Needs.{needs}
-use Rattle.dispatcher.specs.StepLaws.{report-refused, request-read, task-unknown, task-placed, task-known}
+use Rattle.request.specs.AnswerLaws.{WasRead, was-read}
+use Rattle.dispatcher.specs.StepLaws.{report-refused, task-unknown, task-placed, task-known}
 use Rattle.dispatcher.proofs.report.Statement.{statement}
 use Rattle.dispatcher.proofs.report.Tie as tie
-
-read-requires : tie.Need-read-requires
-read-requires c κs = search needs
 
 returns : tie.Need-returns
 returns c = report-refused _ _ _ _ _ (c .before .before .read .ensures) (c .if1 .taken)
 
+there : (c : tie.Else1) → let read = c .before .before in WasRead (read .before .before .args .request .now) (read .read .result)
+there c = was-read _ _ (c .before .before .read .ensures) (c .if1 .left)
+
 returns-2 : tie.Need-returns-2
 returns-2 c =
-    let s = c .before .before .before .before .before .before .args in
-    let request = c .before .before .before .before .read in
-    let read = request-read _ _ (request .ensures) (c .before .before .if1 .left) in
-    let unknown : request .result .n ≤ s .task = omega (arith, c .if2 .taken) in
-    task-unknown _ _ _ _ _ read unknown
+    let e = c .before .before in
+    let read = e .before .before in
+    let unknown : read .read .result .n ≤ read .before .before .args .task = omega (arith, c .if2 .taken) in
+    task-unknown _ _ _ _ _ (there e) unknown
 
-mul-x : tie.Need-mul-x
-mul-x c = search needs
+-- the task is one of the request's
+known : (c : tie.Else2) → let read = c .before .before .before .before in read .before .before .args .task < read .read .result .n
+known c = omega (arith, c .if2 .left)
 
 array-copy-out-x : tie.Need-array-copy-out-x
 array-copy-out-x c =
-    let s = c .before .before .before .before .before .before .before .args in
-    let request = c .before .before .before .before .before .read in
-    let read = request-read _ _ (request .ensures) (c .before .before .before .if1 .left) in
-    let known : s .task < request .result .n = omega (arith, c .before .if2 .left) in
-    task-placed _ _ (s .ticks) (s .state) _ read known
-
-cast-over : tie.Need-cast-over
-cast-over c = search needs
-
-count-overrun-requires : tie.Need-count-overrun-requires
-count-overrun-requires c κs = search needs
+    let e = c .before .before .before in
+    let a = e .before .before .before .before .args in
+    task-placed _ _ (a .ticks) (a .state) _ (there e) (known (c .before))
 
 returns-3 : tie.Need-returns-3
 returns-3 c =
-    let s = c .before .before .before .before .before .before .before .before .before .before .args in
-    let request = c .before .before .before .before .before .before .before .before .read in
-    let read = request-read _ _ (request .ensures) (c .before .before .before .before .before .before .if1 .left) in
-    let known : s .task < request .result .n = omega (arith, c .before .before .before .before .if2 .left) in
-    task-known _ _ _ _ _ read known _ (c .count-overrun .ensures)
+    let e = c .before .before .before .before in
+    task-known _ _ _ _ _ (there (e .before .before)) (known e) _ (c .count-overrun .ensures)
 
 pub report-spec : {M : Type 1} → statement M
 report-spec =
     tie.close
-    (tie.spec
-    read-requires
-    returns
-    returns-2
-    mul-x
-    array-copy-out-x
-    cast-over
-    count-overrun-requires
-    returns-3)
+    (tie.spec (λ c κs. search needs) returns returns-2 (λ c. search needs) array-copy-out-x (λ c. search needs) (λ c κs. search needs) returns-3)

@@ -1,5 +1,5 @@
 -- The loop keeps that what is kept of the places passed, and behind it what is kept of those left, is what is kept of all.
-use Prim.Native.Nat.{_≤_, _-_}
+use Prim.Native.Nat.{_≤_, _<_, _-_}
 use mathlib.Core.Logic.{⊎-elim}
 use native.Mathlib.Omega.{arith}
 use borrow.Author.Needs.{needs}
@@ -17,33 +17,13 @@ abbrev μ-loop : tie.MeasureT-loop
 loop-holds : tie.Need-loop-holds Inv-loop μ-loop
 loop-holds c = (omega arith, c .before .before .pre, omega arith, kept-start _ _ _)
 
-array-read-job : tie.Need-array-read-job Inv-loop μ-loop
-array-read-job c = search needs
-
-array-read-kept-tasks : tie.Need-array-read-kept-tasks Inv-loop μ-loop
-array-read-kept-tasks c = search needs
-
-array-write-kept-tasks : tie.Need-array-write-kept-tasks Inv-loop μ-loop
-array-write-kept-tasks c = search needs
-
-array-write-kept-jobs : tie.Need-array-write-kept-jobs Inv-loop μ-loop
-array-write-kept-jobs c = search needs
-
-add-count : tie.Need-add-count Inv-loop μ-loop
-add-count c = search needs
-
-add-i : tie.Need-add-i Inv-loop μ-loop
-add-i c = search needs
-
-loop-less : tie.Need-loop-less Inv-loop μ-loop
-loop-less c = search needs
-
 loop-again : tie.Need-loop-again Inv-loop μ-loop
 loop-again c =
     let more = c .before .loop-test .taken in
     let so = c .before .before .loop .inv in
+    let room : c .before .before .loop .count < 16 = omega arith in
     ⊎-elim
-    (λ w. (omega arith, so .1, rw (w .3) (omega (arith, so .2)), rw (w .1, w .2, w .3) (kept-more _ _ _ _ _ _ _ (so .3) more (w .0 .taken))))
+    (λ w. (omega arith, so .1, rw (w .3) (omega (arith, so .2)), rw (w .1, w .2, w .3) (kept-more _ _ _ _ _ _ _ (so .3) more room (w .0 .taken))))
     (λ w. (omega arith, so .1, rw (w .3) (omega (arith, so .2)), rw (w .1, w .2, w .3) (kept-passed _ _ _ _ _ _ _ (so .3) more (w .0 .left))))
     (c .if1 .came)
 
@@ -53,16 +33,5 @@ returns c = kept-all _ _ _ _ _ _ _ (c .before .loop .inv .3) (c .loop-test .left
 pub without-carried-spec : {M : Type 1} → statement M
 without-carried-spec =
     tie.close
-    (tie.spec
-    Inv-loop
-    μ-loop
-    loop-holds
-    array-read-job
-    array-read-kept-tasks
-    array-write-kept-tasks
-    array-write-kept-jobs
-    add-count
-    add-i
-    loop-less
-    loop-again
-    returns)
+    (tie.spec Inv-loop μ-loop loop-holds (λ c. search needs) (λ c. search needs) (λ c. search needs) (λ c. search needs) (λ c. search needs)
+    (λ c. search needs) (λ c. search needs) loop-again returns)

@@ -6,22 +6,9 @@ use lib.ListN.{length}
 use lib.Seq.{length-take-le}
 use borrow.Author.Needs.{needs}
 use Rattle.text.specs.TextLaws.{put-front}
-use Rattle.listing.specs.Listing.{listing}
 use Rattle.listing.specs.HandedLaws.{refused-is, table-is, written-few, listing-refused, listing-handed}
 use Rattle.listing.proofs.plan.Statement.{statement}
 use Rattle.listing.proofs.plan.Tie as tie
-
-slice-aggregate-plan : tie.Need-slice-aggregate-plan
-slice-aggregate-plan c = search needs
-
-plan-requires : tie.Need-plan-requires
-plan-requires c κs = search needs
-
-refused-requires : tie.Need-refused-requires
-refused-requires c κs = search needs
-
-same-length : tie.Need-same-length
-same-length c = search needs
 
 returns : tie.Need-returns
 returns c =
@@ -44,12 +31,6 @@ array-share-prefix-table c = within (c .before)
 slice-aggregate-put-table : tie.Need-slice-aggregate-put-table
 slice-aggregate-put-table c = sym (length-take-le _ _ (within (c .before .before)))
 
-put-table-requires : tie.Need-put-table-requires
-put-table-requires c κs = search needs
-
-same-length-2 : tie.Need-same-length-2
-same-length-2 c = search needs
-
 returns-2 : tie.Need-returns-2
 returns-2 c =
     let lines = c .before .before in
@@ -61,14 +42,5 @@ returns-2 c =
 pub plan-spec : {M : Type 1} → statement M
 plan-spec =
     tie.close
-    (tie.spec
-    slice-aggregate-plan
-    plan-requires
-    refused-requires
-    same-length
-    returns
-    array-share-prefix-table
-    slice-aggregate-put-table
-    put-table-requires
-    same-length-2
-    returns-2)
+    (tie.spec (λ c. search needs) (λ c κs. search needs) (λ c κs. search needs) (λ c. search needs) returns array-share-prefix-table
+    slice-aggregate-put-table (λ c κs. search needs) (λ c. search needs) returns-2)

@@ -1,5 +1,5 @@
 -- The loop keeps that the first frames of the jobs passed stand in the first places.
-use Prim.Native.Nat.{_≤_, _-_}
+use Prim.Native.Nat.{_≤_, _<_, _-_}
 use mathlib.Core.Path.{_≡_, _∙_}
 use native.Mathlib.Omega.{arith}
 use Rattle.model.specs.Chosen.{firstFrameOf}
@@ -15,37 +15,22 @@ Inv-loop f jobs count out₀ y₀ out y = (y ≤ count) × (out ≡ numbers (fir
 abbrev μ-loop : tie.MeasureT-loop
 μ-loop f jobs count out₀ y₀ out y = count - y
 
-at-most-requires : tie.Need-at-most-requires Inv-loop μ-loop
-at-most-requires c κs = search needs
-
 loop-holds : tie.Need-loop-holds Inv-loop μ-loop
 loop-holds c = (omega arith, no-number _ _)
-
-mul-job : tie.Need-mul-job Inv-loop μ-loop
-mul-job c = search needs
 
 array-copy-out-job : tie.Need-array-copy-out-job Inv-loop μ-loop
 array-copy-out-job c = omega (arith, c .before .before .at-most .ensures)
 
-first-frame-requires : tie.Need-first-frame-requires Inv-loop μ-loop
-first-frame-requires c κs = search needs
-
-mul-out : tie.Need-mul-out Inv-loop μ-loop
-mul-out c = search needs
-
 array-write-out : tie.Need-array-write-out Inv-loop μ-loop
 array-write-out c = omega (arith, c .before .before .before .before .at-most .ensures)
 
-add-y : tie.Need-add-y Inv-loop μ-loop
-add-y c = search needs
-
-loop-less : tie.Need-loop-less Inv-loop μ-loop
-loop-less c = search needs
-
 loop-again : tie.Need-loop-again Inv-loop μ-loop
 loop-again c =
-    let l = c .before .before .before .loop in
-    (omega arith, rw (l .inv .1, c .first-frame .ensures) (one-number (firstFrameOf (c .before .before .before .before .before .before .args .f)) (c .before .before .before .before .before .before .args .cycle .jobs) (l .y) (omega (arith, c .before .before .before .before .at-most .ensures, c .before .before .loop-test .taken))))
+    let begun = c .before .before .before in
+    let a = begun .before .before .before .args in
+    let l = begun .loop in
+    let room : l .y < 128 = omega (arith, begun .before .at-most .ensures, c .before .before .loop-test .taken) in
+    (omega arith, rw (l .inv .1, c .first-frame .ensures) (one-number (firstFrameOf (a .f)) (a .cycle .jobs) (l .y) room))
 
 returns : tie.Need-returns Inv-loop μ-loop
 unfolding instanceOf
@@ -56,17 +41,5 @@ returns c =
 pub first-frames-spec : {M : Type 1} → statement M
 first-frames-spec =
     tie.close
-    (tie.spec
-    Inv-loop
-    μ-loop
-    at-most-requires
-    loop-holds
-    mul-job
-    array-copy-out-job
-    first-frame-requires
-    mul-out
-    array-write-out
-    add-y
-    loop-less
-    loop-again
-    returns)
+    (tie.spec Inv-loop μ-loop (λ c κs. search needs) loop-holds (λ c. search needs) array-copy-out-job (λ c κs. search needs) (λ c. search needs)
+    array-write-out (λ c. search needs) (λ c. search needs) loop-again returns)

@@ -18,29 +18,23 @@ abbrev μ-loop : tie.MeasureT-loop
 loop-holds : tie.Need-loop-holds Inv-loop μ-loop
 loop-holds c = (omega arith, c .pre, scan-start (c .args .t1) (c .args .y) (c .args .i) (c .args .j) 0)
 
-mul-job : tie.Need-mul-job Inv-loop μ-loop
-mul-job c = search needs
-
-array-copy-out-job : tie.Need-array-copy-out-job Inv-loop μ-loop
-array-copy-out-job c = search needs
-
 returns : tie.Need-returns Inv-loop μ-loop
 returns c =
-    let a = c .before .before .before .before .before .before .before .args in
-    let l = c .before .before .before .before .before .before .loop in
-    sym (scan-found (a .t1) (a .y) (a .i) (a .j) (l .z) (c .before .before .before .before .before .loop-test .taken) (c .before .before .if1 .taken) (c .if2 .taken)) ∙ l .inv .2
-
-add-z : tie.Need-add-z Inv-loop μ-loop
-add-z c = search needs
-
-loop-less : tie.Need-loop-less Inv-loop μ-loop
-loop-less c = search needs
+    let test = c .before .before .before .before .before in
+    let a = test .before .before .args in
+    let l = test .before .loop in
+    sym (scan-found (a .t1) (a .y) (a .i) (a .j) (l .z) (test .loop-test .taken) (c .before .before .if1 .taken) (c .if2 .taken)) ∙ l .inv .2
 
 loop-again : tie.Need-loop-again Inv-loop μ-loop
 loop-again c =
-    let a = c .before .before .before .before .before .args in
-    let l = c .before .before .before .before .loop in
-    (omega arith, c .before .before .before .before .before .pre, ⊎-elim (λ w. scan-other-number (a .t1) (a .y) (a .i) (a .j) (l .z) (c .before .before .before .loop-test .taken) (w .0 .taken) (w .2 .left)) (λ w. scan-other-task (a .t1) (a .y) (a .i) (a .j) (l .z) (c .before .before .before .loop-test .taken) (w .left)) (c .if1 .came) ∙ l .inv .2)
+    let test = c .before .before .before in
+    let s = test .before .before in
+    let a = s .args in
+    let l = test .before .loop in
+    let turn = test .loop-test .taken in
+    let next = ⊎-elim (λ w. scan-other-number (a .t1) (a .y) (a .i) (a .j) (l .z) turn (w .0 .taken) (w .2 .left))
+    (λ w. scan-other-task (a .t1) (a .y) (a .i) (a .j) (l .z) turn (w .left)) (c .if1 .came) in
+    (omega arith, s .pre, next ∙ l .inv .2)
 
 returns-2 : tie.Need-returns-2 Inv-loop μ-loop
 returns-2 c =
@@ -51,14 +45,4 @@ returns-2 c =
 pub place-before-spec : {M : Type 1} → statement M
 place-before-spec =
     tie.close
-    (tie.spec
-    Inv-loop
-    μ-loop
-    loop-holds
-    mul-job
-    array-copy-out-job
-    returns
-    add-z
-    loop-less
-    loop-again
-    returns-2)
+    (tie.spec Inv-loop μ-loop loop-holds (λ c. search needs) (λ c. search needs) returns (λ c. search needs) (λ c. search needs) loop-again returns-2)

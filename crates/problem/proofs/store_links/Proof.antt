@@ -1,5 +1,5 @@
 -- The loop keeps that the links by the pairs passed are stored and counted.
-use Prim.Native.Nat.{_≤_, _-_, _+_}
+use Prim.Native.Nat.{_≤_, _<_, _-_, _+_, _*_}
 use mathlib.Core.Path.{_≡_}
 use mathlib.Core.Logic.{⊎-elim}
 use native.Mathlib.Omega.{arith}
@@ -18,41 +18,8 @@ abbrev μ-loop : tie.MeasureT-loop
 loop-holds : tie.Need-loop-holds Inv-loop μ-loop
 loop-holds c = (omega arith, omega arith, no-links _ _ _ _)
 
-mul-pair : tie.Need-mul-pair Inv-loop μ-loop
-mul-pair c = search needs
-
-array-copy-out-pair : tie.Need-array-copy-out-pair Inv-loop μ-loop
-array-copy-out-pair c = search needs
-
 link-by-requires : tie.Need-link-by-requires Inv-loop μ-loop
 link-by-requires c κs = c .before .before .before .pre .0
-
-enum-known-link : tie.Need-enum-known-link Inv-loop μ-loop
-enum-known-link c = search needs
-
-mul-places : tie.Need-mul-places Inv-loop μ-loop
-mul-places c = search needs
-
-cast-places : tie.Need-cast-places Inv-loop μ-loop
-cast-places c = search needs
-
-add-places : tie.Need-add-places Inv-loop μ-loop
-add-places c = search needs
-
-element-write-places : tie.Need-element-write-places Inv-loop μ-loop
-element-write-places c = search needs
-
-add-count : tie.Need-add-count Inv-loop μ-loop
-add-count c = search needs
-
-enum-told : tie.Need-enum-told Inv-loop μ-loop
-enum-told c = search needs
-
-add-u : tie.Need-add-u Inv-loop μ-loop
-add-u c = search needs
-
-loop-less : tie.Need-loop-less Inv-loop μ-loop
-loop-less c = search needs
 
 loop-again : tie.Need-loop-again Inv-loop μ-loop
 loop-again c =
@@ -60,11 +27,21 @@ loop-again c =
     let a = s .args in
     let l = c .before .before .before .before .loop in
     let gave = c .before .link-by .ensures in
-    let next : (c .match .count ≤ l .u + 1) × Stored (a .y) (linksSo (a .jobs) (a .y) (a .t3) (l .u + 1)) (a .places .now) (c .match .places) (c .match .count) = ⊎-elim
-    (λ w. (omega (arith, w .4, l .inv .1), rw (w .3, w .4) (one-link-more (a .jobs) (a .y) (a .t3) (l .u) _ (l .places) (l .count) (l .inv .2) _ (rw (w .1 .given .1) at gave) (omega (arith, s .pre .0, s .pre .1, l .inv .1, c .before .before .before .loop-test .taken)))))
-    (λ w. (omega (arith, w .3, l .inv .1), rw (w .2, w .3) (no-link-more (a .jobs) (a .y) (a .t3) (l .u) _ (l .places) (l .count) (l .inv .2) (rw (w .1 .given .1) at gave))))
+    let room : 16 * a .y + l .count < 2048 = omega (arith, s .pre .0, s .pre .1, l .inv .1, c .before .before .before .loop-test .taken) in
+    let now-stored : (c .match .count ≤ l .u + 1)
+    × Stored (a .y) (linksSo (a .jobs) (a .y) (a .t3) (l .u + 1)) (a .places .now) (c .match .places) (c .match .count) = ⊎-elim
+    (λ w. (
+      omega (arith, w .4, l .inv .1),
+      rw (w .3, w .4)
+          (one-link-more (a .jobs) (a .y) (a .t3) (l .u) _ (l .places) (l .count) (l .inv .2) _ (rw (w .1 .given .1) at gave) room),
+    ))
+    (λ w. (
+      omega (arith, w .3, l .inv .1),
+      rw (w .2, w .3)
+          (no-link-more (a .jobs) (a .y) (a .t3) (l .u) _ (l .places) (l .count) (l .inv .2) (rw (w .1 .given .1) at gave)),
+    ))
     (c .match .came) in
-    (omega arith, next .0, next .1)
+    (omega arith, now-stored .0, now-stored .1)
 
 returns : tie.Need-returns Inv-loop μ-loop
 returns c =
@@ -75,21 +52,6 @@ returns c =
 pub store-links-spec : {M : Type 1} → statement M
 store-links-spec =
     tie.close
-    (tie.spec
-    Inv-loop
-    μ-loop
-    loop-holds
-    mul-pair
-    array-copy-out-pair
-    link-by-requires
-    enum-known-link
-    mul-places
-    cast-places
-    add-places
-    element-write-places
-    add-count
-    enum-told
-    add-u
-    loop-less
-    loop-again
-    returns)
+    (tie.spec Inv-loop μ-loop loop-holds (λ c. search needs) (λ c. search needs) link-by-requires (λ c. search needs) (λ c. search needs)
+    (λ c. search needs) (λ c. search needs) (λ c. search needs) (λ c. search needs) (λ c. search needs) (λ c. search needs) (λ c. search needs)
+    loop-again returns)

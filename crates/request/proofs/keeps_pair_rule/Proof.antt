@@ -20,25 +20,19 @@ returns-2 c =
     let few : length (take (a .n) (a .t1)) ≤ a .b = rw length-take (omega arith) in
     simp (lt-ltb _ _ (c .before .if1 .left), le-ltb _ _ few)
 
-mul-x : tie.Need-mul-x
-mul-x c = search needs
-
-array-copy-out-x : tie.Need-array-copy-out-x
-array-copy-out-x c = search needs
-
-mul-y : tie.Need-mul-y
-mul-y c = search needs
-
-array-copy-out-y : tie.Need-array-copy-out-y
-array-copy-out-y c = search needs
-
 returns-3 : tie.Need-returns-3
 unfolding pairRule
 returns-3 c =
-    let a = c .before .before .before .before .before .before .args in
+    let test = c .before .before .before .before .before in
+    let a = test .before .args in
     let in-range : a .b < length (take (a .n) (a .t1)) = rw length-take (omega arith) in
-    simp (lt-ltb _ _ (c .before .before .before .before .before .if1 .left), lt-ltb _ _ in-range, getD-take (a .n) (a .t1) (a .a) noTask (omega arith), getD-take (a .n) (a .t1) (a .b) noTask (omega arith))
+    simp (
+      lt-ltb _ _ (test .if1 .left),
+      lt-ltb _ _ in-range,
+      getD-take (a .n) (a .t1) (a .a) noTask (omega arith),
+      getD-take (a .n) (a .t1) (a .b) noTask (omega arith),
+    )
 
 pub keeps-pair-rule-spec : {M : Type 1} → statement M
 keeps-pair-rule-spec =
-    tie.close (tie.spec returns returns-2 mul-x array-copy-out-x mul-y array-copy-out-y returns-3)
+    tie.close (tie.spec returns returns-2 (λ c. search needs) (λ c. search needs) (λ c. search needs) (λ c. search needs) returns-3)

@@ -1,5 +1,5 @@
 -- The check reads the plan, and the plan is written; each way out is one of the definition's cases.
-use mathlib.Core.Path.{_≡_, refl, sym, _∙_, ap}
+use mathlib.Core.Path.{_∙_}
 use Rattle.rewriter.specs.RewriteLaws.{not-read, was-read}
 use borrow.Author.Needs.{needs}
 use Rattle.rewriter.proofs.rewrite.Statement.{statement}
@@ -9,7 +9,7 @@ read-plan-requires : tie.Need-read-plan-requires
 read-plan-requires c κs = search needs
 
 returns : tie.Need-returns
-returns c = not-read _ _ _ (c .before .before .read-plan .ensures) (c .if1 .taken) _
+returns c = not-read _ _ _ (c .before .before .read-plan .ensures) _ (c .if1 .taken)
 
 write-requires : tie.Need-write-requires
 write-requires c κs = search needs
@@ -19,8 +19,10 @@ same-length c = search needs
 
 returns-2 : tie.Need-returns-2
 returns-2 c =
-    let read = was-read _ _ _ (c .before .before .before .before .before .before .before .read-plan .ensures) (c .before .before .before .before .before .if1 .left) _ in
-    (c .before .before .write .ensures .0 ∙ read .0, c .before .before .write .ensures .1 ∙ read .1)
+    let wrote = c .before .before in
+    let test = wrote .before .before .before in
+    let read = was-read _ _ _ (test .before .before .read-plan .ensures) _ (test .if1 .left) in
+    (wrote .write .ensures .0 ∙ read .0, wrote .write .ensures .1 ∙ read .1)
 
 pub rewrite-spec : {M : Type 1} → statement M
 rewrite-spec = tie.close (tie.spec read-plan-requires returns write-requires same-length returns-2)

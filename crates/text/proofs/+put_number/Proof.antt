@@ -63,7 +63,8 @@ put-number-returns : (t : ℕ) → put-number-lts.Need-returns (
   put-number.Post,
 ) (put-number-at t) put-number.Post
 put-number-returns t c =
-    c .before .before .put .ensures ∙ rw (c .before .before .before .digit .ensures) (put-short _ _ (c .before .before .before .before .before .if1 .taken))
+    let one = c .before .before in
+    one .put .ensures ∙ rw (one .before .digit .ensures) (put-short _ _ (one .before .before .before .if1 .taken))
 
 put-number-put-number-requires : (t : ℕ) → put-number-lts.Need-put-number-requires (
   digit-reads.Asked,
@@ -114,7 +115,9 @@ put-number-returns-2 : (t : ℕ) → put-number-lts.Need-returns-2 (
   put-number.Post,
 ) (put-number-at t) put-number.Post
 put-number-returns-2 t c =
-    c .before .before .put2 .ensures ∙ rw (c .before .before .before .before .before .before .before .put-number .ensures, c .before .before .before .digit2 .ensures) (put-long _ _ (c .before .before .before .before .before .before .before .before .before .if1 .left))
+    let last = c .before .before in
+    let tenth = last .before .before .before .before .before in
+    last .put2 .ensures ∙ rw (tenth .put-number .ensures, last .before .digit2 .ensures) (put-long _ _ (tenth .before .before .if1 .left))
 
 pub +put-number-spec : {M : Type 1} → statement M
 +put-number-spec = close μ-put-number λ t. put-number-lts.spec (

@@ -8,9 +8,6 @@ use Rattle.text.specs.Text.{filledTo, putAllOf}
 use Rattle.text.specs.TextLaws.{put-turn, put-ended}
 use Rattle.text.proofs.put_all.Statement.{statement}
 use Rattle.text.proofs.put_all.Tie as tie
-use Rattle.text.proofs.put_all.Reads as reads
-use Rattle.text.proofs.put_all.Lts as lts
-use Rattle.text.proofs.put.Reads as put-reads
 
 abbrev Inv-loop : tie.InvT-loop
 Inv-loop out₀ at text end₀ i₀ out end i = (i ≤ length text) × (length out ≡ length out₀) × (putAllOf (filledTo end out) (drop i text) ≡ putAllOf (filledTo at out₀) text)
@@ -18,24 +15,8 @@ Inv-loop out₀ at text end₀ i₀ out end i = (i ≤ length text) × (length o
 abbrev μ-loop : tie.MeasureT-loop
 μ-loop out₀ at text end₀ i₀ out end i = length text - i
 
-loop-holds : tie.Need-loop-holds Inv-loop μ-loop
-loop-holds c = search needs
-
-shared-slice-read-put : tie.Need-shared-slice-read-put Inv-loop μ-loop
-shared-slice-read-put c = search needs
-
-put-requires : tie.Need-put-requires Inv-loop μ-loop
-put-requires c κs = search needs
-
-add-i : tie.Need-add-i Inv-loop μ-loop
-add-i c = search needs
-
-loop-less : tie.Need-loop-less Inv-loop μ-loop
-loop-less c = search needs
-
 loop-again : tie.Need-loop-again Inv-loop μ-loop
 loop-again c =
-    let s = c .before .before .before .before .before .before .before .before .before in
     let l = c .before .before .before .before .before .before .loop in
     let more = c .before .before .before .before .before .loop-test .taken in (
       omega (arith, more),
@@ -43,23 +24,11 @@ loop-again c =
       rw (c .before .before .put .ensures) (put-turn _ _ (l .i) more) ∙ l .inv .2,
     )
 
-same-length : tie.Need-same-length Inv-loop μ-loop
-same-length c = search needs
-
 returns : tie.Need-returns Inv-loop μ-loop
 returns c = sym (put-ended _ (c .before .before .before .before .args .text .now) (c .before .loop .i) (c .loop-test .left)) ∙ c .before .loop .inv .2
 
 pub put-all-spec : {M : Type 1} → statement M
 put-all-spec =
     tie.close
-    (tie.spec
-    Inv-loop
-    μ-loop
-    loop-holds
-    shared-slice-read-put
-    put-requires
-    add-i
-    loop-less
-    loop-again
-    same-length
-    returns)
+    (tie.spec Inv-loop μ-loop (λ c. search needs) (λ c. search needs) (λ c κs. search needs) (λ c. search needs) (λ c. search needs) loop-again
+    (λ c. search needs) returns)

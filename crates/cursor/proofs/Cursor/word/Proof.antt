@@ -5,59 +5,25 @@ use Rattle.cursor.specs.FieldLaws.{word-no-low, word-no-high, word-of-tw
 use Rattle.cursor.proofs.Cursor.word.Statement.{statement}
 use Rattle.cursor.proofs.Cursor.word.Tie as tie
 
-byte-requires : tie.Need-byte-requires
-byte-requires c κs = search needs
-
-enum-known-low : tie.Need-enum-known-low
-enum-known-low c = search needs
-
-enum-told : tie.Need-enum-told
-enum-told c = search needs
-
 returns : tie.Need-returns
 returns c = sym (word-no-low _ _ (sym (c .before .before .byte .ensures) ∙ c .enum-told .given .1))
 
-byte-requires-2 : tie.Need-byte-requires-2
-byte-requires-2 c κs = search needs
-
-enum-known-high : tie.Need-enum-known-high
-enum-known-high c = search needs
-
-enum-told-2 : tie.Need-enum-told-2
-enum-told-2 c = search needs
-
 returns-2 : tie.Need-returns-2
-returns-2 c = sym (word-no-high _ _ _ _ (sym (c .before .before .before .before .before .before .byte .ensures) ∙ c .before .before .before .before .low .given .1) (sym (c .before .before .byte2 .ensures) ∙ c .enum-told2 .given .1))
-
-cast-t9 : tie.Need-cast-t9
-cast-t9 c = search needs
-
-cast-t10 : tie.Need-cast-t10
-cast-t10 c = search needs
-
-mul-t11 : tie.Need-mul-t11
-mul-t11 c = search needs
-
-add-t12 : tie.Need-add-t12
-add-t12 c = search needs
+returns-2 c =
+    let told = c .before .before .before .before in
+    let low = sym (told .before .before .byte .ensures) ∙ told .low .given .1 in
+    let no-high = sym (c .before .before .byte2 .ensures) ∙ c .enum-told2 .given .1 in
+    sym (word-no-high _ _ _ _ low no-high)
 
 returns-3 : tie.Need-returns-3
-returns-3 c = word-of-two _ _ _ _ _ _ (sym (c .before .before .before .before .before .before .before .byte .ensures) ∙ c .before .before .before .before .before .low .given .1) (sym (c .before .before .before .byte2 .ensures) ∙ c .before .high .given .1)
+returns-3 c =
+    let told = c .before .before .before .before .before in
+    let low = sym (told .before .before .byte .ensures) ∙ told .low .given .1 in
+    let high = sym (c .before .before .before .byte2 .ensures) ∙ c .before .high .given .1 in
+    word-of-two _ _ _ _ _ _ low high
 
 pub word-spec : {M : Type 1} → statement M
 word-spec =
     tie.close
-    (tie.spec
-    byte-requires
-    enum-known-low
-    enum-told
-    returns
-    byte-requires-2
-    enum-known-high
-    enum-told-2
-    returns-2
-    cast-t9
-    cast-t10
-    mul-t11
-    add-t12
-    returns-3)
+    (tie.spec (λ c κs. search needs) (λ c. search needs) (λ c. search needs) returns (λ c κs. search needs) (λ c. search needs) (λ c. search needs)
+    returns-2 (λ c. search needs) (λ c. search needs) (λ c. search needs) (λ c. search needs) returns-3)

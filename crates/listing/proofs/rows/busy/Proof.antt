@@ -5,42 +5,24 @@ use mathlib.Core.Path.{_≡_}
 use mathlib.Core.List.{List}
 use native.Mathlib.Nat.{sub-zero, zero-add}
 use native.Mathlib.Omega.{arith}
-use Rattle.dispatcher.specs.Dispatch.{entriesAt}
+use Rattle.table.specs.Answers.{entriesAt}
 use Rattle.listing.specs.Listing.{busyTicks}
 use Rattle.listing.specs.ListingLaws.{busy-turn, busy-end}
 use Rattle.listing.proofs.rows.busy.Statement.{statement}
 use Rattle.listing.proofs.rows.busy.Tie as tie
 
 abbrev Inv-loop : tie.InvT-loop
-Inv-loop tasks n named sum₀ i₀ sum i =
+Inv-loop tasks n entries sum₀ i₀ sum i =
     (i ≤ n) × (n ≤ 16) × (sum ≤ i * 65535)
-    × ((jobs : List ℕ) → sum + busyTicks tasks (entriesAt named jobs (n - i) i) ≡ busyTicks tasks (entriesAt named jobs n 0))
+    × ((jobs : List ℕ) → sum + busyTicks tasks (entriesAt entries jobs (n - i) i) ≡ busyTicks tasks (entriesAt entries jobs n 0))
 
 abbrev μ-loop : tie.MeasureT-loop
-μ-loop tasks n named sum₀ i₀ sum i = n - i
+μ-loop tasks n entries sum₀ i₀ sum i = n - i
 
 loop-holds : tie.Need-loop-holds Inv-loop μ-loop
 loop-holds c =
     let s = c .before .args in
     (omega arith, c .before .pre .0, omega arith, λ jobs. rw (sub-zero (s .row .count)) (zero-add _))
-
-array-read-cost : tie.Need-array-read-cost Inv-loop μ-loop
-array-read-cost c = search needs
-
-cost-requires : tie.Need-cost-requires Inv-loop μ-loop
-cost-requires c κs = search needs
-
-cast-sum : tie.Need-cast-sum Inv-loop μ-loop
-cast-sum c = search needs
-
-add-sum : tie.Need-add-sum Inv-loop μ-loop
-add-sum c = search needs
-
-add-i : tie.Need-add-i Inv-loop μ-loop
-add-i c = search needs
-
-loop-less : tie.Need-loop-less Inv-loop μ-loop
-loop-less c = search needs
 
 loop-again : tie.Need-loop-again Inv-loop μ-loop
 loop-again c =
@@ -62,15 +44,5 @@ returns c =
 pub busy-spec : {M : Type 1} → statement M
 busy-spec =
     tie.close
-    (tie.spec
-    Inv-loop
-    μ-loop
-    loop-holds
-    array-read-cost
-    cost-requires
-    cast-sum
-    add-sum
-    add-i
-    loop-less
-    loop-again
-    returns)
+    (tie.spec Inv-loop μ-loop loop-holds (λ c. search needs) (λ c κs. search needs) (λ c. search needs) (λ c. search needs) (λ c. search needs)
+    (λ c. search needs) loop-again returns)

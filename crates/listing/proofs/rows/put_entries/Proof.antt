@@ -5,9 +5,9 @@ use mathlib.Core.Path.{_≡_, refl, sym, _∙_}
 use native.Mathlib.Nat.{sub-zero}
 use native.Mathlib.Omega.{arith}
 use lib.ListN.{length}
-use Rattle.dispatcher.specs.Dispatch.{entriesAt}
+use Rattle.table.specs.Answers.{entriesAt}
 use Rattle.text.specs.Text.{filledTo, putAllOf}
-use Rattle.listing.specs.Listing.{entriesText}
+use Rattle.listing.specs.Listing.{entryText, each}
 use Rattle.listing.specs.ListingLaws.{entries-turn, entries-end}
 use Rattle.listing.proofs.rows.put_entries.Statement.{statement}
 use Rattle.listing.proofs.rows.put_entries.Tie as tie
@@ -15,28 +15,13 @@ use Rattle.listing.proofs.rows.put_entries.Tie as tie
 abbrev Inv-loop : tie.InvT-loop
 Inv-loop out₀ at n tasks jobs end₀ i₀ out end i =
     (i ≤ n) × (n ≤ 16) × (length out ≡ length out₀)
-    × (putAllOf (filledTo end out) (entriesText (entriesAt tasks jobs (n - i) i)) ≡ putAllOf (filledTo at out₀) (entriesText (entriesAt tasks jobs n 0)))
+    × (putAllOf (filledTo end out) (each entryText (entriesAt tasks jobs (n - i) i)) ≡ putAllOf (filledTo at out₀) (each entryText (entriesAt tasks jobs n 0)))
 
 abbrev μ-loop : tie.MeasureT-loop
 μ-loop out₀ at n tasks jobs end₀ i₀ out end i = n - i
 
 loop-holds : tie.Need-loop-holds Inv-loop μ-loop
 loop-holds c = (omega arith, c .before .before .before .pre, refl, rw (sub-zero _) refl)
-
-array-read-put-entry : tie.Need-array-read-put-entry Inv-loop μ-loop
-array-read-put-entry c = search needs
-
-array-read-put-entry-2 : tie.Need-array-read-put-entry-2 Inv-loop μ-loop
-array-read-put-entry-2 c = search needs
-
-put-entry-requires : tie.Need-put-entry-requires Inv-loop μ-loop
-put-entry-requires c κs = search needs
-
-add-i : tie.Need-add-i Inv-loop μ-loop
-add-i c = search needs
-
-loop-less : tie.Need-loop-less Inv-loop μ-loop
-loop-less c = search needs
 
 loop-again : tie.Need-loop-again Inv-loop μ-loop
 loop-again c =
@@ -45,27 +30,14 @@ loop-again c =
       omega (arith, more),
       l .inv .1,
       c .before .before .put-entry .kept .0 ∙ l .inv .2,
-      rw (c .before .before .put-entry .ensures) (entries-turn _ _ _ (l .i) _ more) ∙ l .inv .3,
+      rw (c .before .before .put-entry .ensures) (entries-turn _ _ _ (l .i) entryText _ more) ∙ l .inv .3,
     )
 
-same-length : tie.Need-same-length Inv-loop μ-loop
-same-length c = search needs
-
 returns : tie.Need-returns Inv-loop μ-loop
-returns c = sym (entries-end _ _ _ (c .before .loop .i) _ (c .loop-test .left)) ∙ c .before .loop .inv .3
+returns c = sym (entries-end _ _ _ (c .before .loop .i) entryText _ (c .loop-test .left)) ∙ c .before .loop .inv .3
 
 pub put-entries-spec : {M : Type 1} → statement M
 put-entries-spec =
     tie.close
-    (tie.spec
-    Inv-loop
-    μ-loop
-    loop-holds
-    array-read-put-entry
-    array-read-put-entry-2
-    put-entry-requires
-    add-i
-    loop-less
-    loop-again
-    same-length
-    returns)
+    (tie.spec Inv-loop μ-loop loop-holds (λ c. search needs) (λ c. search needs) (λ c κs. search needs) (λ c. search needs) (λ c. search needs)
+    loop-again (λ c. search needs) returns)

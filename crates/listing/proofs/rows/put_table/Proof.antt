@@ -4,28 +4,17 @@ use borrow.Author.Needs.{needs}
 use Rattle.table.specs.Table.{decode}
 use Rattle.text.specs.Text.{filledTo, putAllOf}
 use Rattle.text.specs.TextLaws.{put-append}
-use Rattle.listing.specs.ListingLaws.{tasks-size, table-lines, height-is}
+use Rattle.listing.specs.Answers.{tableIn}
+use Rattle.listing.specs.ListingLaws.{sizes-read, tasks-size, table-lines}
 use Rattle.listing.proofs.rows.put_table.Statement.{statement}
 use Rattle.listing.proofs.rows.put_table.Tie as tie
-
-sizes-requires : tie.Need-sizes-requires
-sizes-requires c κs = search needs
-
-read-requires : tie.Need-read-requires
-read-requires c κs = search needs
-
-put-head-requires : tie.Need-put-head-requires
-put-head-requires c κs = search needs
 
 put-rows-requires : tie.Need-put-rows-requires
 put-rows-requires c κs =
     let read = c .before .before .before .before .before .before in
     let sizes = read .before in
     let s = sizes .before .before .before .before .args in
-    (height-is (decode (s .table .now)) (sizes .sizes .result) (sizes .sizes .ensures), tasks-size (s .request .now) (read .read .result) (read .read .ensures))
-
-same-length : tie.Need-same-length
-same-length c = search needs
+    (sizes-read (s .table .now) (sizes .sizes .result) (sizes .sizes .ensures) .height-is, tasks-size (s .request .now) (read .read .result) (read .read .ensures))
 
 returns : tie.Need-returns
 returns c =
@@ -34,11 +23,10 @@ returns c =
     let read = head .before .before .before in
     let sizes = read .before in
     let s = sizes .before .before .before .before .args in
-    rw (rows .put-rows .ensures, head .put-head .ensures)
-    (sym (put-append _ _ _)
-    ∙ ap (putAllOf (filledTo 0 (s .out .now))) (table-lines (s .request .now) (read .read .result) (read .read .ensures) (decode (s .table .now)) (sizes .sizes .result) (sizes .sizes .ensures)))
+    let t = tableIn (decode (s .table .now)) in
+    let lines = table-lines (s .request .now) (read .read .result) (read .read .ensures) t (sizes .sizes .result) (sizes-read (s .table .now) (sizes .sizes .result) (sizes .sizes .ensures)) in
+    rw (rows .put-rows .ensures, head .put-head .ensures) (sym (put-append _ _ _) ∙ ap (putAllOf (filledTo 0 (s .out .now))) lines)
 
 pub put-table-spec : {M : Type 1} → statement M
 put-table-spec =
-    tie.close
-    (tie.spec sizes-requires read-requires put-head-requires put-rows-requires same-length returns)
+    tie.close (tie.spec (λ c κs. search needs) (λ c κs. search needs) (λ c κs. search needs) put-rows-requires (λ c. search needs) returns)

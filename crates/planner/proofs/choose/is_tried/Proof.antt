@@ -1,6 +1,5 @@
 -- The tests of the function are the definition's; no length has 0 rows.
-use mathlib.Core.Path.{_≡_, refl, sym, _∙_, ap}
-use native.Mathlib.Nat.{div-zero}
+use mathlib.Core.Path.{sym, _∙_}
 use borrow.Author.Tests.{eq-eqb, ne-eqb}
 use Rattle.model.specs.Answers.{instanceOf}
 use Rattle.model.specs.Chosen.{isTried}
@@ -12,18 +11,9 @@ use Rattle.planner.proofs.choose.is_tried.Tie as tie
 returns : tie.Need-returns
 returns c = rw (c .if1 .taken) (sym (no-rows _))
 
-rem-if2 : tie.Need-rem-if2
-rem-if2 c = search needs
-
 returns-2 : tie.Need-returns-2
 unfolding isTried instanceOf
 returns-2 c = simp (ne-eqb _ _ (c .if2 .taken))
-
-div-plausible : tie.Need-div-plausible
-div-plausible c = search needs
-
-plausible-requires : tie.Need-plausible-requires
-plausible-requires c κs = search needs
 
 returns-3 : tie.Need-returns-3
 unfolding isTried instanceOf
@@ -31,4 +21,4 @@ returns-3 c = c .plausible .ensures ∙ simp (eq-eqb _ _ (c .before .before .if2
 
 pub is-tried-spec : {M : Type 1} → statement M
 is-tried-spec =
-    tie.close (tie.spec returns rem-if2 returns-2 div-plausible plausible-requires returns-3)
+    tie.close (tie.spec returns (λ c. search needs) returns-2 (λ c. search needs) (λ c κs. search needs) returns-3)

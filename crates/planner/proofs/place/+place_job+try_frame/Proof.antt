@@ -155,8 +155,20 @@ place-job-try-frame-requires : (t : ℕ) → place-job-lts.Need-try-frame-requir
 place-job-try-frame-requires t c κs =
     let s = c .before .before .before .before .before .before .before .before .before .before .before .before .before .before .before .before .before .before in
     let h = is-left (s .pre .1 .0) (c .before .before .before .before .before .before .before .before .before .before .if1 .left) in
-    let v = c .before .before .before .loop .inv in
-    (omega (arith, s .pre .0, h, c .before .before .before .before .before .shared-slice-known6 .given (s .args .i)), (h, (ready-again h (s .pre .1 .1) v, (rw (v .kept) (c .before .before .before .before .before .before .before .before .lower-bound .ensures), rw (v .kept) (c .before .before .before .before .before .before .upper-bound .ensures)))))
+    let v = c .before .before .before .loop .inv in (
+      omega (arith, s .pre .0, h, c .before .before .before .before .before .shared-slice-known6 .given (s .args .i)),
+      (
+        h,
+        (
+          ready-again h (s .pre .1 .1) v,
+          (
+            rw
+                (v .kept) (c .before .before .before .before .before .before .before .before .lower-bound .ensures),
+            rw (v .kept) (c .before .before .before .before .before .before .upper-bound .ensures),
+          ),
+        ),
+      ),
+    )
 
 place-job-same-length : (t : ℕ) → place-job-lts.Need-same-length (
   lower-bound-reads.Asked,
@@ -189,9 +201,11 @@ place-job-returns-2 : (t : ℕ) → place-job-lts.Need-returns-2 (
   try-frame.Post,
 ) (place-job-at t) place-job.Post place-job-Inv-loop place-job-μ-loop
 place-job-returns-2 t c =
-    let s = c .before .before .before .before .before .before .before .before .before .before .before .before .before .before .before .before .before .before .before .before .before .before .before .before in
+    let e = c .before .before .before .before .before .before .before .before .before .before .before .before in
+    let s = e .before .before .before .before .before .before .before .before .before .before .before .before in
     let h = is-left (s .pre .1 .0) (c .before .before .before .before .before .before .before .before .before .before .before .before .before .before .before .before .if1 .left) in
-    pass-found h (s .pre .1 .1) (c .before .before .before .before .before .before .before .before .before .loop .inv) (c .before .before .before .before .before .before .before .before .loop-test .taken) (c .before .before .before .before .before .try-frame .ensures) (c .if2 .taken)
+    pass-found h (s .pre .1 .1) (c .before .before .before .before .before .before .before .before .before .loop .inv)
+    (c .before .before .before .before .before .before .before .before .loop-test .taken) (c .before .before .before .before .before .try-frame .ensures) (c .if2 .taken)
 
 place-job-add-k : (t : ℕ) → place-job-lts.Need-add-k (
   lower-bound-reads.Asked,
@@ -202,7 +216,9 @@ place-job-add-k : (t : ℕ) → place-job-lts.Need-add-k (
   try-frame.Post,
 ) (place-job-at t) place-job.Post place-job-Inv-loop place-job-μ-loop
 place-job-add-k t c =
-    omega (arith, c .before .before .before .before .before .before .before .before .loop-test .taken, c .before .before .before .before .before .before .before .before .before .before .before .shared-slice-known6 .given (c .before .before .before .before .before .before .before .before .before .before .before .before .before .before .before .before .before .before .before .before .before .before .before .before .args .i))
+    let e = c .before .before .before .before .before .before .before .before in
+    let g = e .before .before .before in
+    omega (arith, e .loop-test .taken, g .shared-slice-known6 .given (g .before .before .before .before .before .before .before .before .before .before .before .before .before .args .i))
 
 place-job-loop-less : (t : ℕ) → place-job-lts.Need-loop-less (
   lower-bound-reads.Asked,
@@ -224,9 +240,12 @@ place-job-loop-again : (t : ℕ) → place-job-lts.Need-loop-again (
   try-frame.Post,
 ) (place-job-at t) place-job.Post place-job-Inv-loop place-job-μ-loop
 place-job-loop-again t c =
-    let s = c .before .before .before .before .before .before .before .before .before .before .before .before .before .before .before .before .before .before .before .before .before .before .before .before in
+    let e = c .before .before .before .before .before .before .before .before .before .before .before .before in
+    let s = e .before .before .before .before .before .before .before .before .before .before .before .before in
     let h = is-left (s .pre .1 .0) (c .before .before .before .before .before .before .before .before .before .before .before .before .before .before .before .before .if1 .left) in
-    pass-on h (s .pre .1 .1) (c .before .before .before .before .before .before .before .before .before .loop .inv) (c .before .before .before .before .before .before .before .before .loop-test .taken) (c .before .before .before .before .before .try-frame .ensures) (c .if2 .left) (c .before .before .before .before .before .try-frame .kept .1 .1 .1 .1 .1 .1 .1 .0)
+    pass-on h (s .pre .1 .1) (c .before .before .before .before .before .before .before .before .before .loop .inv)
+    (c .before .before .before .before .before .before .before .before .loop-test .taken) (c .before .before .before .before .before .try-frame .ensures)
+    (c .if2 .left) (c .before .before .before .before .before .try-frame .kept .1 .1 .1 .1 .1 .1 .1 .0)
 
 place-job-same-length-3 : (t : ℕ) → place-job-lts.Need-same-length-3 (
   lower-bound-reads.Asked,
@@ -393,8 +412,14 @@ try-frame-place-job-requires : (t : ℕ) → try-frame-lts.Need-place-job-requir
   place-job.Post,
 ) (try-frame-at t) try-frame.Post
 try-frame-place-job-requires t c κs =
-    let s = c .before .before .before .before .before .before .before .before .before .before .before .before .before .before in
-    (omega (arith, s .pre .0, s .pre .1 .0), (omega (arith, s .pre .1 .0), put (s .pre .1 .0) (s .pre .1 .1 .0) (s .args .k) (c .before .before .before .before .if1 .left) (omega (arith, s .fits .k)) (s .pre .1 .1 .1) _ refl))
+    let s = c .before .before .before .before .before .before .before .before .before .before .before .before .before .before in (
+      omega (arith, s .pre .0, s .pre .1 .0),
+      (
+        omega (arith, s .pre .1 .0),
+        put (s .pre .1 .0) (s .pre .1 .1 .0) (s .args .k)
+            (c .before .before .before .before .if1 .left) (omega (arith, s .fits .k)) (s .pre .1 .1 .1) _ refl,
+      ),
+    )
 
 try-frame-same-length : (t : ℕ) → try-frame-lts.Need-same-length (
   place-job-below t,
@@ -418,7 +443,9 @@ try-frame-returns-4 :
     try-frame.Post
 try-frame-returns-4 t c =
     let s = c .before .before .before .before .before .before .before .before .before .before .before .before .before .before .before .before .before .before .before .before in
-    went (s .pre .1 .0) (s .pre .1 .1 .0) (s .args .k) (c .before .before .before .before .before .before .before .before .before .before .if1 .left) (omega (arith, s .fits .k)) (s .pre .1 .1 .1) _ refl (c .before .before .before .before .before .before .before .before .before .if2 .left) (c .before .before .before .before .before .before .before .before .if3 .left) (c .before .before .before .before .before .place-job .ensures) (c .if4 .taken)
+    went (s .pre .1 .0) (s .pre .1 .1 .0) (s .args .k) (c .before .before .before .before .before .before .before .before .before .before .if1 .left) (omega
+    (arith, s .fits .k)) (s .pre .1 .1 .1) _ refl (c .before .before .before .before .before .before .before .before .before .if2 .left)
+    (c .before .before .before .before .before .before .before .before .if3 .left) (c .before .before .before .before .before .place-job .ensures) (c .if4 .taken)
 
 try-frame-mul-load-2 :
     (t : ℕ) →
@@ -460,7 +487,9 @@ try-frame-returns-5 :
     try-frame.Post
 try-frame-returns-5 t c =
     let s = c .before .before .before .before .before .before .before .before .before .before .before .before .before .before .before .before .before .before .before .before in
-    back (s .pre .1 .0) (s .pre .1 .1 .0) (s .args .k) (c .before .before .before .before .before .before .before .before .before .before .if1 .left) (omega (arith, s .fits .k)) (s .pre .1 .1 .1) _ refl (c .before .before .before .before .before .before .before .before .before .if2 .left) (c .before .before .before .before .before .before .before .before .if3 .left) (c .before .before .before .before .before .place-job .ensures) (c .if4 .left)
+    back (s .pre .1 .0) (s .pre .1 .1 .0) (s .args .k) (c .before .before .before .before .before .before .before .before .before .before .if1 .left) (omega
+    (arith, s .fits .k)) (s .pre .1 .1 .1) _ refl (c .before .before .before .before .before .before .before .before .before .if2 .left)
+    (c .before .before .before .before .before .before .before .before .if3 .left) (c .before .before .before .before .before .place-job .ensures) (c .if4 .left)
 
 pub +place-job+try-frame-spec : {M : Type 1} → statement M
 +place-job+try-frame-spec = close μ-place-job μ-try-frame (λ t. place-job-lts.spec (

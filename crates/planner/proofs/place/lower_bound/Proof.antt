@@ -18,9 +18,6 @@ abbrev μ-loop : tie.MeasureT-loop
 mul-at : tie.Need-mul-at Inv-loop μ-loop
 mul-at c = let s = c .before .before .before in omega (arith, s .pre .0 .room, s .pre .1 .0)
 
-shared-slice-read-end : tie.Need-shared-slice-read-end Inv-loop μ-loop
-shared-slice-read-end c = search needs
-
 cast-end : tie.Need-cast-end Inv-loop μ-loop
 cast-end c = let s = c .before .before .before .before in omega (arith, s .pre .0 .few (s .args .i))
 
@@ -30,25 +27,18 @@ add-end c = let s = c .before .before .before .before in omega (arith, s .pre .0
 loop-holds : tie.Need-loop-holds Inv-loop μ-loop
 loop-holds c = let s = c .before .before .before .before in bound-start (s .pre .0) (s .pre .1 .0)
 
-shared-slice-read-raised : tie.Need-shared-slice-read-raised Inv-loop μ-loop
-shared-slice-read-raised c = search needs
-
 raised-requires : tie.Need-raised-requires Inv-loop μ-loop
 raised-requires c κs =
     let s = c .before .before .before .before .before .before .before in
     omega (arith, partner-before (c .before .before .loop .inv) (s .pre .0) (s .pre .1 .0) (c .before .loop-test .taken), s .pre .1 .1)
 
-add-at : tie.Need-add-at Inv-loop μ-loop
-add-at c = search needs
-
-loop-less : tie.Need-loop-less Inv-loop μ-loop
-loop-less c = search needs
-
 loop-again : tie.Need-loop-again Inv-loop μ-loop
 loop-again c =
-    let s = c .before .before .before .before .before .before .before .before in
-    let h = partner-before (c .before .before .before .loop .inv) (s .pre .0) (s .pre .1 .0) (c .before .before .loop-test .taken) in
-    rw (c .raised .ensures, ← frame-before (s .args .place .now) (s .args .i) _ h) (bound-turn (c .before .before .before .loop .inv) (c .before .before .loop-test .taken))
+    let test = c .before .before in
+    let inv = test .before .loop .inv in
+    let s = test .before .before .before .before .before .before in
+    let h = partner-before inv (s .pre .0) (s .pre .1 .0) (test .loop-test .taken) in
+    rw (c .raised .ensures, ← frame-before (s .args .place .now) (s .args .i) _ h) (bound-turn inv (test .loop-test .taken))
 
 returns : tie.Need-returns Inv-loop μ-loop
 returns c = bound-stop (c .before .loop .inv) (c .loop-test .left)
@@ -56,17 +46,5 @@ returns c = bound-stop (c .before .loop .inv) (c .loop-test .left)
 pub lower-bound-spec : {M : Type 1} → statement M
 lower-bound-spec =
     tie.close
-    (tie.spec
-    Inv-loop
-    μ-loop
-    mul-at
-    shared-slice-read-end
-    cast-end
-    add-end
-    loop-holds
-    shared-slice-read-raised
-    raised-requires
-    add-at
-    loop-less
-    loop-again
-    returns)
+    (tie.spec Inv-loop μ-loop mul-at (λ c. search needs) cast-end add-end loop-holds (λ c. search needs) raised-requires (λ c. search needs)
+    (λ c. search needs) loop-again returns)

@@ -2,11 +2,15 @@
 use borrow.Author.Needs.{needs}
 use native.Mathlib.Omega.{arith}
 use Prim.Native.Nat.{_≤_, _-_}
-use mathlib.Core.Path.{refl, sym, _∙_}
+use mathlib.Core.Path.{_≡_, refl, sym, _∙_}
+use mathlib.Core.Bool.{true}
 use mathlib.Core.Logic.{⊎-elim}
 use borrow.Author.Tests.{not-true, not-false}
+use lib.ListN.{drop}
+use Rattle.cursor.specs.Parsed.{got}
+use Rattle.cursor.specs.Fields.{wordOf}
 use Rattle.cursor.specs.FieldLaws.{word-taken, word-missing}
-use Rattle.table.specs.Table.{rowsFrom}
+use Rattle.table.specs.Table.{heightFits, rowsFrom}
 use Rattle.table.specs.Answers.{tableRead, sizesOf, rowAnswer}
 use Rattle.table.specs.ReadLaws.{RowsSoFar, rows-start, rows-kept, rows-passed, rows-refused, rows-tail, rows-end}
 use Rattle.table.proofs.read.read_rows.Statement.{statement}
@@ -43,11 +47,21 @@ no-table-requires-2 c κs = tt
 returns-2 : tie.Need-returns-2 Inv-loop μ-loop
 unfolding rowsFrom tableRead sizesOf rowAnswer
 returns-2 c =
-    let one = word-taken 12 _ _ _ _ (sym (c .before .before .before .before .before .before .word .ensures) ∙ c .before .before .before .before .height .given .1) in
+    let height = c .before .before .before .before in
+    let one = word-taken 12 _ _ _ _ (sym (height .before .before .word .ensures) ∙ height .height .given .1) in
     c .no-table2 .ensures ∙ rw (one .field, sym (c .before .before .height-fits .ensures) ∙ not-true _ (c .before .if1 .taken))
 
 refused-row-requires : tie.Need-refused-row-requires Inv-loop μ-loop
 refused-row-requires c κs = tt
+
+-- F is read, and fits the sizes
+height-read : (c : tie.Else1 Inv-loop μ-loop) → let read = c .before .before .before in let s = read .before .before .before .before .args .s .now in
+    wordOf 12 s ≡ got (read .height .given .0 .0) (drop (read .height .given .0 .1 .0 .at) s)
+height-read c = word-taken 12 _ 0 _ _ (sym (c .before .before .before .before .before .word .ensures) ∙ c .before .before .before .height .given .1) .field
+
+fits : (c : tie.Else1 Inv-loop μ-loop) → let a = c .before .before .before .before .before .before .before .args in
+    heightFits (c .before .before .before .height .given .0 .0) (record { f = a .f; h = a .h }) ≡ true
+fits c = sym (c .before .height-fits .ensures) ∙ not-false _ (c .if1 .left)
 
 loop-holds : tie.Need-loop-holds Inv-loop μ-loop
 loop-holds c = (search needs, rw (c .refused-row .ensures) (rows-start _ _ _ _ _))
@@ -67,15 +81,11 @@ no-table-requires-3 c κs = tt
 returns-3 : tie.Need-returns-3 Inv-loop μ-loop
 unfolding tableRead sizesOf rowAnswer
 returns-3 c =
-    let one = word-taken 12 _ _ _ _ (sym (c .before .before .before .before .before .before .before .before .before .before .before .before .before .before .word .ensures) ∙ c .before .before .before .before .before .before .before .before .before .before .before .before .height .given .1) in
+    let l = c .before .before .before .before .before .before .before in
+    let e = l .before .before in
+    let more = c .before .before .before .before .before .before .loop-test .taken in
     let none = rw (c .before .enum-told2 .given .1) at (c .before .before .before .read-row .ensures) in
-    c .no-table3 .ensures ∙ rw (rows-refused _ _ _ _ _ _ _ _ (c .before .before .before .before .before .before .before .loop .inv .1) (one .field) (sym (c .before .before .before .before .before .before .before .before .before .before .height-fits .ensures) ∙ not-false _ (c .before .before .before .before .before .before .before .before .before .if1 .left)) (c .before .before .before .before .before .before .loop-test .taken) none)
-
-add-i : tie.Need-add-i Inv-loop μ-loop
-add-i c = omega arith
-
-loop-less : tie.Need-loop-less Inv-loop μ-loop
-loop-less c = omega arith
+    c .no-table3 .ensures ∙ rw (rows-refused _ _ _ _ _ _ _ _ (l .loop .inv .1) (height-read e) (fits e) more none)
 
 loop-again : tie.Need-loop-again Inv-loop μ-loop
 loop-again c =
@@ -95,38 +105,20 @@ no-table-requires-4 c κs = tt
 returns-4 : tie.Need-returns-4 Inv-loop μ-loop
 unfolding tableRead sizesOf rowAnswer
 returns-4 c =
-    let one = word-taken 12 _ _ _ _ (sym (c .before .before .before .before .before .before .before .before .before .before .word .ensures) ∙ c .before .before .before .before .before .before .before .before .height .given .1) in
-    c .no-table4 .ensures ∙ rw (rows-tail _ _ _ _ _ _ _ _ (c .before .before .before .loop .inv .1) (one .field) (sym (c .before .before .before .before .before .before .height-fits .ensures) ∙ not-false _ (c .before .before .before .before .before .if1 .left)) (c .before .before .loop-test .left) (c .before .if3 .taken))
+    let l = c .before .before .before in
+    let e = l .before .before in
+    let end = c .before .before .loop-test .left in
+    c .no-table4 .ensures ∙ rw (rows-tail _ _ _ _ _ _ _ _ (l .loop .inv .1) (height-read e) (fits e) end (c .before .if3 .taken))
 
 returns-5 : tie.Need-returns-5 Inv-loop μ-loop
 returns-5 c =
-    let one = word-taken 12 _ _ _ _ (sym (c .before .before .before .before .before .before .before .before .before .word .ensures) ∙ c .before .before .before .before .before .before .before .height .given .1) in
-    sym (rows-end _ _ _ _ _ _ _ _ (c .before .before .loop .inv .1) (one .field) (sym (c .before .before .before .before .before .height-fits .ensures) ∙ not-false _ (c .before .before .before .before .if1 .left)) (c .before .loop-test .left) (c .before .before .loop .inv .0) (c .if3 .left))
+    let l = c .before .before in
+    let e = l .before .before in
+    sym (rows-end _ _ _ _ _ _ _ _ (l .loop .inv .1) (height-read e) (fits e) (c .before .loop-test .left) (l .loop .inv .0) (c .if3 .left))
 
 pub read-rows-spec : {M : Type 1} → statement M
 read-rows-spec =
     tie.close
-    (tie.spec
-    Inv-loop
-    μ-loop
-    word-requires
-    enum-known-height
-    enum-told
-    no-table-requires
-    returns
-    height-fits-requires
-    no-table-requires-2
-    returns-2
-    refused-row-requires
-    loop-holds
-    read-row-requires
-    enum-known-count
-    enum-told-2
-    no-table-requires-3
-    returns-3
-    add-i
-    loop-less
-    loop-again
-    no-table-requires-4
-    returns-4
-    returns-5)
+    (tie.spec Inv-loop μ-loop word-requires enum-known-height enum-told no-table-requires returns height-fits-requires no-table-requires-2 returns-2
+    refused-row-requires loop-holds read-row-requires enum-known-count enum-told-2 no-table-requires-3 returns-3 (λ c. omega arith) (λ c. omega arith)
+    loop-again no-table-requires-4 returns-4 returns-5)

@@ -1,0 +1,81 @@
+-- Inside both loops no place is found yet, and the rest of the walk finds what the whole walk finds.
+use Prim.Native.Nat.{_≤_, _<_, _-_, _+_, _*_}
+use mathlib.Core.Path.{_≡_, refl, sym, _∙_}
+use Rattle.checker.specs.declared.walk.Place.the-variants.{Nowhere}
+use Rattle.checker.specs.Checked.{placeIn}
+use Rattle.checker.specs.Answers.{rowsIn, rowsOf}
+use Rattle.checker.specs.WalkLaws.{walkInRow, walk-starts, row-starts, walk-ends, row-ends, entry-names, entry-other}
+use borrow.Author.Needs.{needs}
+use Rattle.checker.proofs.walk.find.Statement.{statement}
+use Rattle.checker.proofs.walk.find.Tie as tie
+
+abbrev Inv-entries : tie.InvT-entries
+Inv-entries table height job place₀ at₀ row n e₀ place at e =
+    (place ≡ Nowhere) × (e ≤ n) × (n ≤ 255) × (row < height) × (height ≤ 65535) × (at ≤ 8 + row * 512 + 2 * e)
+    × (walkInRow table job height row n e at ≡ placeIn job 0 (rowsOf table height))
+
+abbrev μ-entries : tie.MeasureT-entries
+μ-entries table height job place₀ at₀ row n e₀ place at e = n - e
+
+abbrev Inv-rows : tie.InvT-rows
+Inv-rows table height job place₀ at₀ row₀ place at row =
+    (place ≡ Nowhere) × (row ≤ height) × (height ≤ 65535) × (at ≤ 7 + row * 512)
+    × (placeIn job row (rowsIn table (height - row) at) ≡ placeIn job 0 (rowsOf table height))
+
+abbrev μ-rows : tie.MeasureT-rows
+μ-rows table height job place₀ at₀ row₀ place at row = height - row
+
+rows-holds : tie.Need-rows-holds Inv-entries μ-entries Inv-rows μ-rows
+rows-holds c = (refl, search needs, search needs, search needs, walk-starts _ _ _)
+
+entries-holds : tie.Need-entries-holds Inv-entries μ-entries Inv-rows μ-rows
+entries-holds c =
+    let l = c .before .before .rows in (
+      l .inv .0,
+      search needs,
+      search needs,
+      search needs,
+      search needs,
+      search needs,
+      rw (c .byte-or-zero .ensures) (row-starts _ _ _ (l .row) (l .at) (c .before .rows-test .taken) ∙ l .inv .4),
+    )
+
+entries-again : tie.Need-entries-again Inv-entries μ-entries Inv-rows μ-rows
+entries-again c =
+    let job = c .before .before in
+    let test = job .before .before in
+    let l = test .before .entries in
+    let other = rw (job .before .byte-or-zero2 .ensures, job .byte-or-zero3 .ensures) at (sym (c .before .is-job .ensures) ∙ c .if1 .left) in (
+      l .inv .0,
+      search needs,
+      search needs,
+      search needs,
+      search needs,
+      search needs,
+      entry-other _ _ _ _ (l .at) _ (l .e) (test .entries-test .taken) other ∙ l .inv .6,
+    )
+
+rows-again : tie.Need-rows-again Inv-entries μ-entries Inv-rows μ-rows
+rows-again c =
+    let l = c .before .entries in
+    (l .inv .0, search needs, search needs, search needs, sym (row-ends _ _ _ _ (l .at) _ (l .e) (c .entries-test .left)) ∙ l .inv .6)
+
+returns : tie.Need-returns Inv-entries μ-entries Inv-rows μ-rows
+returns c =
+    let l = c .before .rows in
+    l .inv .0 ∙ sym (walk-ends _ _ _ (l .row) (l .at) (c .rows-test .left)) ∙ l .inv .4
+
+returns-2 : tie.Need-returns-2 Inv-entries μ-entries Inv-rows μ-rows
+returns-2 c =
+    let job = c .before .before in
+    let test = job .before .before in
+    let l = test .before .entries in
+    let named = rw (job .before .byte-or-zero2 .ensures, job .byte-or-zero3 .ensures) at (sym (c .before .is-job .ensures) ∙ c .if1 .taken) in
+    rw (job .byte-or-zero3 .ensures) (sym (entry-names _ _ _ _ (l .at) _ (l .e) (test .entries-test .taken) named) ∙ l .inv .6)
+
+pub find-spec : {M : Type 1} → statement M
+find-spec =
+    tie.close
+    (tie.spec Inv-entries μ-entries Inv-rows μ-rows rows-holds (λ c κs. search needs) (λ c. search needs) entries-holds (λ c κs. search needs)
+    (λ c. search needs) (λ c κs. search needs) (λ c κs. search needs) (λ c. search needs) (λ c. search needs) (λ c. search needs) entries-again
+    (λ c. search needs) (λ c. search needs) rows-again returns returns-2)

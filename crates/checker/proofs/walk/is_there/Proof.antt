@@ -1,0 +1,62 @@
+-- The loop keeps that the jobs left decide whether one is there.
+use Prim.Native.Nat.{_≤_, _-_}
+use mathlib.Core.Path.{_∙_}
+use mathlib.Core.Logic.{⊎-elim}
+use native.Mathlib.Nat.{sub-zero}
+use native.Mathlib.Omega.{arith}
+use borrow.Author.Tests.{eq-eqb, ne-eqb}
+use Rattle.cursor.specs.Padded.{firsts}
+use Rattle.cycle.specs.Planned.{noJob}
+use Rattle.checker.specs.Checked.{isThere}
+use Rattle.rules.specs.EveryLaws.{SomeLeft, some-next, some-here, some-none}
+use Rattle.checker.specs.LoopLaws.{there-at}
+use borrow.Author.Needs.{needs}
+use Rattle.checker.proofs.walk.is_there.Statement.{statement}
+use Rattle.checker.proofs.walk.is_there.Tie as tie
+
+abbrev Inv-loop : tie.InvT-loop
+Inv-loop count task number k jobs frames y₀ y =
+    (y ≤ count) × (count ≤ 128) × SomeLeft (isThere (firsts count noJob jobs) (firsts count 0 frames) task number k) count y
+
+abbrev μ-loop : tie.MeasureT-loop
+μ-loop count task number k jobs frames y₀ y = count - y
+
+loop-holds : tie.Need-loop-holds Inv-loop μ-loop
+loop-holds c = (omega arith, c .pre, simp sub-zero)
+
+returns : tie.Need-returns Inv-loop μ-loop
+returns c =
+    let test = c .before .before .before .before in
+    let a = test .before .before .args in
+    let l = test .before .loop in
+    let turn = test .loop-test .taken in
+    let here = there-at (a .t1) (a .t2) (a .count) (l .y) turn (a .task) (a .number) (a .k) in
+    some-here _ (a .count) (l .y) turn (here ∙ rw (← c .before .before .is-job .ensures, c .before .if1 .taken, eq-eqb _ _ (c .if2 .taken)))
+    ∙ l .inv .2
+
+loop-again : tie.Need-loop-again Inv-loop μ-loop
+loop-again c =
+    let test = c .before .before .before in
+    let a = test .before .before .args in
+    let l = test .before .loop in
+    let turn = test .loop-test .taken in
+    let named = c .before .is-job .ensures in
+    let here = there-at (a .t1) (a .t2) (a .count) (l .y) turn (a .task) (a .number) (a .k) in (
+      omega arith,
+      l .inv .1,
+      ⊎-elim
+          (λ w. some-next _ (a .count) (l .y) turn (here ∙ rw (← named, w .0 .taken, ne-eqb _ _ (w .1 .left))) ∙ l .inv .2)
+          (λ w. some-next _ (a .count) (l .y) turn (here ∙ rw (← named, w .left)) ∙ l .inv .2)
+          (c .if1 .came),
+    )
+
+returns-2 : tie.Need-returns-2 Inv-loop μ-loop
+returns-2 c =
+    let l = c .before .loop in
+    some-none _ _ (l .y) (c .loop-test .left) ∙ l .inv .2
+
+pub is-there-spec : {M : Type 1} → statement M
+is-there-spec =
+    tie.close
+    (tie.spec Inv-loop μ-loop loop-holds (λ c. search needs) (λ c. search needs) (λ c κs. search needs) (λ c. search needs) (λ c. search needs)
+    returns (λ c. search needs) (λ c. search needs) loop-again returns-2)

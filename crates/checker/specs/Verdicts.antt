@@ -1,0 +1,62 @@
+-- What a verdict says: a plan was read from a table that describes it, and a refusal has a number.
+use Prim.Native.Nat.{ℕ, _<_}
+use mathlib.Core.Path.{_≡_, refl}
+use mathlib.Core.Bool.{Bool, true, false}
+use mathlib.Core.List.{List}
+use native.Mathlib.Omega.{arith}
+use lib.ListN.{length}
+use lib.Dec.{eqb}
+use Rattle.cursor.specs.Choice.{pick, both}
+use Rattle.cursor.specs.ParsedLaws.{never}
+use Rattle.cycle.specs.Cycle.{Cycle, cycle, noCycle, cycleOf}
+use Rattle.cycle.specs.LimitLaws.{no-cycle-number}
+use Rattle.table.specs.Table.{Table, Decoded, table, malformed, decode}
+use Rattle.model.specs.Plan.{Instance, IsPlan}
+use Rattle.model.specs.Plausible.{plausible}
+use Rattle.model.specs.Answers.{instance}
+use Rattle.model.specs.Within.{Within}
+use Rattle.model.specs.Described.{Describes}
+use Rattle.rules.specs.Rules.{rulesRight}
+use Rattle.checker.specs.Checked.{framesIn, entriesRight, plan, refusal, planOf, judged, checked}
+use Rattle.checker.specs.Accepts.{accepts-described}
+
+pub record PlanRead (request bytes : List ℕ) (f : ℕ) (frames : List ℕ) : Type 0 where
+  pub x : Instance
+  pub within : Within request x
+  pub t : Table
+  pub read : decode bytes ≡ table t
+  pub is-plan : IsPlan x f frames
+  pub describes : Describes x f frames t
+
+module _ (request bytes : List ℕ) where
+  pub plan-read : (f : ℕ) (frames : List ℕ) → checked (cycleOf request) (decode bytes) ≡ plan f frames → PlanRead request bytes f frames
+  unfolding checked
+  plan-read f frames e = go (cycleOf request) refl (decode bytes) refl e
+    where
+      go : (c : Cycle) → cycleOf request ≡ c → (d : Decoded) → decode bytes ≡ d → checked c d ≡ plan f frames → PlanRead request bytes f frames
+      go (cycle tasks pairs h jobs) within (table t) read q =
+          let x = instance tasks pairs h jobs in
+          let right = accepts-described request bytes x t within read f frames .0 e in
+          record { x = x; within = within; t = t; read = read; is-plan = right .0; describes = right .1 }
+      go (cycle tasks pairs h jobs) within malformed read q = absurd (never (cc))
+      go (noCycle k) within (table t) read q = absurd (never (cc))
+      go (noCycle k) within malformed read q = absurd (never (cc))
+
+  pub refusal-number : (n : ℕ) → checked (cycleOf request) (decode bytes) ≡ refusal n → 0 < n
+  unfolding checked judged planOf
+  refusal-number n e = go (cycleOf request) refl (decode bytes) e
+    where
+      rules : (f : ℕ) (frames : List ℕ) (a b : Bool) → pick a (pick b (plan f frames) (refusal 14)) (refusal 13) ≡ refusal n → 0 < n
+      rules f frames true true q = absurd (never (cc))
+      rules f frames true false q = let same : 14 ≡ n = cc in omega arith
+      rules f frames false b q = let same : 13 ≡ n = cc in omega arith
+
+      go : (c : Cycle) → cycleOf request ≡ c → (d : Decoded) → checked c d ≡ refusal n → 0 < n
+      go (noCycle k) is (table t) q = let same : k ≡ n = cc in omega (arith, no-cycle-number request k is)
+      go (noCycle k) is malformed q = let same : k ≡ n = cc in omega (arith, no-cycle-number request k is)
+      go (cycle tasks pairs h jobs) is malformed q = let same : 12 ≡ n = cc in omega arith
+      go (cycle tasks pairs h jobs) is (table t) q =
+          let x = instance tasks pairs h jobs in
+          let frames = framesIn (t .rows) jobs in
+          rules (t .f) frames (both (eqb (t .h) h) (plausible x (t .f)))
+          (both (entriesRight x (t .rows) frames) (rulesRight x (length (t .rows)) (t .f) frames)) q

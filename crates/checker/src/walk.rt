@@ -1,0 +1,169 @@
+// The walk over a table's rows and entries: the entry that names a job, and whether each entry is a job's.
+use cycle::Job;
+ghost use mathlib.Core.Path.{_≡_};
+ghost use mathlib.Core.List.{[]};
+ghost use mathlib.Core.Bool.{false};
+ghost use Prim.Native.Nat.{_≤_, _<_};
+ghost use lib.ListN.{getD};
+ghost use Rattle.cursor.specs.Padded.{firsts};
+ghost use Rattle.cycle.specs.Planned.{noJob};
+ghost use Rattle.rules.specs.Every.{every, some};
+ghost use Rattle.checker.specs.Checked.{placeIn, frameFor, framesIn, isPlaced, isThere, rowKept, rowsKept};
+ghost use Rattle.checker.specs.Answers.{framesAnswer, entriesIn, rowsOf};
+
+// The row of a job's entry, and its carry.
+enum Place {
+    At(u16, bool),
+    Nowhere,
+}
+
+// The frames of all jobs, or that some job has none.
+pub(super) struct Frames {
+    pub all: bool,
+    pub frames: [u16; 128],
+}
+
+// The byte at i, or 0 behind the end.
+fn byte_or_zero(s: &[u8], i: usize) -> u8
+    ensures { λ r. ⌜ r ≡ getD (now (s .entry)) i 0 ⌝ }
+{
+    if i < s.len() { s[i] } else { 0 }
+}
+
+fn frame(height: u16, row: u16, carried: bool) -> u16
+    requires { ⌜ (row < height) × (height ≤ 256) ⌝ }
+    ensures { λ r. ⌜ r ≡ frameFor height row carried ⌝ }
+{
+    if carried { row + height } else { row }
+}
+
+// Walks the rows, and in each row its entries, and stops at the first entry naming the job.
+fn find(table: &[u8], height: u16, job: Job) -> Place
+    ensures { λ r. ⌜ r ≡ placeIn job 0 (rowsOf (now (table .entry)) height) ⌝ }
+{
+    let mut place = Place::Nowhere;
+    let mut at: usize = 7;
+    let mut row: u16 = 0;
+    'rows: while row < height {
+        let n = byte_or_zero(table, at);
+        at += 1;
+        let mut e: u8 = 0;
+        'entries: while e < n {
+            let task = byte_or_zero(table, at);
+            let byte = byte_or_zero(table, at + 1);
+            if rules::is_job(job, task, byte % 128) {
+                place = Place::At(row, 128 <= byte);
+                break 'rows;
+            }
+            at += 2;
+            e += 1;
+        }
+        row += 1;
+    }
+    place
+}
+
+fn no_frames() -> Frames
+    ensures { λ r. ⌜ r ≡ framesAnswer false [] ⌝ }
+{
+    Frames {
+        all: false,
+        frames: [0; 128],
+    }
+}
+
+// The frame of each job, from its entry.
+pub(super) fn read_frames(table: &[u8], height: u16, jobs: [Job; 128], count: usize) -> Frames
+    requires { ⌜ (height ≤ 256) × (count ≤ 128) ⌝ }
+    ensures { λ r. ⌜ r ≡ framesAnswer (every count (isPlaced (rowsOf (now (table .entry)) height) (firsts count noJob jobs))) (framesIn (rowsOf (now (table .entry)) height) (firsts count noJob jobs)) ⌝ }
+{
+    let mut frames = [0u16; 128];
+    let mut y: usize = 0;
+    while y < count {
+        let job = jobs[y];
+        let Place::At(row, carried) = find(table, height, job) else {
+            return no_frames();
+        };
+        frames[y] = frame(height, row, carried);
+        y += 1;
+    }
+    Frames { all: true, frames }
+}
+
+// Whether some job is the one named and stands in frame k.
+fn is_there(
+    jobs: [Job; 128],
+    frames: [u16; 128],
+    count: usize,
+    task: u8,
+    number: u8,
+    k: u16,
+) -> bool
+    requires { ⌜ count ≤ 128 ⌝ }
+    ensures { λ r. ⌜ r ≡ some count (isThere (firsts count noJob jobs) (firsts count 0 frames) task number k) ⌝ }
+{
+    let mut y: usize = 0;
+    while y < count {
+        let job = jobs[y];
+        if rules::is_job(job, task, number) {
+            if frames[y] == k {
+                return true;
+            }
+        }
+        y += 1;
+    }
+    false
+}
+
+// Whether each of n entries of a row, the first at `first`, is that of a job in its frame.
+fn row_kept(
+    table: &[u8],
+    first: usize,
+    n: u8,
+    height: u16,
+    row: u16,
+    jobs: [Job; 128],
+    frames: [u16; 128],
+    count: usize,
+) -> bool
+    requires { ⌜ (first ≤ 200000) × (row < height) × (height ≤ 256) × (count ≤ 128) ⌝ }
+    ensures { λ r. ⌜ r ≡ rowKept (firsts count noJob jobs) (firsts count 0 frames) count height row (entriesIn (now (table .entry)) n first) ⌝ }
+{
+    let mut at = first;
+    let mut e: u8 = 0;
+    while e < n {
+        let task = byte_or_zero(table, at);
+        let byte = byte_or_zero(table, at + 1);
+        let k = frame(height, row, 128 <= byte);
+        if !is_there(jobs, frames, count, task, byte % 128, k) {
+            return false;
+        }
+        at += 2;
+        e += 1;
+    }
+    true
+}
+
+// Whether each entry of the table is that of a job in its frame.
+pub(super) fn rows_kept(
+    table: &[u8],
+    height: u16,
+    jobs: [Job; 128],
+    frames: [u16; 128],
+    count: usize,
+) -> bool
+    requires { ⌜ (height ≤ 256) × (count ≤ 128) ⌝ }
+    ensures { λ r. ⌜ r ≡ rowsKept (firsts count noJob jobs) (firsts count 0 frames) count height 0 (rowsOf (now (table .entry)) height) ⌝ }
+{
+    let mut at: usize = 7;
+    let mut row: u16 = 0;
+    while row < height {
+        let n = byte_or_zero(table, at);
+        if !row_kept(table, at + 1, n, height, row, jobs, frames, count) {
+            return false;
+        }
+        at += 1 + 2 * (n as usize);
+        row += 1;
+    }
+    true
+}

@@ -1,0 +1,3 @@
+pub mod Flown
+pub mod FlownLaws
+pub mod ShortLaws
