@@ -52,7 +52,8 @@ pub extern "C" fn bus_check(request: &[u8], table: &[u8]) -> i32
 // The table of the plan that is read from a table, written into `out`: its length, or 1 to 8, 12 to 14 or 11 negated.
 #[no_mangle]
 pub extern "C" fn bus_rewrite(request: &[u8], table: &[u8], out: &mut [u8]) -> i32
-    ensures { λ r. ⌜ (r ≡ rewriteReply (now (request .entry)) (now (table .entry)) (now (out .entry))) × (now (out .exit) ≡ rewriteBuffer (now (request .entry)) (now (table .entry)) (now (out .entry))) ⌝ }
+    ensures { λ r. ⌜ (r ≡ rewriteReply (now (request .entry)) (now (table .entry)) (now (out .entry)))
+        × (now (out .exit) ≡ rewriteBuffer (now (request .entry)) (now (table .entry)) (now (out .entry))) ⌝ }
 {
     let written = rewriter::rewrite(request, table, out);
     if written.refusal != 0 {

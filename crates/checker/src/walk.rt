@@ -75,7 +75,8 @@ fn no_frames() -> Frames
 // The frame of each job, from its entry.
 pub(super) fn read_frames(table: &[u8], height: u16, jobs: [Job; 128], count: usize) -> Frames
     requires { ⌜ (height ≤ 256) × (count ≤ 128) ⌝ }
-    ensures { λ r. ⌜ r ≡ framesAnswer (every count (isPlaced (rowsOf (now (table .entry)) height) (firsts count noJob jobs))) (framesIn (rowsOf (now (table .entry)) height) (firsts count noJob jobs)) ⌝ }
+    ensures { λ r. ⌜ r ≡ framesAnswer (every count (isPlaced (rowsOf (now (table .entry)) height) (firsts count noJob jobs)))
+        (framesIn (rowsOf (now (table .entry)) height) (firsts count noJob jobs)) ⌝ }
 {
     let mut frames = [0u16; 128];
     let mut y: usize = 0;

@@ -77,7 +77,8 @@ pub(super) fn place_job(
 ) -> bool
     requires { ⌜ i ≤ length (now cost) ⌝ }
     requires { ⌜ Ready (problem (now cost) (now first) (now end) (now counts) (now links) rows f) (now place) (now load) i ⌝ }
-    ensures { λ r. ⌜ TriedJob (problem (now (cost .entry)) (now (first .entry)) (now (end .entry)) (now (counts .entry)) (now (links .entry)) rows f) (now (place .entry)) (now (load .entry)) i r (now (place .exit)) (now (load .exit)) ⌝ }
+    ensures { λ r. ⌜ TriedJob (problem (now (cost .entry)) (now (first .entry)) (now (end .entry)) (now (counts .entry)) (now (links .entry)) rows f)
+        (now (place .entry)) (now (load .entry)) i r (now (place .exit)) (now (load .exit)) ⌝ }
 {
     if i == cost.len() {
         return true;
@@ -128,7 +129,8 @@ fn try_frame(
     requires { ⌜ i < length (now cost) ⌝ }
     requires { ⌜ Ready (problem (now cost) (now first) (now end) (now counts) (now links) rows f) (now place) (now load) i ⌝ }
     requires { ⌜ Bounds (problem (now cost) (now first) (now end) (now counts) (now links) rows f) (take i (now place)) i low high ⌝ }
-    ensures { λ r. ⌜ TriedFrame (problem (now (cost .entry)) (now (first .entry)) (now (end .entry)) (now (counts .entry)) (now (links .entry)) rows f) (now (place .entry)) (now (load .entry)) i k r (now (place .exit)) (now (load .exit)) ⌝ }
+    ensures { λ r. ⌜ TriedFrame (problem (now (cost .entry)) (now (first .entry)) (now (end .entry)) (now (counts .entry)) (now (links .entry)) rows f)
+        (now (place .entry)) (now (load .entry)) i k r (now (place .exit)) (now (load .exit)) ⌝ }
 {
     let row = (k % rows) as usize;
     let c = cost[i];
