@@ -171,7 +171,7 @@ pub record SheetHolds : Type 0 where
   pub P1-request-bytes : bytesOf P1 ≡ P1-printed
   pub P1-table-bytes : encode P1-table ≡ P1-table-printed
   -- "check gives 14"
-  pub P4-refused : checker.numberOf (checker.checked (cycleOf (bytesOf P3)) (decode (encode P4-table))) ≡ 14
+  pub P4-refused : checker.checkNumber (bytesOf P3) (encode P4-table) ≡ 14
   -- "Frame 0 serves no entry, frame 2 the first."
   pub P7-frame-0 : entriesOf (frame freshState) ≡ []
   pub P7-frame-1 : entriesOf (frame (frame freshState .state)) ≡ []

@@ -11,7 +11,7 @@ use Rattle.cursor.specs.Choice.{pick}
 use Rattle.table.specs.Table.{Table, encode}
 use Rattle.table.specs.Layout as layout
 use Rattle.table.specs.declared.Written.{Written}
-use Rattle.planned_table.specs.Outcome.{Outcome, handed, refusal, answer}
+use Rattle.planned_table.specs.Outcome.{Outcome, handed, refusal, outcomeAnswer}
 use Rattle.planner.specs.Outcome.{outcome}
 use Rattle.planner.specs.TableLaws.{GoodOutcome, outcome-good}
 use Rattle.checker.specs.Checked.{checkNumber}
@@ -33,15 +33,15 @@ written-few t out h = go (layout.tooShort t out)
     go true = omega arith
     go false = h
 
-pub plan-few : (request out : List ℕ) → answer (outcome request) out .length < 65536
-unfolding answer
+pub plan-few : (request out : List ℕ) → outcomeAnswer (outcome request) out .length < 65536
+unfolding outcomeAnswer
 plan-few request out = go (outcome request) (outcome-good request)
   where
-    go : (o : Outcome) → GoodOutcome o → answer o out .length < 65536
+    go : (o : Outcome) → GoodOutcome o → outcomeAnswer o out .length < 65536
     go (handed t) good = written-few t out (omega (arith, good .short))
     go (refusal number) good = omega arith
 
-module _ (request out : List ℕ) (w : Written) (e : w ≡ answer (outcome request) out) where
+module _ (request out : List ℕ) (w : Written) (e : w ≡ outcomeAnswer (outcome request) out) where
   pub plan-refused : (w .refusal ≡ 0 → ⊥) → refused (w .refusal) ≡ planReply request out
   unfolding planReply
   plan-refused h = reply-refused (w .refusal) (w .length) h ∙ ap (λ (x : Written). reply (x .refusal) (x .length)) e

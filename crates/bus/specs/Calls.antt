@@ -9,7 +9,7 @@ use Rattle.cursor.specs.Choice.{pick, both}
 use Rattle.request.specs.Request.{reading}
 use Rattle.table.specs.Table.{decode}
 use Rattle.checker.specs.Checked.{checkNumber}
-use Rattle.planned_table.specs.Outcome.{answer, buffer}
+use Rattle.planned_table.specs.Outcome.{outcomeAnswer, outcomeBuffer}
 use Rattle.planner.specs.Outcome.{outcome}
 use Rattle.dispatcher.specs.Dispatch.{freshState, nextFrame, reported}
 use Rattle.dispatcher.specs.declared.Frame.{Frame}
@@ -20,10 +20,10 @@ use Rattle.bus.specs.State.{isState, stateOf, stateBytes, pairBytes, zer
 -- bus_plan
 
 unfoldable pub planReply : List ℕ → List ℕ → ℤ
-planReply request out = reply (answer (outcome request) out .refusal) (answer (outcome request) out .length)
+planReply request out = reply (outcomeAnswer (outcome request) out .refusal) (outcomeAnswer (outcome request) out .length)
 
 unfoldable pub planBuffer : List ℕ → List ℕ → List ℕ
-planBuffer request out = buffer (outcome request) out
+planBuffer request out = outcomeBuffer (outcome request) out
 
 -- bus_check
 

@@ -13,7 +13,7 @@ use Rattle.model.specs.Good.{Good}
 use Rattle.model.specs.Within.{within-good}
 use Rattle.model.specs.Described.{planTable}
 use Rattle.model.specs.PlanTable.{plan-table-length}
-use Rattle.planned_table.specs.Outcome.{Outcome, handed, answer, buffer}
+use Rattle.planned_table.specs.Outcome.{Outcome, handed, outcomeAnswer, outcomeBuffer}
 use Rattle.checker.specs.Checked as checker
 use Rattle.checker.specs.Verdicts.{plan-read}
 use Rattle.rewriter.specs.Rewritten.{rewritten}
@@ -23,25 +23,25 @@ use Rattle.bus.specs.ReplyLaws.{reply-refused, reply-value}
 use Rattle.bus.specs.CallLaws.{written-few}
 
 unfoldable pub rewriteReply : List ℕ → List ℕ → List ℕ → ℤ
-rewriteReply request table out = reply (answer (rewritten request table) out .refusal) (answer (rewritten request table) out .length)
+rewriteReply request table out = reply (outcomeAnswer (rewritten request table) out .refusal) (outcomeAnswer (rewritten request table) out .length)
 
 unfoldable pub rewriteBuffer : List ℕ → List ℕ → List ℕ → List ℕ
-rewriteBuffer request table out = buffer (rewritten request table) out
+rewriteBuffer request table out = outcomeBuffer (rewritten request table) out
 
-pub rewrite-few : (request bytes out : List ℕ) → answer (rewritten request bytes) out .length < 65536
-unfolding answer
+pub rewrite-few : (request bytes out : List ℕ) → outcomeAnswer (rewritten request bytes) out .length < 65536
+unfolding outcomeAnswer
 rewrite-few request bytes out = go (checker.checked (cycleOf request) (decode bytes)) refl
   where
-    plan-few : (f : ℕ) (frames : List ℕ) (o : Outcome) (x : Instance) → Good x → IsPlan x f frames → o ≡ handed (planTable x f frames) → answer o out .length < 65536
+    plan-few : (f : ℕ) (frames : List ℕ) (o : Outcome) (x : Instance) → Good x → IsPlan x f frames → o ≡ handed (planTable x f frames) → outcomeAnswer o out .length < 65536
     plan-few f frames o x good plan e = rw e (written-few (planTable x f frames) out (omega (arith, plan-table-length x good f frames plan, plan .few-rows, good .few-jobs)))
 
-    go : (v : checker.Verdict) → checker.checked (cycleOf request) (decode bytes) ≡ v → answer (rewritten request bytes) out .length < 65536
-    go (checker.plan f frames) is =
+    go : (v : checker.Verdict) → checker.checked (cycleOf request) (decode bytes) ≡ v → outcomeAnswer (rewritten request bytes) out .length < 65536
+    go (checker.accepted f frames) is =
         let p = plan-read request bytes f frames is in
         plan-few f frames (rewritten request bytes) (p .x) (within-good request (p .x) (p .within)) (p .is-plan) (rewritten-plan request bytes f frames is)
     go (checker.refusal n) is = rw (rewritten-refused request bytes n is) (omega arith)
 
-module _ (request bytes out : List ℕ) (w : Written) (e : w ≡ answer (rewritten request bytes) out) where
+module _ (request bytes out : List ℕ) (w : Written) (e : w ≡ outcomeAnswer (rewritten request bytes) out) where
   pub rewrite-refused : (w .refusal ≡ 0 → ⊥) → refused (w .refusal) ≡ rewriteReply request bytes out
   unfolding rewriteReply
   rewrite-refused h = reply-refused (w .refusal) (w .length) h ∙ ap (λ (x : Written). reply (x .refusal) (x .length)) e

@@ -35,7 +35,7 @@ use Rattle.rules.specs.EveryLaws.{every-says, says-every, some-says, says-some}
 use Rattle.rules.specs.Rules.{rulesRight}
 use Rattle.rules.specs.RulesSay.{rules-say, say-rules}
 use Rattle.checker.specs.Checked.{placeIn, frameFor, isFound, frameAtPlace, frameIn, framesIn, isPlaced, isThere}
-use Rattle.checker.specs.Checked.{entryKept, rowsKept, entriesRight, Verdict, plan, refusal, planOf, judged, checked}
+use Rattle.checker.specs.Checked.{entryKept, rowsKept, entriesRight, Verdict, accepted, refusal, planOf, judged, checked}
 use Rattle.checker.specs.PlaceLaws.{entryWith, RightIn, place-right, rows-say, say-rows}
 use Rattle.checker.specs.declared.walk.Place.{Place}
 use Rattle.checker.specs.declared.walk.Place.the-variants.{At, Nowhere}
@@ -81,7 +81,7 @@ module _ (jobs : List Job) (frames : List ℕ) (y : ℕ) where
   says-there task number k v e = rw (says-job task number (getD jobs y noJob) v, eq-eqb (frameAt frames y) k e)
 
 -- what was picked, if it is a plan
-picked : (b : Bool) (v : Verdict) (number f : ℕ) (frames : List ℕ) → pick b v (refusal number) ≡ plan f frames → (b ≡ true) × (v ≡ plan f frames)
+picked : (b : Bool) (v : Verdict) (number f : ℕ) (frames : List ℕ) → pick b v (refusal number) ≡ accepted f frames → (b ≡ true) × (v ≡ accepted f frames)
 picked true v number f frames e = (refl, e)
 picked false v number f frames e = absurd (never (cc))
 
@@ -167,14 +167,14 @@ module _ (x : Instance) (t : Table) (form : WellFormed t) (same-h : t .h ≡ x .
         order = k .order;
       }
 
-judged-plan : (x : Instance) (t : Table) → WellFormed t → (f : ℕ) (frames : List ℕ) → judged x t ≡ plan f frames
+judged-plan : (x : Instance) (t : Table) → WellFormed t → (f : ℕ) (frames : List ℕ) → judged x t ≡ accepted f frames
     → IsPlan x f frames × Describes x f frames t
 unfolding judged planOf
 judged-plan x t form f frames e =
     let one = picked (both (eqb (t .h) (x .h)) (plausible x (t .f))) (planOf x (t .f) (t .rows)) 13 f frames e in
     let tests = both-true (eqb (t .h) (x .h)) (plausible x (t .f)) (one .0) in
     let read = framesIn (t .rows) (x .jobs) in
-    let two = picked (both (entriesRight x (t .rows) read) (rulesRight x (length (t .rows)) (t .f) read)) (plan (t .f) read) 14 f frames (one .1) in
+    let two = picked (both (entriesRight x (t .rows) read) (rulesRight x (length (t .rows)) (t .f) read)) (accepted (t .f) read) 14 f frames (one .1) in
     let rules = both-true (entriesRight x (t .rows) read) (rulesRight x (length (t .rows)) (t .f) read) (two .0) in
     let same-f : t .f ≡ f = cc in
     let same-frames : read ≡ frames = cc in
@@ -247,7 +247,7 @@ module _ (x : Instance) (g : Good x) (t : Table) (frames : List ℕ) (v : IsPlan
     order = v .order;
   })
 
-  plan-judged : judged x t ≡ plan (t .f) frames
+  plan-judged : judged x t ≡ accepted (t .f) frames
   unfolding judged planOf
   plan-judged =
       rw (eq-eqb (t .h) (x .h) (d .same-h), plausible-needed x g (t .f) frames v, frames-read, entries-right, rules-right)
@@ -257,16 +257,16 @@ module _ (request bytes : List ℕ) (x : Instance) (t : Table) (within : Within 
   unfolding checked
   checked-is = rw (within, read)
 
-  plan-accepted : (f : ℕ) (frames : List ℕ) → IsPlan x f frames → Describes x f frames t → judged x t ≡ plan f frames
+  plan-accepted : (f : ℕ) (frames : List ℕ) → IsPlan x f frames → Describes x f frames t → judged x t ≡ accepted f frames
   plan-accepted f frames v d =
       let e : t .f ≡ f = d .same-f in
       plan-judged x (within-good request x within) t frames
       (subst (λ k. IsPlan x k frames) (sym e) v) (subst (λ k. Describes x k frames t) (sym e) d)
-      ∙ ap (λ k. plan k frames) e
+      ∙ ap (λ k. accepted k frames) e
 
   -- THE THEOREM: the check accepts a table, and reads this plan from it, exactly if it is a plan and the table describes it.
   pub accepts-described : (f : ℕ) (frames : List ℕ)
-      → (checked (cycleOf request) (decode bytes) ≡ plan f frames) ↔ (IsPlan x f frames × Describes x f frames t)
+      → (checked (cycleOf request) (decode bytes) ≡ accepted f frames) ↔ (IsPlan x f frames × Describes x f frames t)
   accepts-described f frames = (
     λ e. judged-plan x t (decode-wellformed bytes t read) f frames (sym checked-is ∙ e),
     λ p. checked-is ∙ plan-accepted f frames (p .0) (p .1),

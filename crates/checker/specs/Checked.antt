@@ -82,14 +82,14 @@ entriesRight x rows frames = both (every (length (x .jobs)) (isPlaced rows (x .j
 
 -- the frame length and the frames read, by job in planning order; or the number of the refusal
 pub data Verdict : Type 0 where
-  plan : ℕ → List ℕ → Verdict
+  accepted : ℕ → List ℕ → Verdict
   refusal : ℕ → Verdict
 
 -- 14: "not a plan"
 unfoldable pub planOf : Instance → ℕ → List (List Entry) → Verdict
 planOf x f rows =
     let frames = framesIn rows (x .jobs) in
-    pick (both (entriesRight x rows frames) (rulesRight x (length rows) f frames)) (plan f frames) (refusal 14)
+    pick (both (entriesRight x rows frames) (rulesRight x (length rows) f frames)) (accepted f frames) (refusal 14)
 
 -- 13: "H not the request's, or f not plausible"
 unfoldable pub judged : Instance → Table → Verdict
@@ -103,7 +103,7 @@ checked (cycle tasks pairs h jobs) (table t) = judged (instance tasks pairs h jo
 
 -- 0 where it accepts
 abbrev pub numberOf : Verdict → ℕ
-numberOf (plan f frames) = 0
+numberOf (accepted f frames) = 0
 numberOf (refusal number) = number
 
 -- what `check` answers to the bytes of a request and of a table

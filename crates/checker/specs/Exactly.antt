@@ -22,7 +22,7 @@ use Rattle.model.specs.Plausible.{plausible}
 use Rattle.model.specs.Within.{Within, within-or-not}
 use Rattle.model.specs.Described.{Accepted}
 use Rattle.rules.specs.Rules.{rulesRight}
-use Rattle.checker.specs.Checked.{entriesRight, framesIn, plan, refusal, numberOf, planOf, judged, checked, checkNumber}
+use Rattle.checker.specs.Checked.{entriesRight, framesIn, accepted, refusal, numberOf, planOf, judged, checked, checkNumber}
 use Rattle.checker.specs.Accepts.{accepts-described}
 
 -- the table has the request's H, and an f that is plausible
@@ -74,7 +74,7 @@ module _ (request bytes : List ℕ) where
       accepted-number a =
           ap numberOf (accepts-described request bytes x t within read (a .f) (a .frames) .1 (a .is-plan, a .describes))
 
-      read-accepted : (f : ℕ) (frames : List ℕ) → judged x t ≡ plan f frames → Accepted x t
+      read-accepted : (f : ℕ) (frames : List ℕ) → judged x t ≡ accepted f frames → Accepted x t
       unfolding checked
       read-accepted f frames e =
           let right = accepts-described request bytes x t within read f frames .0 (rw (within, read) e) in
@@ -98,7 +98,7 @@ module _ (request bytes : List ℕ) where
           frames : List ℕ
           frames = framesIn (t .rows) (x .jobs)
 
-          go : (b : Bool) → right x t ≡ b → numberOf (pick b (plan (t .f) frames) (refusal 14)) ≡ 14
+          go : (b : Bool) → right x t ≡ b → numberOf (pick b (accepted (t .f) frames) (refusal 14)) ≡ 14
           go true e = absurd (none (read-accepted (t .f) frames (rw (sizes-fit fit, e))))
           go false e = refl
 
@@ -134,8 +134,8 @@ module _ (request bytes : List ℕ) where
         rules : (x : Instance) → Within request x → (t : Table) → decode bytes ≡ table t → SizesFit x t → (b : Bool)
             → right x t ≡ b → Goal
         rules x within t e fit true q =
-            let accepted = read-accepted x within t e (t .f) (framesIn (t .rows) (x .jobs)) (rw (sizes-fit x within t e fit, q)) in
-            planned (x, within, t, decodes-says bytes t are e, accepted)
+            let read = read-accepted x within t e (t .f) (framesIn (t .rows) (x .jobs)) (rw (sizes-fit x within t e fit, q)) in
+            planned (x, within, t, decodes-says bytes t are e, read)
         rules x within t e fit false q =
             let number : checkNumber request bytes ≡ 14 = judged-is x within t e ∙ rw (sizes-fit x within t e fit, q) in
             unplanned (x, within, t, decodes-says bytes t are e, (fit, λ a. omega (arith, accepted-number x within t e a)))

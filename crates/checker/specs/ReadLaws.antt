@@ -23,7 +23,7 @@ use Rattle.model.specs.Answers.{instanceOf}
 use Rattle.model.specs.Within.{Taken}
 use Rattle.rules.specs.Every.{every}
 use Rattle.rules.specs.Rules.{rulesRight}
-use Rattle.checker.specs.Checked.{framesIn, frameIn, isPlaced, rowsKept, entriesRight, Verdict, plan, refusal, planOf, judged, checked, numberOf}
+use Rattle.checker.specs.Checked.{framesIn, frameIn, isPlaced, rowsKept, entriesRight, Verdict, accepted, refusal, planOf, judged, checked, numberOf}
 use Rattle.checker.specs.Answers.{framesAnswer, readAnswer, rowsOf}
 use Rattle.checker.specs.WalkLaws.{rows-count, rows-in-bytes}
 use Rattle.checker.specs.declared.walk.Frames.{Frames}
@@ -59,7 +59,7 @@ module _ (c : Cycle) (few-jobs : c .count ≤ 128) where
     entriesKept frames = rowsKept jobsOf frames (c .count) height 0 (rowsOf s height)
 
     plan-is : planOf (instanceOf c) f (rowsOf s height)
-        ≡ pick (both (both allPlaced (entriesKept framesOf)) (rulesRight (instanceOf c) height f framesOf)) (plan f framesOf) (refusal 14)
+        ≡ pick (both (both allPlaced (entriesKept framesOf)) (rulesRight (instanceOf c) height f framesOf)) (accepted f framesOf) (refusal 14)
     unfolding planOf entriesRight instanceOf
     plan-is = rw (count-is, jobs-count, rows-count s height 7)
 
@@ -95,7 +95,7 @@ module _ (c : Cycle) (few-jobs : c .count ≤ 128) where
             → rulesRight (instanceOf c) height f (firsts (min (c .count) 128) 0 (read .frames)) ≡ true
             → record { refusal = 0; f = f; frames = read .frames } ≡ readAnswer (planOf (instanceOf c) f (rowsOf s height))
         plan-read e q =
-            let p : planOf (instanceOf c) f (rowsOf s height) ≡ plan f framesOf
+            let p : planOf (instanceOf c) f (rowsOf s height) ≡ accepted f framesOf
             = plan-is ∙ rw (← all-is, all, rw frames-first at e, rw (count-is, frames-first) at q) in
             rw (p, places-are)
 
@@ -164,5 +164,5 @@ module _ (request bytes : List ℕ) (c : Cycle) (z : Sizes) (w : Taken request c
     rows-judged k e = judged-is ∙ rw (same-h, rw (o .f-is) at e, o .f-is, o .height-is, rows-in-bytes bytes (o .t) k (o .is))
 
 pub answer-number : (v : Verdict) → readAnswer v .refusal ≡ numberOf v
-answer-number (plan f frames) = refl
+answer-number (accepted f frames) = refl
 answer-number (refusal number) = refl

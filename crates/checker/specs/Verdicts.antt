@@ -17,7 +17,7 @@ use Rattle.model.specs.Answers.{instance}
 use Rattle.model.specs.Within.{Within}
 use Rattle.model.specs.Described.{Describes}
 use Rattle.rules.specs.Rules.{rulesRight}
-use Rattle.checker.specs.Checked.{framesIn, entriesRight, plan, refusal, planOf, judged, checked}
+use Rattle.checker.specs.Checked.{framesIn, entriesRight, accepted, refusal, planOf, judged, checked}
 use Rattle.checker.specs.Accepts.{accepts-described}
 
 pub record PlanRead (request bytes : List ℕ) (f : ℕ) (frames : List ℕ) : Type 0 where
@@ -29,11 +29,11 @@ pub record PlanRead (request bytes : List ℕ) (f : ℕ) (frames : List ℕ) : T
   pub describes : Describes x f frames t
 
 module _ (request bytes : List ℕ) where
-  pub plan-read : (f : ℕ) (frames : List ℕ) → checked (cycleOf request) (decode bytes) ≡ plan f frames → PlanRead request bytes f frames
+  pub plan-read : (f : ℕ) (frames : List ℕ) → checked (cycleOf request) (decode bytes) ≡ accepted f frames → PlanRead request bytes f frames
   unfolding checked
   plan-read f frames e = go (cycleOf request) refl (decode bytes) refl e
     where
-      go : (c : Cycle) → cycleOf request ≡ c → (d : Decoded) → decode bytes ≡ d → checked c d ≡ plan f frames → PlanRead request bytes f frames
+      go : (c : Cycle) → cycleOf request ≡ c → (d : Decoded) → decode bytes ≡ d → checked c d ≡ accepted f frames → PlanRead request bytes f frames
       go (cycle tasks pairs h jobs) within (table t) read q =
           let x = instance tasks pairs h jobs in
           let right = accepts-described request bytes x t within read f frames .0 e in
@@ -46,7 +46,7 @@ module _ (request bytes : List ℕ) where
   unfolding checked judged planOf
   refusal-number n e = go (cycleOf request) refl (decode bytes) e
     where
-      rules : (f : ℕ) (frames : List ℕ) (a b : Bool) → pick a (pick b (plan f frames) (refusal 14)) (refusal 13) ≡ refusal n → 0 < n
+      rules : (f : ℕ) (frames : List ℕ) (a b : Bool) → pick a (pick b (accepted f frames) (refusal 14)) (refusal 13) ≡ refusal n → 0 < n
       rules f frames true true q = absurd (never (cc))
       rules f frames true false q = let same : 14 ≡ n = cc in omega arith
       rules f frames false b q = let same : 13 ≡ n = cc in omega arith

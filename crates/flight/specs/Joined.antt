@@ -16,7 +16,7 @@ use Rattle.table.specs.declared.Written.{Written}
 use Rattle.model.specs.Plan.{Instance}
 use Rattle.model.specs.Within.{Within, within-or-not}
 use Rattle.model.specs.Described.{Accepted}
-use Rattle.planned_table.specs.Outcome.{answer, buffer}
+use Rattle.planned_table.specs.Outcome.{outcomeAnswer, outcomeBuffer}
 use Rattle.planner.specs.Outcome.{outcome}
 use Rattle.planner.specs.Handed.{HandedOut, table-handed, not-planned}
 use Rattle.checker.specs.Checked.{checkNumber}
@@ -49,7 +49,7 @@ checked-flight requestBytes tableBytes are e =
 -- The bytes that the planner hands out fly: those that it left in the buffer, as many as its answer says.
 module _ (requestBytes out : List ℕ) where
   abbrev pub handedBytes : List ℕ
-  handedBytes = take (answer (outcome requestBytes) out .length) (buffer (outcome requestBytes) out)
+  handedBytes = take (outcomeAnswer (outcome requestBytes) out .length) (outcomeBuffer (outcome requestBytes) out)
 
   module _ (x : Instance) (h : HandedOut x requestBytes out) where
     bytes-are : encode (h .t) ≡ handedBytes
@@ -57,7 +57,7 @@ module _ (requestBytes out : List ℕ) where
         rw (h .bytes-are, h .length-is, ← h .encoded-length)
         (sym (take-append-seam (encode (h .t)) (drop (length (encode (h .t))) out)))
 
-  pub planned-flight : answer (outcome requestBytes) out .refusal ≡ 0 → Flies requestBytes handedBytes
+  pub planned-flight : outcomeAnswer (outcome requestBytes) out .refusal ≡ 0 → Flies requestBytes handedBytes
   planned-flight e =
       ⊎-elim (λ w. there (w .0) (w .1) (table-handed requestBytes out (w .0) (w .1) .chosen-one e)) (λ w. refused (w .0) (w .1)) (within-or-not requestBytes)
     where

@@ -8,7 +8,7 @@ use Rattle.request.specs.Request.{reading}
 use Rattle.table.specs.Table.{Decoded, table, decode}
 use Rattle.table.specs.Inverse.{decode-encode}
 use Rattle.table.specs.declared.Written.{Written}
-use Rattle.planned_table.specs.Outcome.{handed, refusal, answer, buffer}
+use Rattle.planned_table.specs.Outcome.{handed, refusal, outcomeAnswer, outcomeBuffer}
 use Rattle.planner.specs.Outcome.{outcome}
 use Rattle.planner.specs.TableLaws.{outcome-good, ReadBack, read-back, not-handed}
 use Rattle.listing.specs.Listing.{refusedLine, tableLines, tasksIn, printed, listing}
@@ -21,18 +21,18 @@ blank = replicate 519 0
 room : 519 ≤ length blank
 room = simp length-replicate (omega arith)
 
-module _ (request : List ℕ) (w : Written) (e : w ≡ answer (outcome request) blank) where
+module _ (request : List ℕ) (w : Written) (e : w ≡ outcomeAnswer (outcome request) blank) where
   pub refused-is : (w .refusal ≡ 0 → ⊥) → outcome request ≡ refusal (w .refusal)
   refused-is ne = not-handed blank room w (outcome request) (outcome-good request) e ne
 
   module _ (z : w .refusal ≡ 0) where
-    back : ReadBack (outcome request) (w .length) (buffer (outcome request) blank)
+    back : ReadBack (outcome request) (w .length) (outcomeBuffer (outcome request) blank)
     back = read-back blank room w (outcome request) (outcome-good request) e z
 
     pub written-few : w .length ≤ 519
     written-few = back .few
 
-    pub table-is : (bytes : List ℕ) → bytes ≡ buffer (outcome request) blank → outcome request ≡ handed (tableIn (decode (take (w .length) bytes)))
+    pub table-is : (bytes : List ℕ) → bytes ≡ outcomeBuffer (outcome request) blank → outcome request ≡ handed (tableIn (decode (take (w .length) bytes)))
     table-is bytes b =
         let read : decode (take (w .length) bytes) ≡ table (back .t) = rw (b, back .front) (decode-encode (back .t) (back .good .form)) in
         back .is ∙ ap (λ (d : Decoded). handed (tableIn d)) (sym read)

@@ -23,7 +23,7 @@ use Rattle.model.specs.Chosen.{Choice, chosen, noPlan, noPlausible, choose, IsC
 use Rattle.model.specs.ChosenLaws.{choose-right, chosen-exactly}
 use Rattle.model.specs.Described.{Describes, planTable}
 use Rattle.model.specs.PlanTable.{plan-table-describes, plan-table-length}
-use Rattle.planned_table.specs.Outcome.{refusal, answer, buffer}
+use Rattle.planned_table.specs.Outcome.{refusal, outcomeAnswer, outcomeBuffer}
 use Rattle.planner.specs.Outcome.{outcome, inCycle, byChoice}
 use Rattle.planner.specs.TableLaws.{handed-answer, handed-buffer}
 
@@ -54,31 +54,31 @@ pub record HandedOut (x : Instance) (request out : List ℕ) : Type 0 where
   -- the table in the buffer describes it
   pub t : Table
   pub describes : Describes x f frames t
-  pub bytes-are : buffer (outcome request) out ≡ encode t ++ drop (7 + rowsAt x f + 2 * length (x .jobs)) out
+  pub bytes-are : outcomeBuffer (outcome request) out ≡ encode t ++ drop (7 + rowsAt x f + 2 * length (x .jobs)) out
   -- "The answer holds the length."
-  pub length-is : answer (outcome request) out .length ≡ 7 + rowsAt x f + 2 * length (x .jobs)
+  pub length-is : outcomeAnswer (outcome request) out .length ≡ 7 + rowsAt x f + 2 * length (x .jobs)
   pub encoded-length : length (encode t) ≡ 7 + rowsAt x f + 2 * length (x .jobs)
 
 -- x is what is planned for a request within the limits
 pub record Handed (x : Instance) (request out : List ℕ) : Type 0 where
   -- no number is given exactly when some plan exists
-  pub exactly : LongEnough x out → (answer (outcome request) out .refusal ≡ 0) ↔ SomePlan x
+  pub exactly : LongEnough x out → (outcomeAnswer (outcome request) out .refusal ≡ 0) ↔ SomePlan x
   -- and then it is the chosen one
-  pub chosen-one : answer (outcome request) out .refusal ≡ 0 → HandedOut x request out
+  pub chosen-one : outcomeAnswer (outcome request) out .refusal ≡ 0 → HandedOut x request out
   -- "no plausible f"
-  pub nine : (answer (outcome request) out .refusal ≡ 9) ↔ NonePlausible x
+  pub nine : (outcomeAnswer (outcome request) out .refusal ≡ 9) ↔ NonePlausible x
   -- "some plausible f, no plan"
-  pub ten : (answer (outcome request) out .refusal ≡ 10) ↔ (SomePlausible x × NoPlan x)
+  pub ten : (outcomeAnswer (outcome request) out .refusal ≡ 10) ↔ (SomePlausible x × NoPlan x)
   -- "buffer shorter than the table"
-  pub eleven : (answer (outcome request) out .refusal ≡ 11) ↔ TooShort x out
+  pub eleven : (outcomeAnswer (outcome request) out .refusal ≡ 11) ↔ TooShort x out
   -- "A refusal returns its number, length 0 .. and the buffer untouched."
-  pub untouched : (answer (outcome request) out .refusal ≡ 0 → ⊥)
-      → (answer (outcome request) out .length ≡ 0) × (buffer (outcome request) out ≡ out)
+  pub untouched : (outcomeAnswer (outcome request) out .refusal ≡ 0 → ⊥)
+      → (outcomeAnswer (outcome request) out .length ≡ 0) × (outcomeBuffer (outcome request) out ≡ out)
 
 -- a request that is not within the limits is refused with its own number
 pub not-planned : (request out : List ℕ) (number : ℕ) → cycleOf request ≡ noCycle number
-    → (answer (outcome request) out ≡ record { refusal = number; length = 0 }) × (buffer (outcome request) out ≡ out)
-unfolding outcome answer buffer
+    → (outcomeAnswer (outcome request) out ≡ record { refusal = number; length = 0 }) × (outcomeBuffer (outcome request) out ≡ out)
+unfolding outcome outcomeAnswer outcomeBuffer
 not-planned request out number e = rw e (refl, refl)
 
 module _ (request out : List ℕ) (x : Instance) (within : Within request x) where
@@ -117,13 +117,13 @@ module _ (request out : List ℕ) (x : Instance) (within : Within request x) whe
       room : length bytes ≤ length out
       room = omega (arith, size-is)
 
-      written-is : answer (outcome request) out ≡ record { refusal = 0; length = length bytes }
+      written-is : outcomeAnswer (outcome request) out ≡ record { refusal = 0; length = length bytes }
       written-is = rw (outcome-is (chosen f frames) q) (handed-answer (planTable x f frames) out room)
 
-      buffer-is : buffer (outcome request) out ≡ bytes ++ drop (length bytes) out
+      buffer-is : outcomeBuffer (outcome request) out ≡ bytes ++ drop (length bytes) out
       buffer-is = rw (outcome-is (chosen f frames) q) (handed-buffer (planTable x f frames) out room)
 
-      number-is : answer (outcome request) out .refusal ≡ 0
+      number-is : outcomeAnswer (outcome request) out .refusal ≡ 0
       number-is = ap (λ (w : Written). w .refusal) written-is
 
       handed-out : HandedOut x request out
@@ -153,15 +153,15 @@ module _ (request out : List ℕ) (x : Instance) (within : Within request x) whe
       no-room : length out < length bytes
       no-room = omega (arith, size-is)
 
-      short-is : answer (outcome request) out ≡ record { refusal = 11; length = 0 }
-      unfolding answer table.written table.tooShort
+      short-is : outcomeAnswer (outcome request) out ≡ record { refusal = 11; length = 0 }
+      unfolding outcomeAnswer table.written table.tooShort
       short-is = rw (outcome-is (chosen f frames) q, lt-ltb (length out) (length bytes) no-room)
 
-      buffer-kept : buffer (outcome request) out ≡ out
-      unfolding buffer table.buffer table.tooShort
+      buffer-kept : outcomeBuffer (outcome request) out ≡ out
+      unfolding outcomeBuffer table.buffer table.tooShort
       buffer-kept = rw (outcome-is (chosen f frames) q, lt-ltb (length out) (length bytes) no-room)
 
-      eleven-is : answer (outcome request) out .refusal ≡ 11
+      eleven-is : outcomeAnswer (outcome request) out .refusal ≡ 11
       eleven-is = ap (λ (w : Written). w .refusal) short-is
 
       without-room : Handed x request out
@@ -176,15 +176,15 @@ module _ (request out : List ℕ) (x : Instance) (within : Within request x) whe
 
   -- 9 and 10
   module _ (number : ℕ) (is : outcome request ≡ refusal number) (none : NoPlan x) where
-    refused-is : answer (outcome request) out ≡ record { refusal = number; length = 0 }
-    unfolding answer
+    refused-is : outcomeAnswer (outcome request) out ≡ record { refusal = number; length = 0 }
+    unfolding outcomeAnswer
     refused-is = rw is
 
-    kept : buffer (outcome request) out ≡ out
-    unfolding buffer
+    kept : outcomeBuffer (outcome request) out ≡ out
+    unfolding outcomeBuffer
     kept = rw is
 
-    given : answer (outcome request) out .refusal ≡ number
+    given : outcomeAnswer (outcome request) out .refusal ≡ number
     given = ap (λ (w : Written). w .refusal) refused-is
 
     without-plan : (number ≡ 9) ↔ NonePlausible x → (number ≡ 10) ↔ (SomePlausible x × NoPlan x) → 0 < number → number < 11

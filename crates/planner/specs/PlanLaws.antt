@@ -14,19 +14,19 @@ use Rattle.model.specs.Chosen.{Choice, chosen, noPlan, noPlausible, choose, Rig
 use Rattle.model.specs.ChosenLaws.{choose-right}
 use Rattle.planned_table.specs.Written.{planWritten, planBuffer}
 use Rattle.planned_table.specs.WriteLaws.{plan-written}
-use Rattle.planned_table.specs.Outcome.{refusal, answer, buffer}
+use Rattle.planned_table.specs.Outcome.{refusal, outcomeAnswer, outcomeBuffer}
 use Rattle.planner.specs.Outcome.{byChoice, inCycle, outcome}
 use Rattle.planner.specs.Choices.{Planned, choiceAnswer}
 use Rattle.planner.specs.declared.choose.ChosenPlan.{ChosenPlan}
 
 -- what is answered, and left in the buffer, is the outcome's
 abbrev pub Hands : List ℕ → List ℕ → Written → List ℕ → Type 0
-Hands s out w out′ = (w ≡ answer (outcome s) out) × (out′ ≡ buffer (outcome s) out)
+Hands s out w out′ = (w ≡ outcomeAnswer (outcome s) out) × (out′ ≡ outcomeBuffer (outcome s) out)
 
 -- a refusal's answer, from its parts
 refusal-handed : (s : List ℕ) (number : ℕ) → outcome s ≡ refusal number → (w : Written) → (w .refusal ≡ number) × (w .length ≡ 0)
     → (out : List ℕ) → Hands s out w out
-unfolding answer buffer
+unfolding outcomeAnswer outcomeBuffer
 refusal-handed s number e w parts out = rw e (λ i. record { refusal = parts .0 i; length = parts .1 i }, refl)
 
 -- the request is refused
@@ -61,12 +61,12 @@ module _ (s : List ℕ) (d : c.Cycle) (t : Taken s d) where
     -- the chosen plan is written
     pub plan-chosen : p .refusal ≡ 0 → (out : List ℕ)
         → Hands s out (planWritten (cycleOf s) (p .f) (p .frames) out) (planBuffer (cycleOf s) (p .f) (p .frames) out)
-    unfolding choiceAnswer answer buffer RightChoice
+    unfolding choiceAnswer outcomeAnswer outcomeBuffer RightChoice
     plan-chosen z out = rw outcome-is (go (choose x) p-is (choose-right x (t .good)))
       where
         go : (o : Choice) → p ≡ choiceAnswer o → RightChoice x o
-            → (planWritten (cycleOf s) (p .f) (p .frames) out ≡ answer (byChoice x o) out)
-            × (planBuffer (cycleOf s) (p .f) (p .frames) out ≡ buffer (byChoice x o) out)
+            → (planWritten (cycleOf s) (p .f) (p .frames) out ≡ outcomeAnswer (byChoice x o) out)
+            × (planBuffer (cycleOf s) (p .f) (p .frames) out ≡ outcomeBuffer (byChoice x o) out)
         go (chosen f frames) q r = rw q (plan-written s x (t .within) f frames out (r .is-plan .all))
         go noPlan q r = absurd (omega (arith, ap (λ (y : ChosenPlan). y .refusal) q))
         go noPlausible q r = absurd (omega (arith, ap (λ (y : ChosenPlan). y .refusal) q))

@@ -25,7 +25,7 @@ use Rattle.model.specs.Chosen.{Choice, chosen, noPlan, noPlausible, choose, Rig
 use Rattle.model.specs.ChosenLaws.{choose-right}
 use Rattle.model.specs.PlanTable.{plan-entries, plan-table-describes, plan-table-length}
 use Rattle.model.specs.Within.{Within}
-use Rattle.planned_table.specs.Outcome.{Outcome, handed, refusal, answer, buffer}
+use Rattle.planned_table.specs.Outcome.{Outcome, handed, refusal, outcomeAnswer, outcomeBuffer}
 use Rattle.planner.specs.Outcome.{byChoice, inCycle, outcome}
 
 pub record GoodTable (t : Table) : Type 0 where
@@ -62,12 +62,12 @@ outcome-good request = by-cycle (cycleOf request) refl
 
 -- a table that fits is written, with the old bytes behind it
 module _ (t : Table) (out : List ℕ) (fits : length (encode t) ≤ length out) where
-  pub handed-answer : answer (handed t) out ≡ record { refusal = 0; length = length (encode t) }
-  unfolding answer table.written table.tooShort
+  pub handed-answer : outcomeAnswer (handed t) out ≡ record { refusal = 0; length = length (encode t) }
+  unfolding outcomeAnswer table.written table.tooShort
   handed-answer = rw (le-ltb (length out) (length (encode t)) fits)
 
-  pub handed-buffer : buffer (handed t) out ≡ encode t ++ drop (length (encode t)) out
-  unfolding buffer table.buffer table.tooShort
+  pub handed-buffer : outcomeBuffer (handed t) out ≡ encode t ++ drop (length (encode t)) out
+  unfolding outcomeBuffer table.buffer table.tooShort
   handed-buffer = rw (le-ltb (length out) (length (encode t)) fits)
 
 -- the table that was handed out stands in the first bytes of the buffer
@@ -79,8 +79,8 @@ pub record ReadBack (o : Outcome) (size : ℕ) (bytes : List ℕ) : Type 0 where
   pub front : take size bytes ≡ encode t
 
 module _ (out : List ℕ) (room : 519 ≤ length out) (w : Written) where
-  pub read-back : (o : Outcome) → GoodOutcome o → w ≡ answer o out → w .refusal ≡ 0 → ReadBack o (w .length) (buffer o out)
-  unfolding answer
+  pub read-back : (o : Outcome) → GoodOutcome o → w ≡ outcomeAnswer o out → w .refusal ≡ 0 → ReadBack o (w .length) (outcomeBuffer o out)
+  unfolding outcomeAnswer
   read-back (handed t) good e z =
       let fits : length (encode t) ≤ length out = omega (arith, good .short) in
       let size : w .length ≡ length (encode t) = ap (λ (x : Written). x .length) (e ∙ handed-answer t out fits) in
@@ -93,14 +93,14 @@ module _ (out : List ℕ) (room : 519 ≤ length out) (w : Written) where
       }
   read-back (refusal number) good e z = absurd (omega (arith, ap (λ (x : Written). x .refusal) e, good .0))
 
-  pub not-handed : (o : Outcome) → GoodOutcome o → w ≡ answer o out → (w .refusal ≡ 0 → ⊥) → o ≡ refusal (w .refusal)
-  unfolding answer
+  pub not-handed : (o : Outcome) → GoodOutcome o → w ≡ outcomeAnswer o out → (w .refusal ≡ 0 → ⊥) → o ≡ refusal (w .refusal)
+  unfolding outcomeAnswer
   not-handed (handed t) good e ne = absurd (ne (ap (λ (x : Written). x .refusal) (e ∙ handed-answer t out (omega (arith, good .short)))))
   not-handed (refusal number) good e ne = ap refusal (sym (ap (λ (x : Written). x .refusal) e))
 
 -- the answer's length is within the buffer
-pub answer-within : (o : Outcome) (out : List ℕ) → answer o out .length ≤ length out
-unfolding answer table.written table.tooShort
+pub answer-within : (o : Outcome) (out : List ℕ) → outcomeAnswer o out .length ≤ length out
+unfolding outcomeAnswer table.written table.tooShort
 answer-within (refusal number) out = omega arith
 answer-within (handed t) out = go (ltb (length out) (length (encode t))) refl
   where

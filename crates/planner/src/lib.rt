@@ -4,7 +4,7 @@ mod place;
 
 use table::Written;
 ghost use mathlib.Core.Path.{_≡_};
-ghost use Rattle.planned_table.specs.Outcome.{answer, buffer};
+ghost use Rattle.planned_table.specs.Outcome.{outcomeAnswer, outcomeBuffer};
 ghost use Rattle.planner.specs.Outcome.{outcome};
 
 fn refused(number: u8) -> Written
@@ -18,7 +18,8 @@ fn refused(number: u8) -> Written
 
 // The table of the request's chosen plan, written into `out`; the answer holds its length. A refusal, from 1 to 11, leaves `out` as it was.
 pub fn plan(request: &[u8], out: &mut [u8]) -> Written
-    ensures { λ r. ⌜ (r ≡ answer (outcome (now (request .entry))) (now (out .entry))) × (now (out .exit) ≡ buffer (outcome (now (request .entry))) (now (out .entry))) ⌝ }
+    ensures { λ r. ⌜ (r ≡ outcomeAnswer (outcome (now (request .entry))) (now (out .entry)))
+        × (now (out .exit) ≡ outcomeBuffer (outcome (now (request .entry))) (now (out .entry))) ⌝ }
 {
     let cycle = cycle::read(request);
     if cycle.refusal != 0 {

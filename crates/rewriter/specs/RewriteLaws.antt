@@ -10,7 +10,7 @@ use Rattle.table.specs.declared.Written.{Written}
 use Rattle.model.specs.Described.{planTable}
 use Rattle.planned_table.specs.Written.{planWritten, planBuffer}
 use Rattle.planned_table.specs.WriteLaws.{plan-written}
-use Rattle.planned_table.specs.Outcome.{handed, refusal, answer, buffer}
+use Rattle.planned_table.specs.Outcome.{handed, refusal, outcomeAnswer, outcomeBuffer}
 use Rattle.checker.specs.Checked as checker
 use Rattle.checker.specs.Answers.{readAnswer}
 use Rattle.checker.specs.Verdicts.{plan-read, refusal-number}
@@ -19,7 +19,7 @@ use Rattle.rewriter.specs.Rewritten.{planRead, rewritten}
 
 module _ (request bytes : List ℕ) where
   -- the table of the plan that was read
-  pub rewritten-plan : (f : ℕ) (frames : List ℕ) (is : checker.checked (cycleOf request) (decode bytes) ≡ checker.plan f frames)
+  pub rewritten-plan : (f : ℕ) (frames : List ℕ) (is : checker.checked (cycleOf request) (decode bytes) ≡ checker.accepted f frames)
       → rewritten request bytes ≡ handed (planTable (plan-read request bytes f frames is .x) f frames)
   unfolding rewritten
   rewritten-plan f frames is = ap₂ planRead (plan-read request bytes f frames is .within) is
@@ -30,29 +30,29 @@ module _ (request bytes : List ℕ) where
 
   -- what is answered, and left in the buffer, is the outcome's
   abbrev pub Hands : List ℕ → Written → List ℕ → Type 0
-  Hands out w out′ = (w ≡ answer (rewritten request bytes) out) × (out′ ≡ buffer (rewritten request bytes) out)
+  Hands out w out′ = (w ≡ outcomeAnswer (rewritten request bytes) out) × (out′ ≡ outcomeBuffer (rewritten request bytes) out)
 
   module _ (r : Read) (e : r ≡ readAnswer (checker.checked (cycleOf request) (decode bytes))) (out : List ℕ) where
     -- the check refuses
     pub not-read : (r .refusal ≡ 0 → ⊥) → Hands out (record { refusal = r .refusal; length = 0 }) out
-    unfolding answer buffer
+    unfolding outcomeAnswer outcomeBuffer
     not-read ne = go (checker.checked (cycleOf request) (decode bytes)) refl e
       where
         go : (v : checker.Verdict) → checker.checked (cycleOf request) (decode bytes) ≡ v → r ≡ readAnswer v
             → Hands out (record { refusal = r .refusal; length = 0 }) out
-        go (checker.plan f frames) is q = absurd (ne (ap (λ (y : Read). y .refusal) q))
+        go (checker.accepted f frames) is q = absurd (ne (ap (λ (y : Read). y .refusal) q))
         go (checker.refusal n) is q =
             let number : r .refusal ≡ n = ap (λ (y : Read). y .refusal) q in
             rw (rewritten-refused n is) (λ i. record { refusal = number i; length = 0 }, refl)
 
     -- the plan is written
     pub was-read : r .refusal ≡ 0 → Hands out (planWritten (cycleOf request) (r .f) (r .frames) out) (planBuffer (cycleOf request) (r .f) (r .frames) out)
-    unfolding answer buffer
+    unfolding outcomeAnswer outcomeBuffer
     was-read z = go (checker.checked (cycleOf request) (decode bytes)) refl e
       where
         go : (v : checker.Verdict) → checker.checked (cycleOf request) (decode bytes) ≡ v → r ≡ readAnswer v
             → Hands out (planWritten (cycleOf request) (r .f) (r .frames) out) (planBuffer (cycleOf request) (r .f) (r .frames) out)
-        go (checker.plan f frames) is q =
+        go (checker.accepted f frames) is q =
             let p = plan-read request bytes f frames is in
             rw (q, rewritten-plan f frames is) (plan-written request (p .x) (p .within) f frames out (p .is-plan .all))
         go (checker.refusal n) is q = absurd (omega (arith, refusal-number request bytes n is, ap (λ (y : Read). y .refusal) q))

@@ -14,7 +14,7 @@ use Rattle.model.specs.Plan.{Instance, IsPlan}
 use Rattle.model.specs.Within.{Within, within-good}
 use Rattle.model.specs.Described.{Describes, Accepted}
 use Rattle.model.specs.PlanTable.{describes-is}
-use Rattle.planned_table.specs.Outcome.{handed, answer, buffer}
+use Rattle.planned_table.specs.Outcome.{handed, outcomeAnswer, outcomeBuffer}
 use Rattle.checker.specs.Checked as checker
 use Rattle.checker.specs.Accepts.{accepts-described}
 use Rattle.rewriter.specs.Rewritten.{planRead, rewritten}
@@ -27,20 +27,20 @@ module _ (request : List ℕ) (x : Instance) (within : Within request x) where
     rewritten-is =
         let f = accepted .f in
         let frames = accepted .frames in
-        let verdict : checker.checked (cycleOf request) (decode bytes) ≡ checker.plan f frames =
+        let verdict : checker.checked (cycleOf request) (decode bytes) ≡ checker.accepted f frames =
         accepts-described request bytes x t within read f frames .1 (accepted .is-plan, accepted .describes) in
         ap₂ planRead within verdict ∙ ap handed (sym (describes-is x (within-good request x within) f frames (accepted .is-plan) t (accepted .describes)))
 
     -- An accepted table is written again with the same bytes, and the bytes behind it keep their content.
     pub same-bytes : Bytes bytes → (out : List ℕ) → length bytes ≤ length out
-        → (answer (rewritten request bytes) out ≡ record { refusal = 0; length = length bytes })
-        × (buffer (rewritten request bytes) out ≡ bytes ++ drop (length bytes) out)
-    unfolding answer buffer layout.written layout.buffer layout.tooShort
+        → (outcomeAnswer (rewritten request bytes) out ≡ record { refusal = 0; length = length bytes })
+        × (outcomeBuffer (rewritten request bytes) out ≡ bytes ++ drop (length bytes) out)
+    unfolding outcomeAnswer outcomeBuffer layout.written layout.buffer layout.tooShort
     same-bytes are out room =
         let own : encode t ≡ bytes = encode-decode bytes t are read in
         rw (rewritten-is, own, le-ltb (length out) (length bytes) room) (refl, refl)
 
   -- The bytes of a table that describes a plan, of any f and not only the chosen one, read back as that plan.
   pub reads-back : (f : ℕ) (frames : List ℕ) → IsPlan x f frames → (t : Table) → Describes x f frames t
-      → checker.checked (cycleOf request) (decode (encode t)) ≡ checker.plan f frames
+      → checker.checked (cycleOf request) (decode (encode t)) ≡ checker.accepted f frames
   reads-back f frames v t d = accepts-described request (encode t) x t within (decode-encode t (d .form)) f frames .1 (v, d)

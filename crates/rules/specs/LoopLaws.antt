@@ -8,7 +8,7 @@ use native.Mathlib.Numerals.{add-one}
 use native.Mathlib.Omega.{arith}
 use lib.ListN.{length, getD, set, replicate, length-set, length-replicate}
 use lib.Seq.{getD-set-same, getD-set-other}
-use lib.Dec.{leb, eqb}
+use lib.Dec.{eqb}
 use borrow.Author.Tests.{lt-leb, le-leb, eqb-true, eqb-false}
 use Rattle.cursor.specs.Choice.{pick}
 use Rattle.cursor.specs.Padded.{getD-blanks, firsts, firsts-length, getD-firsts, take-firsts}
@@ -18,7 +18,6 @@ use Rattle.cycle.specs.Planned.{noJob}
 use Rattle.cycle.specs.declared.Job.{Job}
 use Rattle.search.specs.Placing.{problem, row-sum, Loaded}
 use Rattle.search.specs.PlacingLaws.{row-sum-nil, row-sum-take, put-loads}
-use Rattle.model.specs.Named.{isJob}
 use Rattle.rules.specs.Every.{every}
 use Rattle.rules.specs.EveryLaws.{says-every, every-fails}
 use Rattle.rules.specs.Rules.{inWindow, windowKept, otherKept, oneKept, pairKept, capacityKept}
@@ -27,11 +26,6 @@ module _ (jobs : List Job) (frames : List ℕ) (n y : ℕ) (h : y < n) where
   pub window-at : (f : ℕ) → windowKept (firsts n noJob jobs) (firsts n 0 frames) f y ≡ inWindow f (getD jobs y noJob) (getD frames y 0)
   unfolding windowKept
   window-at f = rw (getD-firsts noJob jobs n y h, getD-firsts 0 frames n y h)
-
-  pub other-at : (b number k : ℕ) → otherKept (firsts n noJob jobs) (firsts n 0 frames) b number k y
-      ≡ pick (isJob b number (getD jobs y noJob)) (leb k (getD frames y 0)) true
-  unfolding otherKept
-  other-at b number k = rw (getD-firsts noJob jobs n y h, getD-firsts 0 frames n y h)
 
   pub one-at : (a b : ℕ) → oneKept (firsts n noJob jobs) (firsts n 0 frames) n a b y
       ≡ pick (eqb (getD jobs y noJob .task) a) (every n (otherKept (firsts n noJob jobs) (firsts n 0 frames) b (getD jobs y noJob .number) (getD frames y 0))) true

@@ -52,7 +52,7 @@ capacityRight x rows f frames = every rows (capacityKept rows (costs x) frames f
 unfoldable pub orderRight : Instance → List ℕ → Bool
 orderRight x frames = every (length (x .pairs)) (pairKept (x .jobs) frames (length (x .jobs)) (x .pairs))
 
--- "at most 256 rows"
+-- "F = H/f at most 256 rows", and there is one
 unfoldable pub heightRight : ℕ → Bool
 heightRight rows = both (leb 1 rows) (leb rows 256)
 

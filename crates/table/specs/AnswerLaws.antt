@@ -14,7 +14,7 @@ use Rattle.table.specs.Table.{Entry, Table, Decoded, table, malformed, d
 use Rattle.table.specs.WellFormed.{RisingFrom}
 use Rattle.table.specs.EntryLaws.{task-of-byte, job-of-byte, entry-back}
 use Rattle.table.specs.RisingLaws.{rising-first}
-use Rattle.table.specs.Answers.{sizesRefused, sizesOf, taskByte, rowGiven, rowRefused, rowAnswer, entriesAt, entriesSaid}
+use Rattle.table.specs.Answers.{sizesOf, taskByte, rowGiven, rowRefused, rowAnswer, entriesAt, entriesSaid}
 use Rattle.table.specs.declared.Sizes.{Sizes}
 use Rattle.table.specs.declared.Row.{Row}
 
@@ -97,10 +97,6 @@ given-refusal es = refl
 pub sizes-table : (t : Table) → sizesOf (table t) ≡ record { refusal = 0; f = t .f; h = t .h; height = length (t .rows) }
 unfolding sizesOf
 sizes-table t = refl
-
-pub sizes-malformed : sizesOf malformed ≡ sizesRefused
-unfolding sizesOf
-sizes-malformed = refl
 
 pub height-is : (bytes : List ℕ) (t : Table) (z : Sizes) → decode bytes ≡ table t → z ≡ sizesOf (decode bytes) → z .height ≡ length (t .rows)
 height-is bytes t z is e = rw (e, is, sizes-table t)

@@ -29,7 +29,7 @@ use Rattle.table.specs.Table.{
   heightFits,
   tabled,
   rowsFrom,
-  ended,
+  wholeTable,
   decode,
   entriesBytes,
   rowBytes,
@@ -227,10 +227,10 @@ table-taken z bytes t rest q =
           rw count (front-then one (rows (one .bytes-behind)));
     })
 
-ended-table : (p : Parsed Table) (t : Table) → ended p ≡ table t → p ≡ got t []
-ended-table (got x []) t q = let same : x ≡ t = cc in rw same
-ended-table (got x (b ∷ rest)) t q = absurd (never (cc))
-ended-table (refused n) t q = absurd (never (cc))
+whole-table : (p : Parsed Table) (t : Table) → wholeTable p ≡ table t → p ≡ got t []
+whole-table (got x []) t q = let same : x ≡ t = cc in rw same
+whole-table (got x (b ∷ rest)) t q = absurd (never (cc))
+whole-table (refused n) t q = absurd (never (cc))
 
 record Taken (bytes : List ℕ) (t : Table) : Type 0 where
   form : WellFormed t
@@ -256,7 +256,7 @@ sections-taken bytes z tail t sizes rows =
 decode-taken : (bytes : List ℕ) (t : Table) → decode bytes ≡ table t → Taken bytes t
 unfolding decode
 decode-taken bytes t q =
-    let b = then-got (sizesFrom bytes) rowsFrom t [] (ended-table (then (sizesFrom bytes) rowsFrom) t q) in
+    let b = then-got (sizesFrom bytes) rowsFrom t [] (whole-table (then (sizesFrom bytes) rowsFrom) t q) in
     sections-taken bytes (b .value) (b .tail) t
     (sizes-taken bytes (b .value) (b .tail) (b .first))
     (table-taken (b .value) (b .tail) t [] (b .second))

@@ -13,7 +13,7 @@ use Rattle.cursor.specs.Choice.{pick}
 use Rattle.cursor.specs.Parsed.{got, refused, records}
 use Rattle.cursor.specs.Fields.{byteOf, wordOf}
 use Rattle.table.specs.Left.{less-one, none-left}
-use Rattle.table.specs.Table.{Entry, Lengths, table, malformed, entryOf, entriesFrom, rowFrom, heightFits, rowsFrom, ended}
+use Rattle.table.specs.Table.{Entry, Lengths, table, malformed, entryOf, entriesFrom, rowFrom, heightFits, rowsFrom, wholeTable}
 use Rattle.table.specs.EntryLaws.{task-of-byte}
 use Rattle.table.specs.Answers.{rowGiven, rowRefused, sizesOf, rowAnswer, tableRead}
 use Rattle.table.specs.AnswerLaws.{EntriesPlaced, none-placed, one-placed, placed-given}
@@ -111,16 +111,16 @@ module _ (s : List ℕ) (z : Lengths) (height start k : ℕ) where
     rows-passed tasks jobs n next h here e = rows-more tasks jobs n next kept h here (so .kept-is ∙ row-other z k (so .done) (here .entries) i (so .count) e)
 
     module _ (word : wordOf 12 s ≡ got height (drop start s)) (fits : heightFits height z ≡ true) where
-      pub rows-refused : i < height → rowFrom (drop at s) ≡ refused 12 → ended (rowsFrom z s) ≡ malformed
+      pub rows-refused : i < height → rowFrom (drop at s) ≡ refused 12 → wholeTable (rowsFrom z s) ≡ malformed
       unfolding rowsFrom records
       rows-refused h e = rw (word, fits) (rw (← so .left, less-one height i h, e))
 
-      pub rows-tail : height ≤ i → at < length s → ended (rowsFrom z s) ≡ malformed
+      pub rows-tail : height ≤ i → at < length s → wholeTable (rowsFrom z s) ≡ malformed
       unfolding rowsFrom records
       rows-tail h l = rw (word, fits) (rw (← so .left, none-left height i h, drop-cons s at 0 l))
 
       pub rows-end : height ≤ i → i ≤ height → length s ≤ at
-          → tableRead k (ended (rowsFrom z s)) ≡ record { sizes = record { refusal = 0; f = z .f; h = z .h; height = height }; row = kept }
+          → tableRead k (wholeTable (rowsFrom z s)) ≡ record { sizes = record { refusal = 0; f = z .f; h = z .h; height = height }; row = kept }
       unfolding rowsFrom records tableRead sizesOf
       rows-end h l e =
           let all : length (so .done) ≡ height = omega (arith, so .count) in

@@ -75,13 +75,13 @@ rowsFrom z bytes =
     then (wordOf 12 bytes) (λ height rest. pick (heightFits height z) (tabled z (records rowFrom height [] rest)) (refused 12))
 
 -- "no bytes follow"
-abbrev pub ended : Parsed Table → Decoded
-ended (got t []) = table t
-ended (got t (b ∷ rest)) = malformed
-ended (refused n) = malformed
+abbrev pub wholeTable : Parsed Table → Decoded
+wholeTable (got t []) = table t
+wholeTable (got t (b ∷ rest)) = malformed
+wholeTable (refused n) = malformed
 
 unfoldable pub decode : List ℕ → Decoded
-decode bytes = ended (then (sizesFrom bytes) rowsFrom)
+decode bytes = wholeTable (then (sizesFrom bytes) rowsFrom)
 
 unfoldable pub entriesBytes : List Entry → List ℕ
 entriesBytes [] = []

@@ -7,7 +7,7 @@ use cursor::Cursor;
 use cursor::WordRead;
 ghost use mathlib.Core.Path.{_≡_};
 ghost use lib.ListN.{replicate};
-ghost use Rattle.table.specs.Table.{decode, ended, rowsFrom, heightFits};
+ghost use Rattle.table.specs.Table.{decode, wholeTable, rowsFrom, heightFits};
 ghost use Rattle.table.specs.Answers.{sizesOf, rowAnswer, rowRefused, tableRead, tableRefused};
 ghost use Rattle.table.specs.Promises.{EntryAt, RowAt, SizesAt};
 
@@ -72,20 +72,19 @@ fn read_row(s: &[u8], first: Cursor, tasks: &mut [u8; 16], jobs: &mut [u8; 16]) 
     }
     let n = count as usize;
     let mut low: u8 = 0;
-    let mut at = start.at;
+    let mut here = start;
     let mut i: usize = 0;
     while i < n {
-        let here = Cursor { at };
         let EntryRead::EntryBytes(task, job, next) = read_entry(s, here, low) else {
             return RowRead::NoRow;
         };
         tasks[i] = task;
         jobs[i] = job;
         low = task + 1;
-        at = next.at;
+        here = next;
         i += 1;
     }
-    RowRead::RowEntries(n, Cursor { at })
+    RowRead::RowEntries(n, here)
 }
 
 fn read_sizes(s: &[u8]) -> SizesRead
@@ -141,7 +140,7 @@ fn no_table() -> TableRead
 
 // The section of the rows, from the front of s; the row k is kept.
 fn read_rows(s: &[u8], f: u16, h: u16, k: u16) -> TableRead
-    ensures { λ r. ⌜ r ≡ tableRead k (ended (rowsFrom (record { f = f; h = h }) (now (s .entry)))) ⌝ }
+    ensures { λ r. ⌜ r ≡ tableRead k (wholeTable (rowsFrom (record { f = f; h = h }) (now (s .entry)))) ⌝ }
 {
     let first = Cursor { at: 0 };
     let WordRead::Word(height, start) = first.word(s) else {
@@ -151,10 +150,9 @@ fn read_rows(s: &[u8], f: u16, h: u16, k: u16) -> TableRead
         return no_table();
     }
     let mut kept = refused_row(15);
-    let mut at = start.at;
+    let mut here = start;
     let mut i: u16 = 0;
     while i < height {
-        let here = Cursor { at };
         let mut tasks = [0u8; 16];
         let mut jobs = [0u8; 16];
         let RowRead::RowEntries(count, next) = read_row(s, here, &mut tasks, &mut jobs) else {
@@ -168,10 +166,10 @@ fn read_rows(s: &[u8], f: u16, h: u16, k: u16) -> TableRead
                 jobs,
             };
         }
-        at = next.at;
+        here = next;
         i += 1;
     }
-    if at < s.len() {
+    if here.at < s.len() {
         return no_table();
     }
     let sizes = Sizes {

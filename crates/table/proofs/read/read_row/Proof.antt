@@ -14,10 +14,10 @@ use Rattle.table.proofs.read.read_row.Statement.{statement}
 use Rattle.table.proofs.read.read_row.Tie as tie
 
 abbrev Inv-loop : tie.InvT-loop
-Inv-loop s tasks₀ jobs₀ count n low₀ at₀ i₀ tasks jobs low at i = (i ≤ n) × (n ≤ 16) × EntriesSoFar s n at₀ tasks jobs low at i
+Inv-loop s tasks₀ jobs₀ count n low₀ here₀ i₀ tasks jobs low here i = (i ≤ n) × (n ≤ 16) × EntriesSoFar s n (here₀ .at) tasks jobs low (here .at) i
 
 abbrev μ-loop : tie.MeasureT-loop
-μ-loop s tasks₀ jobs₀ count n low₀ at₀ i₀ tasks jobs low at i = n - i
+μ-loop s tasks₀ jobs₀ count n low₀ here₀ i₀ tasks jobs low here i = n - i
 
 byte-requires : tie.Need-byte-requires Inv-loop μ-loop
 byte-requires c κs = tt

@@ -17,10 +17,10 @@ use Rattle.table.proofs.read.read_rows.Statement.{statement}
 use Rattle.table.proofs.read.read_rows.Tie as tie
 
 abbrev Inv-loop : tie.InvT-loop
-Inv-loop s f h k height kept₀ at₀ i₀ kept at i = (i ≤ height) × RowsSoFar s (record { f = f; h = h }) height at₀ k kept at i
+Inv-loop s f h k height kept₀ here₀ i₀ kept here i = (i ≤ height) × RowsSoFar s (record { f = f; h = h }) height (here₀ .at) k kept (here .at) i
 
 abbrev μ-loop : tie.MeasureT-loop
-μ-loop s f h k height kept₀ at₀ i₀ kept at i = height - i
+μ-loop s f h k height kept₀ here₀ i₀ kept here i = height - i
 
 word-requires : tie.Need-word-requires Inv-loop μ-loop
 word-requires c κs = tt
@@ -105,16 +105,16 @@ no-table-requires-4 c κs = tt
 returns-4 : tie.Need-returns-4 Inv-loop μ-loop
 unfolding tableRead sizesOf rowAnswer
 returns-4 c =
-    let l = c .before .before .before in
+    let l = c .before .before .before .before in
     let e = l .before .before in
-    let end = c .before .before .loop-test .left in
+    let end = c .before .before .before .loop-test .left in
     c .no-table4 .ensures ∙ rw (rows-tail _ _ _ _ _ _ _ _ (l .loop .inv .1) (height-read e) (fits e) end (c .before .if3 .taken))
 
 returns-5 : tie.Need-returns-5 Inv-loop μ-loop
 returns-5 c =
-    let l = c .before .before in
+    let l = c .before .before .before in
     let e = l .before .before in
-    sym (rows-end _ _ _ _ _ _ _ _ (l .loop .inv .1) (height-read e) (fits e) (c .before .loop-test .left) (l .loop .inv .0) (c .if3 .left))
+    sym (rows-end _ _ _ _ _ _ _ _ (l .loop .inv .1) (height-read e) (fits e) (c .before .before .loop-test .left) (l .loop .inv .0) (c .if3 .left))
 
 pub read-rows-spec : {M : Type 1} → statement M
 read-rows-spec =
