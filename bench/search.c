@@ -9,6 +9,7 @@
  * not one by one, since the library counts none.
  */
 #include <stdbool.h>
+#include <stddef.h>
 #include <stdint.h>
 #include <string.h>
 
@@ -27,7 +28,7 @@ struct job {
 };
 
 static struct {
-    unsigned n, m, h, jobs;
+    unsigned n, m, g, h, jobs;
     struct task task[MOST_TASKS];
     struct pair pair[MOST_PAIRS];
     struct job job[MOST_JOBS];
@@ -53,8 +54,9 @@ static unsigned u16_at(const uint8_t *bytes)
     return bytes[0] + 256u * bytes[1];
 }
 
-static void read_request(const uint8_t *bytes)
+static void read_request(const uint8_t *bytes, size_t len)
 {
+    const uint8_t *end = bytes + len;
     cycle.n = *bytes++;
     for (unsigned i = 0; i < cycle.n; i++, bytes += 8) {
         struct task task = {u16_at(bytes), u16_at(bytes + 2), u16_at(bytes + 4), u16_at(bytes + 6)};
@@ -65,6 +67,13 @@ static void read_request(const uint8_t *bytes)
         struct pair pair = {bytes[0], bytes[1]};
         cycle.pair[u] = pair;
     }
+    cycle.g = bytes < end && *bytes == 1 ? bytes[1] : 0;
+}
+
+/* What a job of the task takes of its row: its transfer and the silent ticks behind it. */
+static unsigned slot(const struct task *task)
+{
+    return task->c + cycle.g;
 }
 
 static unsigned gcd(unsigned a, unsigned b)
@@ -105,7 +114,7 @@ static bool plausible(unsigned f)
 {
     for (unsigned i = 0; i < cycle.n; i++) {
         const struct task *task = &cycle.task[i];
-        if (f < task->c || 2 * f - gcd(f, task->t) > task->d)
+        if (f < slot(task) || 2 * f - gcd(f, task->t) > task->d)
             return false;
     }
     return true;
@@ -142,7 +151,7 @@ static void begin_length(unsigned f)
     for (unsigned y = 0; y < cycle.jobs; y++) {
         const struct job *job = &cycle.job[y];
         const struct task *task = &cycle.task[job->task];
-        search.cost[y] = task->c;
+        search.cost[y] = slot(task);
         search.first[y] = (job->release + f - 1) / f;
         search.end[y] = (job->release + task->d) / f;
         search.first_row[y] = search.first[y] % search.rows;
@@ -200,10 +209,11 @@ static bool place_job(unsigned i)
  * The chosen plan: its frame length and the frame of each job in planning order. Answers the number
  * of jobs; or -9 or -10, with `f` and `frames` as they were. `tries` gets the tries of all lengths.
  */
-int32_t search_plan(const uint8_t *request, uint16_t *f, uint16_t frames[MOST_JOBS], uint64_t *tries)
+int32_t search_plan(const uint8_t *request, size_t request_len, uint16_t *f, uint16_t frames[MOST_JOBS],
+                    uint64_t *tries)
 {
     bool some = false, found = false;
-    read_request(request);
+    read_request(request, request_len);
     make_cycle();
     make_links();
     search.tries = 0;

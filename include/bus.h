@@ -36,8 +36,9 @@ extern "C" {
  * Plans a request and writes the table of the chosen plan to the front of `out`. The bytes behind
  * the table are left as they are.
  *
- * Answers the table's length, or refuses with 1 to 11. A buffer of BUS_TABLE_BYTES is never too
- * short. The time depends on the request: the search may be long where plans are hard to find.
+ * Answers the table's length, or refuses with 1 to 5, 17, or 6 to 11. A buffer of BUS_TABLE_BYTES
+ * is never too short. The time depends on the request: the search may be long where plans are hard
+ * to find.
  */
 int32_t bus_plan(const uint8_t *request, size_t request_len, uint8_t *out, size_t out_len);
 
@@ -45,7 +46,7 @@ int32_t bus_plan(const uint8_t *request, size_t request_len, uint8_t *out, size_
  * Checks whether a table describes a plan of a request, of any frame length and not only of the
  * chosen one.
  *
- * Answers 0 where it does, or refuses with 1 to 8 or 12 to 14.
+ * Answers 0 where it does, or refuses with 1 to 5, 17, 6 to 8, or 12 to 14.
  */
 int32_t bus_check(const uint8_t *request, size_t request_len, const uint8_t *table, size_t table_len);
 
@@ -53,7 +54,7 @@ int32_t bus_check(const uint8_t *request, size_t request_len, const uint8_t *tab
  * Checks a table like bus_check, and writes the table of the plan that was read to the front of
  * `out`. The bytes behind it are left as they are.
  *
- * Answers the table's length, or refuses with 1 to 8, 12 to 14, or 11.
+ * Answers the table's length, or refuses with 1 to 5, 17, 6 to 8, 12 to 14, or 11.
  */
 int32_t bus_rewrite(const uint8_t *request, size_t request_len, const uint8_t *table, size_t table_len,
                     uint8_t *out, size_t out_len);
@@ -79,7 +80,8 @@ int32_t bus_fresh(uint8_t *state, size_t state_len);
 /*
  * The entries to serve in the next frame: those of the state's row, in their order, without the
  * carried ones in the first cycle. The state moves on by one row, and behind the last row to row 0
- * with the mark cleared.
+ * with the mark cleared. The first entry starts with its frame, each later one as many ticks after
+ * the one before ended as the request has silent ticks.
  *
  * `entries` gets 16 pairs of a task byte and a job byte (bits 0 to 6 the job, bit 7 carry), filled
  * from the first; unused pairs are 0. Bytes behind the first 32 are left as they are.
@@ -91,9 +93,10 @@ int32_t bus_next_frame(const uint8_t *table, size_t table_len, uint8_t *state, s
 
 /*
  * Reports the ticks that a task used. More than the request's C for the task is an overrun, and
- * the state's number of overruns rises by one, up to 65,535. The row and the mark stay.
+ * the state's number of overruns rises by one, up to 65,535. The row and the mark stay. Silent
+ * ticks are not used ticks.
  *
- * Answers 0, or refuses with 99, then 1 to 6, then 16.
+ * Answers 0, or refuses with 99, then 1 to 5, then 17, then 6, then 16.
  */
 int32_t bus_report(const uint8_t *request, size_t request_len, uint8_t task, uint32_t ticks,
                    uint8_t *state, size_t state_len);
@@ -106,7 +109,7 @@ int32_t bus_report(const uint8_t *request, size_t request_len, uint8_t task, uin
  *    3  a task breaks 1 <= C <= D <= T, P < T
  *    4  more than 16 pairs
  *    5  a pair breaks a < b < n, equal T
- *    6  bytes follow the request's last pair
+ *    6  bytes follow the request's last section
  *    7  the cycle is longer than 10,000 ticks
  *    8  more than 128 jobs
  *    9  no frame length is plausible
@@ -117,6 +120,7 @@ int32_t bus_report(const uint8_t *request, size_t request_len, uint8_t task, uin
  *   14  the table does not describe a plan
  *   15  the state's row is not below the table's number of rows
  *   16  the request has no such task
+ *   17  the request's third section has a count above 1, or more than 15 silent ticks
  *   99  a state or entries buffer is too short, or the state's mark is neither 0 nor 1
  */
 

@@ -104,6 +104,21 @@ static void damage(bytes *b)
 
 /* ---- requests ---- */
 
+/* A third section: mostly none, else a good one, or one that is cut, bad or followed by a byte. */
+static void put_silent_ticks(bytes *b)
+{
+    if (chance(50))
+        return;
+    if (chance(70)) {
+        put(b, 1);
+        put(b, chance(70) ? (unsigned)below(4) : (unsigned)below(18));
+    } else {
+        put(b, (unsigned)below(4));
+    }
+    if (chance(5))
+        put(b, (unsigned)draw());
+}
+
 static void make_request(bytes *b)
 {
     static const unsigned cycles[] = {12, 24, 60, 120, 128, 240, 256, 640, 1024, 8128, 10000};
@@ -136,16 +151,17 @@ static void make_request(bytes *b)
         put(b, second);
         b->at[count_at]++;
     }
+    put_silent_ticks(b);
 }
 
 /* ---- whether planning is short enough to be tried ---- */
 
 typedef struct {
-    unsigned task, number, release, cost, due;
+    unsigned task, number, release, slot, due;
 } job;
 
 typedef struct {
-    unsigned n, pairs, h, count, f, rows;
+    unsigned n, pairs, g, h, count, f, rows;
     unsigned c[16], t[16], d[16], p[16], first[16], second[16];
     job jobs[128];
     unsigned place[128];
@@ -171,6 +187,20 @@ static int by_release(const void *x, const void *y)
     return (int)a->task - (int)b->task;
 }
 
+/* 0 if the bytes from `at` on are no third section that ends the request. */
+static int read_silent_ticks(const bytes *b, size_t at, unsigned *g)
+{
+    *g = 0;
+    if (b->len == at)
+        return 1;
+    if (b->len == at + 1)
+        return b->at[at] == 0;
+    if (b->len != at + 2 || b->at[at] != 1)
+        return 0;
+    *g = b->at[at + 1];
+    return *g <= 15;
+}
+
 /* 0 if the request is refused before the search. */
 static int read_request(const bytes *b, search *s)
 {
@@ -181,7 +211,7 @@ static int read_request(const bytes *b, search *s)
     if (b->len <= pairs_at || b->at[pairs_at] > 16)
         return 0;
     s->pairs = b->at[pairs_at];
-    if (b->len != pairs_at + 1 + 2 * (size_t)s->pairs)
+    if (!read_silent_ticks(b, pairs_at + 1 + 2 * (size_t)s->pairs, &s->g))
         return 0;
     s->h = 1;
     for (unsigned i = 0; i < s->n; i++) {
@@ -206,7 +236,7 @@ static int read_request(const bytes *b, search *s)
             if (s->count == 128)
                 return 0;
             unsigned r = s->p[i] + j * s->t[i];
-            s->jobs[s->count++] = (job){i, j, r, s->c[i], r + s->d[i]};
+            s->jobs[s->count++] = (job){i, j, r, s->c[i] + s->g, r + s->d[i]};
         }
     }
     qsort(s->jobs, s->count, sizeof(job), by_release);
@@ -239,14 +269,14 @@ static int place_job(search *s, unsigned i)
         if (--s->tries < 0)
             return -1;
         unsigned row = k % s->rows;
-        if (s->load[row] + x->cost > s->f || !in_order(s, i, k))
+        if (s->load[row] + x->slot > s->f || !in_order(s, i, k))
             continue;
-        s->load[row] += x->cost;
+        s->load[row] += x->slot;
         s->place[i] = k;
         int found = place_job(s, i + 1);
         if (found)
             return found;
-        s->load[row] -= x->cost;
+        s->load[row] -= x->slot;
     }
     return 0;
 }
@@ -256,7 +286,7 @@ static int plausible(const search *s)
     if (s->h % s->f || s->h / s->f > 256)
         return 0;
     for (unsigned i = 0; i < s->n; i++)
-        if (s->f < s->c[i] || 2 * s->f - gcd(s->f, s->t[i]) > s->d[i])
+        if (s->f < s->c[i] + s->g || 2 * s->f - gcd(s->f, s->t[i]) > s->d[i])
             return 0;
     return 1;
 }

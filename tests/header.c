@@ -1,5 +1,5 @@
 /*
- * Every call of include/bus.h once, on P1. This file is compiled as C99 and as C++11, with every
+ * Every call of include/bus.h, on P1. This file is compiled as C99 and as C++11, with every
  * warning an error: the header must be good in both languages, and its calls must link from both.
  */
 #include "bus.h"
@@ -25,6 +25,8 @@ int main(void)
         0x03, 0x05, 0x00, 0x14, 0x00, 0x14, 0x00, 0x00, 0x00, 0x05, 0x00, 0x14, 0x00,
         0x14, 0x00, 0x00, 0x00, 0x0A, 0x00, 0x28, 0x00, 0x28, 0x00, 0x00, 0x00, 0x00,
     };
+    /* P1 with a third section of one silent tick, which has no plan, and one of 16, which is bad. */
+    uint8_t silent[sizeof request + 2], bad[sizeof request + 2];
     uint8_t table[BUS_TABLE_BYTES], again[BUS_TABLE_BYTES];
     uint8_t state[BUS_STATE_BYTES], entries[BUS_ENTRIES_BYTES];
     int32_t length = bus_plan(request, sizeof request, table, sizeof table);
@@ -40,5 +42,16 @@ int main(void)
     expect("bus_report", bus_report(request, sizeof request, 2, 11, state, sizeof state), 0);
     expect("bus_report", bus_report(request, sizeof request, 3, 11, state, sizeof state), -16);
     expect("bus_fresh", bus_fresh(state, sizeof state - 1), -BUS_BAD_BUFFER);
+    memcpy(silent, request, sizeof request);
+    silent[sizeof request] = 1;
+    silent[sizeof request + 1] = 1;
+    memcpy(bad, silent, sizeof bad);
+    bad[sizeof request + 1] = 16;
+    expect("bus_plan", bus_plan(silent, sizeof silent, again, sizeof again), -10);
+    expect("bus_check", bus_check(silent, sizeof silent, table, used), -14);
+    expect("bus_plan", bus_plan(bad, sizeof bad, again, sizeof again), -17);
+    expect("bus_check", bus_check(bad, sizeof bad, table, used), -17);
+    expect("bus_rewrite", bus_rewrite(bad, sizeof bad, table, used, again, used), -17);
+    expect("bus_report", bus_report(bad, sizeof bad, 2, 11, state, sizeof state), -17);
     return faults != 0;
 }

@@ -1,7 +1,7 @@
 //! Seeded requests and tables, valid and damaged.
 
 use crate::random::Random;
-use crate::reference::cycle::Cycle;
+use crate::reference::cycle::{self, Cycle};
 use crate::reference::model::{gcd, plausible_lengths};
 use crate::reference::read_cycle;
 use crate::reference::request::{self, Request, Task};
@@ -74,10 +74,20 @@ fn pairs(rng: &mut Random, tasks: &[Task]) -> Vec<(usize, usize)> {
     (0..count).map(|_| rng.pick(&possible)).collect()
 }
 
+/// g for frames of f ticks: often 0, mostly small against f.
+fn silent_ticks(rng: &mut Random, f: i64) -> i64 {
+    match rng.below(10) {
+        0..=4 => 0,
+        5..=8 => rng.between(1, (f / 4).clamp(1, 15)),
+        _ => rng.between(1, 15),
+    }
+}
+
 /// Tasks made for a frame length f that divides h, so that f is often plausible.
 fn framed(rng: &mut Random, h: i64) -> Request {
     let lengths: Vec<i64> = divisors(h).into_iter().filter(|f| h / f <= 256).collect();
     let f = rng.pick(&lengths);
+    let g = silent_ticks(rng, f);
     let palette = periods(rng, h, f);
     let most = if rng.chance(15) { 16 } else { 6 };
     let wanted = rng.between(1, most);
@@ -89,10 +99,10 @@ fn framed(rng: &mut Random, h: i64) -> Request {
     while (tasks.len() as i64) < wanted {
         let t = rng.pick(&palette);
         let left = (share * h / 100 - asked) * t / h;
-        let roof = f.min(t).min(left.max(1));
+        let roof = t.min(f - g).min(left - g);
         let c = rng.between(1, roof.max(1));
         jobs += h / t;
-        asked += c * (h / t);
+        asked += (c + g) * (h / t);
         if jobs > 128 && !tasks.is_empty() && !rng.chance(3) {
             break;
         }
@@ -101,7 +111,7 @@ fn framed(rng: &mut Random, h: i64) -> Request {
         tasks.push(Task { c, t, d, p });
     }
     let pairs = pairs(rng, &tasks);
-    Request { tasks, pairs }
+    Request { tasks, pairs, g }
 }
 
 /// Small tasks with no thought of a frame length; the cycle may be too long.
@@ -121,7 +131,8 @@ fn loose(rng: &mut Random) -> Request {
         tasks.push(Task { c, t, d, p });
     }
     let pairs = pairs(rng, &tasks);
-    Request { tasks, pairs }
+    let g = silent_ticks(rng, longest / 4);
+    Request { tasks, pairs, g }
 }
 
 fn plain_task(c: i64, t: i64, d: i64, p: i64) -> Task {
@@ -178,11 +189,34 @@ fn at_a_limit(rng: &mut Random) -> Request {
         _ => many_pairs(rng),
     };
     let pairs = pairs(rng, &tasks);
-    Request { tasks, pairs }
+    let g = if rng.chance(50) {
+        0
+    } else {
+        rng.between(1, 15)
+    };
+    Request { tasks, pairs, g }
 }
 
-/// A request that can be read; it may be refused by 7, 8, 9 or 10.
-pub fn valid_request(rng: &mut Random) -> Request {
+/// The bytes of a request. A g of 0 is written in each way that there is.
+fn written(rng: &mut Random, request: &Request) -> Vec<u8> {
+    let mut bytes = request::write(request);
+    if request.g == 0 {
+        match rng.below(6) {
+            0 => bytes.push(0),
+            1 => bytes.extend([1, 0]),
+            _ => {}
+        }
+    }
+    bytes
+}
+
+/// Bytes that can be read as a request; it may be refused by 7, 8, 9 or 10.
+pub fn valid_bytes(rng: &mut Random) -> Vec<u8> {
+    let request = valid_request(rng);
+    written(rng, &request)
+}
+
+fn valid_request(rng: &mut Random) -> Request {
     match rng.below(20) {
         0..=12 => {
             let h = rng.pick(&CYCLES);
@@ -199,7 +233,7 @@ pub fn valid_request(rng: &mut Random) -> Request {
 
 /// 10 to 16 short tasks of which a frame can hold one job each, so that rows get long. With
 /// phases, many jobs are carried.
-pub fn crowded_request(rng: &mut Random) -> Request {
+fn crowded_request(rng: &mut Random) -> Request {
     let count = if rng.chance(40) {
         16
     } else {
@@ -219,7 +253,14 @@ pub fn crowded_request(rng: &mut Random) -> Request {
         })
         .collect();
     let pairs = pairs(rng, &tasks);
-    Request { tasks, pairs }
+    let g = if rng.chance(70) { 0 } else { 1 };
+    Request { tasks, pairs, g }
+}
+
+/// The bytes of a request with many short tasks.
+pub fn crowded_bytes(rng: &mut Random) -> Vec<u8> {
+    let request = crowded_request(rng);
+    written(rng, &request)
 }
 
 /// Bytes of any content, now and then beginning like a request or a table.
@@ -241,6 +282,23 @@ fn put_number(bytes: &mut [u8], at: usize, number: i64) {
     }
 }
 
+/// A third section for a request that has none: good, bad, cut, or with a byte behind it.
+fn third_section(rng: &mut Random) -> Vec<u8> {
+    let good = rng.below(16) as u8;
+    let above = rng.pick(&[16, 17, 31, 128, 255]);
+    match rng.below(9) {
+        0 => vec![0],
+        1 => vec![1, good],
+        2 => vec![1],
+        3 => vec![rng.pick(&[2, 3, 16, 129, 255])],
+        4 => vec![2, good, good],
+        5 => vec![1, above],
+        6 => vec![1, above, good],
+        7 => vec![1, good, rng.byte()],
+        _ => vec![0, rng.byte()],
+    }
+}
+
 fn damage_once(rng: &mut Random, bytes: &mut Vec<u8>) {
     let length = bytes.len();
     if length == 0 {
@@ -258,7 +316,11 @@ fn damage_once(rng: &mut Random, bytes: &mut Vec<u8>) {
         }
         5 => {
             let more = 1 + rng.below(4);
-            let tail = rng.bytes(more);
+            let tail = if rng.chance(50) {
+                rng.bytes(more)
+            } else {
+                third_section(rng)
+            };
             bytes.extend(tail);
         }
         6 => bytes[at] = bytes[at].wrapping_add(rng.pick(&[1, 255])),
@@ -277,11 +339,12 @@ pub fn damage(rng: &mut Random, bytes: &mut Vec<u8>) {
     }
 }
 
-/// A request with one field, count or pair made wrong, and all else kept.
+/// A request with one field, count, pair or its third section made wrong, and all else kept.
 fn damage_a_field(rng: &mut Random, bytes: &mut Vec<u8>) {
     let n = usize::from(bytes[0]);
     let pair_count_at = 1 + 8 * n;
-    match rng.below(6) {
+    let pairs_end = pair_count_at + 1 + 2 * usize::from(bytes[pair_count_at]);
+    match rng.below(8) {
         0 => bytes[0] = rng.pick(&[0, 17, n as u8 + 1, n as u8 - 1]),
         1 => bytes[pair_count_at] = rng.pick(&[17, 255, bytes[pair_count_at] + 1]),
         2 | 3 => {
@@ -290,11 +353,20 @@ fn damage_a_field(rng: &mut Random, bytes: &mut Vec<u8>) {
             let number = rng.pick(&[0, old + 1, (old - 1).max(0), 2 * old, 65_535]);
             put_number(bytes, at, number);
         }
-        4 => bytes.push(rng.byte()),
-        _ => {
+        4 => {
+            if bytes.len() == pairs_end {
+                bytes.push(0);
+            }
+            bytes.push(rng.byte());
+        }
+        5 => {
             bytes[pair_count_at] = bytes[pair_count_at].wrapping_add(1);
             let pair = [rng.below(n + 1) as u8, rng.below(n + 1) as u8];
-            bytes.extend(pair);
+            bytes.splice(pairs_end..pairs_end, pair);
+        }
+        _ => {
+            bytes.truncate(pairs_end);
+            bytes.extend(third_section(rng));
         }
     }
 }
@@ -304,8 +376,8 @@ pub fn request_bytes(rng: &mut Random) -> Vec<u8> {
     if rng.chance(6) {
         return noise(rng);
     }
-    let mut bytes = request::write(&valid_request(rng));
-    if rng.chance(12) {
+    let mut bytes = valid_bytes(rng);
+    if rng.chance(16) {
         damage_a_field(rng, &mut bytes);
     } else if rng.chance(12) {
         damage(rng, &mut bytes);
@@ -432,8 +504,15 @@ pub fn disturb(rng: &mut Random, table: &mut Table) {
     }
 }
 
-/// A cycle's tables of the right form: the chosen one, another plan, a careless one, and each of
-/// these disturbed.
+/// The same tasks and pairs with a smaller g.
+fn with_less_silence(rng: &mut Random, cycle: &Cycle) -> Cycle {
+    let mut request = cycle.request.clone();
+    request.g = rng.pick(&[0, request.g - 1]);
+    cycle::of(request).expect("g is not in the limits")
+}
+
+/// A cycle's tables of the right form: the chosen one, another plan, one that leaves too little
+/// silence, a careless one, and each of these disturbed.
 fn tables_of_cycle(
     rng: &mut Random,
     cycle: &Cycle,
@@ -442,6 +521,10 @@ fn tables_of_cycle(
 ) -> Vec<Table> {
     let mut tables: Vec<Table> = chosen.cloned().into_iter().collect();
     tables.extend(some_plan(rng, cycle, tries));
+    if cycle.request.g > 0 {
+        let louder = with_less_silence(rng, cycle);
+        tables.extend(some_plan(rng, &louder, tries));
+    }
     tables.push(careless_table(rng, cycle));
     for place in 0..tables.len() {
         let mut disturbed = tables[place].clone();

@@ -20,6 +20,8 @@ struct Request {
     tasks: [Task; MOST_TASKS],
     pair_count: usize,
     pairs: [(u8, u8); MOST_PAIRS],
+    /// Silent ticks after every transfer.
+    g: u16,
 }
 
 impl Request {
@@ -29,6 +31,11 @@ impl Request {
 
     fn pairs(&self) -> &[(u8, u8)] {
         &self.pairs[..self.pair_count]
+    }
+
+    /// What a job of the task takes of its row.
+    fn slot(&self, task: &Task) -> u16 {
+        task.c + self.g
     }
 }
 
@@ -66,6 +73,20 @@ fn read_pair(bytes: &[u8], at: usize, tasks: &[Task]) -> Result<(u8, u8), i32> {
     }
 }
 
+/// g of the third section, and where that ends.
+fn read_silent_ticks(bytes: &[u8], at: usize) -> Result<(u16, usize), i32> {
+    match bytes.get(at) {
+        None => Ok((0, at)),
+        Some(0) => Ok((0, at + 1)),
+        Some(1) => match bytes.get(at + 1) {
+            None => Err(1),
+            Some(g) if *g > 15 => Err(17),
+            Some(g) => Ok((u16::from(*g), at + 2)),
+        },
+        Some(_) => Err(17),
+    }
+}
+
 fn read(bytes: &[u8]) -> Result<Request, i32> {
     let n = usize::from(*bytes.first().ok_or(1)?);
     if n == 0 || n > MOST_TASKS {
@@ -76,6 +97,7 @@ fn read(bytes: &[u8]) -> Result<Request, i32> {
         tasks: [Task::default(); MOST_TASKS],
         pair_count: 0,
         pairs: [(0, 0); MOST_PAIRS],
+        g: 0,
     };
     let mut at = 1;
     for i in 0..n {
@@ -91,6 +113,7 @@ fn read(bytes: &[u8]) -> Result<Request, i32> {
         request.pairs[i] = read_pair(bytes, at, &request.tasks[..n])?;
         at += 2;
     }
+    (request.g, at) = read_silent_ticks(bytes, at)?;
     if at < bytes.len() {
         return Err(6);
     }
@@ -173,9 +196,10 @@ fn plausible(cycle: &Cycle, f: u16) -> bool {
     if f == 0 || !cycle.h.is_multiple_of(f) || usize::from(cycle.h / f) > MOST_ROWS {
         return false;
     }
-    let f = u32::from(f);
-    cycle.request.tasks().iter().all(|task| {
-        f >= u32::from(task.c) && 2 * f - gcd(f, u32::from(task.t)) <= u32::from(task.d)
+    let request = &cycle.request;
+    request.tasks().iter().all(|task| {
+        let (t, d) = (u32::from(task.t), u32::from(task.d));
+        f >= request.slot(task) && 2 * u32::from(f) - gcd(u32::from(f), t) <= d
     })
 }
 
@@ -327,7 +351,7 @@ fn search<'a>(cycle: &Cycle, partners: &'a Partners, f: u16) -> Search<'a> {
     };
     for (i, job) in cycle.jobs().iter().enumerate() {
         let task = &cycle.request.tasks[usize::from(job.task)];
-        search.cost[i] = task.c;
+        search.cost[i] = cycle.request.slot(task);
         (search.first[i], search.last[i]) = window(task, job.release, f);
     }
     search
@@ -529,12 +553,13 @@ fn keeps_order(cycle: &Cycle, place: &[u16; MOST_JOBS]) -> bool {
 
 fn keeps_capacity(cycle: &Cycle, table: &Table) -> bool {
     (0..table.rows).all(|row| {
-        let busy: u32 = table
+        let load: u32 = table
             .row(row)
             .chunks_exact(2)
-            .map(|entry| u32::from(cycle.request.tasks[usize::from(entry[0])].c))
+            .map(|entry| &cycle.request.tasks[usize::from(entry[0])])
+            .map(|task| u32::from(cycle.request.slot(task)))
             .sum();
-        busy <= u32::from(table.f)
+        load <= u32::from(table.f)
     })
 }
 

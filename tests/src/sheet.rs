@@ -6,17 +6,34 @@ pub type Short = (i64, i64, i64, i64);
 
 /// The bytes of a request with these tasks and pairs.
 pub fn request(tasks: &[Short], pairs: &[(usize, usize)]) -> Vec<u8> {
+    silent_request(tasks, pairs, 0)
+}
+
+/// The bytes of a request with these tasks and pairs, and g silent ticks after every transfer.
+pub fn silent_request(tasks: &[Short], pairs: &[(usize, usize)], g: i64) -> Vec<u8> {
     write(&Request {
         tasks: tasks
             .iter()
             .map(|&(c, t, d, p)| Task { c, t, d, p })
             .collect(),
         pairs: pairs.to_vec(),
+        g,
     })
+}
+
+/// A request without a third section, with these bytes behind it.
+pub fn with_section(mut request: Vec<u8>, section: &[u8]) -> Vec<u8> {
+    request.extend(section);
+    request
 }
 
 pub fn p1() -> Vec<u8> {
     request(&[(5, 20, 20, 0), (5, 20, 20, 0), (10, 40, 40, 0)], &[])
+}
+
+/// P1 with one silent tick after every transfer.
+pub fn p1_silent() -> Vec<u8> {
+    with_section(p1(), &[1, 1])
 }
 
 pub fn p2() -> Vec<u8> {

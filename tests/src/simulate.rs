@@ -61,6 +61,8 @@ pub struct Flight<'a> {
     plain: PlainDispatcher,
     state: Vec<u8>,
     log: Log,
+    /// For each frame served, when the silent ticks of its last transfer are over.
+    silent_until: Vec<i64>,
 }
 
 impl<'a> Flight<'a> {
@@ -91,6 +93,7 @@ impl<'a> Flight<'a> {
             },
             state,
             log: Log::new(),
+            silent_until: Vec::new(),
         })
     }
 
@@ -140,7 +143,8 @@ impl<'a> Flight<'a> {
         self.log_frame(rng, m, &entries)
     }
 
-    /// Lets the served entries run one after the other from the start of frame m.
+    /// Lets the served entries run from the start of frame m, each later one g ticks after the one
+    /// before ended.
     fn log_frame(&mut self, rng: &mut Random, m: i64, served: &[u8]) -> Result<(), String> {
         let cycle_now = m / self.table.rows.len() as i64;
         let mut now = m * self.table.f;
@@ -155,8 +159,9 @@ impl<'a> Flight<'a> {
             let instance = (i64::from(entry[0]), i64::from(entry[1] % 128), q);
             let runs = self.log.entry(instance).or_default();
             runs.push((now, now + actual));
-            now += actual;
+            now += actual + self.cycle.request.g;
         }
+        self.silent_until.push(now);
         Ok(())
     }
 
@@ -210,7 +215,8 @@ impl<'a> Flight<'a> {
             self.judge_runs(instance, runs)?;
         }
         self.judge_due_jobs()?;
-        self.judge_pairs()
+        self.judge_pairs()?;
+        self.judge_silence()
     }
 
     fn job(&self, task: i64, number: i64) -> Option<&Job> {
@@ -268,6 +274,16 @@ impl<'a> Flight<'a> {
         }
         Ok(())
     }
+
+    /// The silent ticks of a frame's last transfer are over when the next frame starts.
+    fn judge_silence(&self) -> Result<(), String> {
+        for (m, until) in (0..).zip(&self.silent_until) {
+            if *until > (m + 1) * self.table.f {
+                return Err(format!("frame {m} is silent until {until}, too late"));
+            }
+        }
+        Ok(())
+    }
 }
 
 fn places(entries: &[Entry]) -> Vec<u8> {
@@ -288,9 +304,10 @@ pub struct Flights {
     pub frames: u64,
     pub with_carry: u64,
     pub with_pairs: u64,
+    pub with_silence: u64,
 }
 
-/// So many requests are drawn for each flight that is asked for, and no more. Seven requests give
+/// So many requests are drawn for each flight that is asked for, and no more. Nine requests give
 /// about five flights, so this is far more than are needed.
 const REQUESTS_FOR_A_FLIGHT: u64 = 20;
 
@@ -303,7 +320,7 @@ pub fn fly_many(bus: &dyn Bus, seed: u64, flights: u64) -> Result<Flights, Strin
         if done.flights >= flights {
             return Ok(done);
         }
-        let request = request::write(&generate::valid_request(&mut rng));
+        let request = generate::valid_bytes(&mut rng);
         if tries_within(&request, MOST_TRIES).is_none() {
             done.left_out += 1;
             continue;
@@ -351,5 +368,6 @@ fn fly_one(
     let carries = flight.table.rows.iter().flatten().any(|entry| entry.carry);
     done.with_carry += u64::from(carries);
     done.with_pairs += u64::from(!flight.cycle.request.pairs.is_empty());
+    done.with_silence += u64::from(flight.cycle.request.g > 0);
     Ok(())
 }

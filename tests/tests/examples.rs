@@ -5,7 +5,7 @@ mod common;
 
 use bus_tests::reference::model::plausible_lengths;
 use bus_tests::reference::{listing, planned, read_cycle};
-use bus_tests::sheet::{self, request, Short};
+use bus_tests::sheet::{self, request, silent_request, with_section, Short};
 use common::{checks_as, example, examples, plans_as, refused, table};
 
 fn lengths(request: &[u8]) -> Vec<i64> {
@@ -19,11 +19,42 @@ fn files_of_the_folder() {
         .into_iter()
         .filter(|name| name.ends_with(".req"))
         .collect();
-    assert!(requests.len() >= 14, "{requests:?}");
+    assert!(requests.len() >= 20, "{requests:?}");
     for name in requests {
         let printed = String::from_utf8(example(&name.replace(".req", ".txt"))).expect("text");
         assert_eq!(listing(&example(&name)), printed, "{name}");
     }
+}
+
+/// With a silent tick after each transfer P1's row of 20 ticks no longer fits into its frame, and a
+/// transfer of 4 not into P3's frames of 4.
+#[test]
+fn sheet_with_silent_ticks() {
+    assert_eq!(example("p1-g1.req"), sheet::p1_silent());
+    refused(&sheet::p1_silent(), 10);
+    let old = table(20, 40, "0.0 1.0 2.0 / 0.1 1.1");
+    checks_as(&sheet::p1_silent(), &old, -14);
+    assert_eq!(example("p1-g16.req"), with_section(sheet::p1(), &[1, 16]));
+    let no_silence = with_section(sheet::p3(), &[1, 0]);
+    assert_eq!(example("p3-g0.req"), no_silence);
+    assert_eq!(listing(&no_silence), listing(&sheet::p3()));
+    let one_tick = with_section(sheet::p3(), &[1, 1]);
+    assert_eq!(example("p3-g1.req"), one_tick);
+    refused(&one_tick, 9);
+}
+
+/// One list with and without silent ticks: they move a job to another row, and the busy ticks of
+/// the listing are those of the transfers alone.
+#[test]
+fn a_list_that_settles() {
+    let tasks = [(8, 40, 40, 0), (8, 40, 40, 0), (4, 20, 20, 0)];
+    let (quick, slow) = (request(&tasks, &[]), silent_request(&tasks, &[], 1));
+    assert_eq!(example("settle-g0.req"), quick);
+    assert_eq!(example("settle-g1.req"), slow);
+    plans_as(&quick, 20, 40, "0.0 1.0 2.0 / 2.1");
+    plans_as(&slow, 20, 40, "0.0 2.0 / 1.0 2.1");
+    let text = "frame 20 cycle 40 rows 2\n0 12 0.0 2.0\n1 12 1.0 2.1\n";
+    assert_eq!(listing(&slow), text);
 }
 
 /// 000, example 1: secondary periods 10 and 20; the document goes on with 20.

@@ -7,7 +7,7 @@ use bus_tests::bus::{ENTRIES_LEN, STATE_LEN};
 use bus_tests::call::{compare, Call};
 use bus_tests::reference::{planned, table::encode, tries_within};
 use bus_tests::rounds::MOST_TRIES;
-use bus_tests::sheet::{self, request, Short};
+use bus_tests::sheet::{self, request, silent_request, Short};
 use common::{subject, tell_left_out};
 
 fn same(call: &Call) -> i32 {
@@ -47,6 +47,17 @@ impl Counts {
         }
     }
 
+    /// Plans, and reports to a fresh state.
+    fn read_alike(&mut self, request: Vec<u8>) {
+        self.plans_alike(request.clone());
+        same(&Call::Report {
+            request,
+            task: 0,
+            ticks: 3,
+            state: fresh(),
+        });
+    }
+
     fn tell(&self, what: &str) {
         let compared = self.planned + self.refused;
         tell_left_out(what, compared, self.left_out, MOST_TRIES);
@@ -71,7 +82,9 @@ fn every_request_of_one_short_task() {
     let mut counts = Counts::default();
     for t in 1..=14 {
         for task in tasks_of_period(t) {
-            counts.plans_alike(request(&[task], &[]));
+            for g in 0..=3 {
+                counts.plans_alike(silent_request(&[task], &[], g));
+            }
         }
     }
     counts.tell("every request of one short task");
@@ -86,8 +99,10 @@ fn every_request_of_two_short_tasks() {
         for second in &tasks {
             let two = [*first, *second];
             counts.plans_alike(request(&two, &[]));
+            counts.plans_alike(silent_request(&two, &[], 1));
             if first.1 == second.1 {
                 counts.plans_alike(request(&two, &[(0, 1)]));
+                counts.plans_alike(silent_request(&two, &[(0, 1)], 1));
             }
         }
     }
@@ -109,18 +124,32 @@ fn every_byte(bytes: &[u8]) -> impl Iterator<Item = Vec<u8>> + '_ {
 #[test]
 fn every_byte_of_a_request() {
     let mut counts = Counts::default();
-    for bytes in [sheet::p3(), sheet::p6(), sheet::p7()] {
-        for changed in every_byte(&bytes) {
-            counts.plans_alike(changed.clone());
-            same(&Call::Report {
-                request: changed,
-                task: 0,
-                ticks: 3,
-                state: fresh(),
-            });
-        }
+    for bytes in [
+        sheet::p3(),
+        sheet::p6(),
+        sheet::p7(),
+        sheet::with_section(sheet::p7(), &[0]),
+        sheet::with_section(sheet::p7(), &[1, 1]),
+    ] {
+        every_byte(&bytes).for_each(|changed| counts.read_alike(changed));
     }
     counts.tell("every byte of a request");
+}
+
+/// Every byte behind the pairs, alone and before every other byte, and both before a third.
+#[test]
+fn every_third_section() {
+    let mut counts = Counts::default();
+    for count in 0..=255 {
+        counts.read_alike(sheet::with_section(sheet::p7(), &[count]));
+        for g in 0..=255 {
+            counts.read_alike(sheet::with_section(sheet::p7(), &[count, g]));
+            counts.read_alike(sheet::with_section(sheet::p7(), &[count, g, 0]));
+        }
+    }
+    counts.tell("every third section");
+    // Frames of 5 hold 2 + 3 ticks and no more; `00` and a g of 0 to 3 are planned.
+    assert_eq!(counts.planned, 5);
 }
 
 fn fresh() -> Vec<u8> {
@@ -131,7 +160,8 @@ fn fresh() -> Vec<u8> {
 
 #[test]
 fn every_byte_of_a_table() {
-    for request in [sheet::p1(), sheet::p3(), sheet::p6(), sheet::p7()] {
+    let silent = sheet::with_section(sheet::p7(), &[1, 3]);
+    for request in [sheet::p1(), sheet::p3(), sheet::p6(), sheet::p7(), silent] {
         let table = encode(&planned(&request).expect("it has a table"));
         for changed in every_byte(&table) {
             same(&Call::Check {

@@ -6,7 +6,6 @@ mod common;
 use bus_tests::generate;
 use bus_tests::plain;
 use bus_tests::random::Random;
-use bus_tests::reference::request;
 use bus_tests::rounds::MOST_TRIES;
 use common::{plan, subject, tell_left_out};
 
@@ -22,7 +21,7 @@ fn long_searches_end_alike() {
     let mut rng = Random::new(41);
     let (mut seen, mut planned, mut most, mut left_out) = (0, 0, 0, 0);
     while seen < REQUESTS {
-        let bytes = request::write(&generate::valid_request(&mut rng));
+        let bytes = generate::valid_bytes(&mut rng);
         let Some(tries) = plain::tries_within(&bytes, MOST) else {
             left_out += 1;
             continue;

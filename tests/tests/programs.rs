@@ -18,7 +18,7 @@ use bus_tests::programs::{command, fed, given};
 use bus_tests::random::Random;
 use bus_tests::reference::printed::{by_check_table, by_fly, by_plan, by_plan_table, Printed};
 use bus_tests::reference::table::encode;
-use bus_tests::reference::{planned, request, tries_within};
+use bus_tests::reference::{planned, tries_within};
 use bus_tests::rounds::MOST_TRIES;
 use bus_tests::sheet;
 use common::tell_left_out;
@@ -120,9 +120,10 @@ fn all_kinds() -> Vec<String> {
     .map(String::from)
     .to_vec();
     for program in ["plan", "plan_table", "fly"] {
-        kinds.extend((1..=10).map(|number| format!("{program}: refused {number}")));
+        let of_plan = (1..=10).chain([17]);
+        kinds.extend(of_plan.map(|number| format!("{program}: refused {number}")));
     }
-    let of_check = (1..=8).chain(12..=14);
+    let of_check = (1..=8).chain([17]).chain(12..=14);
     kinds.extend(of_check.map(|number| format!("check_table: refused {number}")));
     kinds
 }
@@ -157,7 +158,7 @@ fn checks_alike(files: [&Path; 2], request: &[u8], table: &[u8]) -> Printed {
 fn some_request(rng: &mut Random, left_out: &mut u64) -> Vec<u8> {
     loop {
         let bytes = if rng.chance(25) {
-            request::write(&generate::crowded_request(rng))
+            generate::crowded_bytes(rng)
         } else {
             generate::request_bytes(rng)
         };
@@ -203,6 +204,9 @@ fn sheet_and_long_inputs() {
     long_table.resize(70_000, 0);
     let requests = [
         sheet::p1(),
+        sheet::p1_silent(),
+        sheet::with_section(sheet::p1(), &[0]),
+        sheet::with_section(sheet::p1(), &[2]),
         sheet::p2(),
         sheet::p3(),
         sheet::p5(),

@@ -2,18 +2,19 @@
 
 mod common;
 
+use bus_tests::bus::Bus;
+use bus_tests::call::hex;
 use bus_tests::generate;
 use bus_tests::plain;
 use bus_tests::random::Random;
 use bus_tests::reference::check::plan_in;
 use bus_tests::reference::cycle::Cycle;
 use bus_tests::reference::model::{is_plan, plausible, plausible_lengths, window};
-use bus_tests::reference::request;
 use bus_tests::reference::search::{
     all_plans, choose, placings_within, plan_of_length, Choice, Direction, Effort, Found,
 };
 use bus_tests::reference::table::{decode, encode, of_plan};
-use bus_tests::reference::{planned, read_cycle, tries_within};
+use bus_tests::reference::{planned, read_cycle, tries_within, Reference};
 use bus_tests::rounds::MOST_TRIES;
 use common::tell_left_out;
 
@@ -21,7 +22,7 @@ fn random_cycles(seed: u64, count: usize) -> Vec<Cycle> {
     let mut rng = Random::new(seed);
     let mut cycles = Vec::new();
     while cycles.len() < count {
-        let bytes = request::write(&generate::valid_request(&mut rng));
+        let bytes = generate::valid_bytes(&mut rng);
         cycles.extend(read_cycle(&bytes).ok());
     }
     cycles
@@ -114,7 +115,8 @@ fn tables_read_back() {
     assert!(seen > 400, "{seen}");
 }
 
-/// The plain version that is measured plans the same tables with the same tries.
+/// The plain version that is measured plans the same tables with the same tries, and its check
+/// answers alike.
 #[test]
 fn the_plain_version_agrees() {
     let mut rng = Random::new(15);
@@ -132,12 +134,14 @@ fn the_plain_version_agrees() {
         }
         let mut out = [0; 600];
         let length = plain::plan(&bytes, &mut out);
-        match planned(&bytes) {
-            Ok(table) => {
-                assert_eq!(out[..length as usize], encode(&table));
-                assert_eq!(plain::check(&bytes, &out[..length as usize]), 0);
-            }
+        let chosen = planned(&bytes);
+        match &chosen {
+            Ok(table) => assert_eq!(out[..length as usize], encode(table)),
             Err(number) => assert_eq!(length, -number),
+        }
+        for table in generate::table_pool(&mut rng, &bytes, chosen.as_ref().ok(), MOST_TRIES) {
+            let answer = Reference.check(&bytes, &table);
+            assert_eq!(plain::check(&bytes, &table), answer, "{}", hex(&table));
         }
     }
     tell_left_out("plain version", seen, left_out, MOST_TRIES);

@@ -3,9 +3,10 @@
 mod common;
 
 use bus_tests::bus::Bus;
-use bus_tests::sheet::{self, request};
+use bus_tests::sheet::{self, request, silent_request, with_section};
 use common::{checks_as, plan, refused, subjects, table};
 
+/// Planner and check refuse the request with this number.
 fn check_refuses_like_plan(bytes: &[u8], number: i32) {
     refused(bytes, number);
     checks_as(bytes, &[], -number);
@@ -24,6 +25,7 @@ fn requests_cut_anywhere_end_with_1() {
     for length in 0..whole.len() {
         check_refuses_like_plan(&whole[..length], 1);
     }
+    check_refuses_like_plan(&with_section(whole, &[1]), 1);
 }
 
 #[test]
@@ -77,22 +79,154 @@ fn pairs_are_judged_one_by_one() {
     for (name, bus) in subjects() {
         assert!(plan(bus, &twice).is_ok(), "{name}");
     }
-    twice.push(0);
+    twice.extend([0, 0]);
     check_refuses_like_plan(&twice, 6);
 }
 
-#[test]
-fn bytes_behind_the_pairs_give_6_before_7_and_8() {
-    for mut bytes in [
-        sheet::p1(),
-        sheet::p11(),
-        request(&[(1, 10_001, 1, 0)], &[]),
-    ] {
-        bytes.push(0);
-        check_refuses_like_plan(&bytes, 6);
-        bytes.resize(5_000, 0);
-        check_refuses_like_plan(&bytes, 6);
+/// Every call that reads a request refuses it with this number.
+fn all_refuse(bytes: &[u8], number: i32) {
+    check_refuses_like_plan(bytes, number);
+    let good = table(20, 40, "0.0 1.0 2.0 / 0.1 1.1");
+    for (name, bus) in subjects() {
+        let mut out = [0x5A; 40];
+        assert_eq!(bus.rewrite(bytes, &good, &mut out), -number, "{name}");
+        assert_eq!(out, [0x5A; 40], "{name}");
+        let mut state = fresh(bus);
+        for task in [0, 255] {
+            assert_eq!(bus.report(bytes, task, 99, &mut state), -number, "{name}");
+        }
+        assert_eq!(state, fresh(bus), "{name}");
+        assert_eq!(bus.report(bytes, 0, 99, &mut state[..63]), -99, "{name}");
     }
+}
+
+/// A request that is planned, one with too many jobs, and one with too long a cycle.
+fn inside_and_beyond_the_limits() -> [Vec<u8>; 3] {
+    let long = request(&[(1, 10_001, 1, 0)], &[]);
+    [sheet::p1(), sheet::p11(), long]
+}
+
+#[test]
+fn bytes_behind_the_third_section_give_6_before_7_and_8() {
+    for bytes in inside_and_beyond_the_limits() {
+        for section in [&[0][..], &[1, 0], &[1, 1], &[1, 15]] {
+            let mut longer = with_section(bytes.clone(), section);
+            longer.push(0);
+            all_refuse(&longer, 6);
+            longer.resize(5_000, 0);
+            all_refuse(&longer, 6);
+        }
+    }
+}
+
+#[test]
+fn a_bad_third_section_gives_17_before_6_7_and_8() {
+    for bytes in inside_and_beyond_the_limits() {
+        for section in [
+            &[2][..],
+            &[3],
+            &[255],
+            &[2, 0],
+            &[2, 0, 0],
+            &[2, 1, 16, 9],
+            &[1, 16],
+            &[1, 255],
+            &[1, 16, 0],
+        ] {
+            let mut longer = with_section(bytes.clone(), section);
+            all_refuse(&longer, 17);
+            longer.resize(5_000, 0);
+            all_refuse(&longer, 17);
+        }
+        all_refuse(&with_section(bytes, &[1]), 1);
+    }
+}
+
+#[test]
+fn a_bad_pair_gives_5_before_17() {
+    let tasks = [(1, 8, 8, 0), (1, 8, 8, 0)];
+    for section in [&[][..], &[0], &[1], &[1, 16], &[2], &[2, 0]] {
+        all_refuse(&with_section(request(&tasks, &[(1, 0)]), section), 5);
+        let second_is_bad = request(&tasks, &[(0, 1), (1, 1)]);
+        all_refuse(&with_section(second_is_bad, section), 5);
+    }
+    let mut seventeen = request(&tasks, &[]);
+    seventeen[17] = 17;
+    all_refuse(&with_section(seventeen, &[2]), 4);
+}
+
+/// No third section, `00` and `01 00` say the same.
+#[test]
+fn three_ways_to_write_no_silent_ticks() {
+    let good = table(20, 40, "0.0 1.0 2.0 / 0.1 1.1");
+    for section in [&[][..], &[0], &[1, 0]] {
+        let bytes = with_section(sheet::p1(), section);
+        common::plans_as(&bytes, 20, 40, "0.0 1.0 2.0 / 0.1 1.1");
+        checks_as(&bytes, &good, 0);
+        check_refuses_like_plan(&with_section(sheet::p11(), section), 8);
+        for (name, bus) in subjects() {
+            let mut state = fresh(bus);
+            assert_eq!(bus.report(&bytes, 0, 6, &mut state), 0, "{name}");
+            assert_eq!(count(&state), 1, "{name}");
+        }
+    }
+}
+
+#[test]
+fn the_longest_request_has_164_bytes() {
+    let mut bytes = silent_request(&[(1, 160, 160, 0); 16], &[(0, 1); 16], 9);
+    assert_eq!(bytes.len(), 164);
+    let row: Vec<String> = (0..16).map(|task| format!("{task}.0")).collect();
+    common::plans_as(&bytes, 160, 160, &row.join(" "));
+    bytes.push(0);
+    all_refuse(&bytes, 6);
+}
+
+/// Two transfers of 5 ticks in a frame of 10 + 2g: the silent ticks of the last one count too.
+#[test]
+fn silent_ticks_count_for_every_transfer_of_a_row() {
+    for g in 0..=15 {
+        let f = 10 + 2 * g;
+        let tasks = [(5, f, f, 0), (5, f, f, 0)];
+        common::plans_as(&silent_request(&tasks, &[], g), f, f, "0.0 1.0");
+        let shorter = [(5, f - 1, f - 1, 0), (5, f - 1, f - 1, 0)];
+        let bytes = silent_request(&shorter, &[], g);
+        refused(&bytes, 10);
+        checks_as(&bytes, &table(f - 1, f - 1, "0.0 1.0"), -14);
+    }
+}
+
+/// A frame holds a transfer of 5 ticks from 5 + g ticks on; no shorter one is plausible.
+#[test]
+fn silent_ticks_count_in_the_frame_length() {
+    for g in 0..=15 {
+        let t = 5 + g;
+        common::plans_as(&silent_request(&[(5, t, t, 0)], &[], g), t, t, "0.0");
+        let short = silent_request(&[(5, t - 1, t - 1, 0)], &[], g);
+        if g == 0 {
+            check_refuses_like_plan(&short, 3);
+        } else {
+            refused(&short, 9);
+            checks_as(&short, &table(t - 1, t - 1, "0.0"), -13);
+        }
+    }
+}
+
+/// C ≤ D is judged without the silent ticks, and so is a report.
+#[test]
+fn silent_ticks_count_nowhere_else() {
+    let tight = silent_request(&[(5, 20, 5, 0)], &[], 15);
+    refused(&tight, 9);
+    for (name, bus) in subjects() {
+        let mut state = fresh(bus);
+        for (ticks, overruns) in [(5, 0), (6, 1), (20, 2), (21, 3)] {
+            assert_eq!(bus.report(&tight, 0, ticks, &mut state), 0, "{name}");
+            assert_eq!(count(&state), overruns, "{name}");
+        }
+    }
+    // 2f - gcd(f, T) is 4 for f 4 and T 8: the deadline needs no tick more for g.
+    let exact = silent_request(&[(1, 8, 4, 0)], &[], 3);
+    common::plans_as(&exact, 4, 8, "0.0 / ");
 }
 
 #[test]

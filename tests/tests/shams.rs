@@ -3,7 +3,8 @@
 mod common;
 
 use bus_tests::bus::Bus;
-use bus_tests::reference::cycle::Cycle;
+use bus_tests::random::Random;
+use bus_tests::reference::cycle::{self, Cycle, Job};
 use bus_tests::reference::model::{plausible_lengths, window};
 use bus_tests::reference::request;
 use bus_tests::reference::search::{plan_of_length, Direction, Effort, Found};
@@ -11,7 +12,7 @@ use bus_tests::reference::table::{decode, encode, of_plan};
 use bus_tests::reference::{planned, read_cycle, Reference};
 use bus_tests::rounds::Comparison;
 use bus_tests::sheet;
-use bus_tests::simulate::fly_many;
+use bus_tests::simulate::{fly_many, Flight};
 
 #[derive(Clone, Copy, Debug, PartialEq, Eq)]
 enum Lie {
@@ -52,9 +53,19 @@ enum Lie {
     ReportJudgesTheCycle,
     TicksCutTo16Bits,
     FreshForgetsTheMark,
+    ForgetsSilentTicks,
+    SilenceInLengthsOnly,
+    SilenceInCapacityOnly,
+    NoSilenceAfterTheLast,
+    SilenceBeforeTheDeadline,
+    CheckForgetsSilentTicks,
+    SixBeforeSeventeen,
+    TakesAnyG,
+    ZeroIsNoSection,
+    ReportAllowsSilence,
 }
 
-const LIES: [Lie; 37] = [
+const LIES: [Lie; 47] = [
     Lie::TenForAll,
     Lie::NineForTen,
     Lie::TenBeforeElevenFirst,
@@ -92,6 +103,16 @@ const LIES: [Lie; 37] = [
     Lie::ReportJudgesTheCycle,
     Lie::TicksCutTo16Bits,
     Lie::FreshForgetsTheMark,
+    Lie::ForgetsSilentTicks,
+    Lie::SilenceInLengthsOnly,
+    Lie::SilenceInCapacityOnly,
+    Lie::NoSilenceAfterTheLast,
+    Lie::SilenceBeforeTheDeadline,
+    Lie::CheckForgetsSilentTicks,
+    Lie::SixBeforeSeventeen,
+    Lie::TakesAnyG,
+    Lie::ZeroIsNoSection,
+    Lie::ReportAllowsSilence,
 ];
 
 /// The reference with one lie.
@@ -133,8 +154,24 @@ impl WrongSearch<'_> {
         };
         let jobs = placed.iter().zip(&self.cycle.jobs);
         jobs.filter(|(other, _)| counted(**other))
-            .map(|(_, job)| job.cost)
+            .map(|(_, job)| self.slot(job))
             .sum()
+    }
+
+    /// What the job is taken to need of its row.
+    fn slot(&self, job: &Job) -> i64 {
+        match self.lie {
+            Lie::SilenceInLengthsOnly => job.slot - self.cycle.request.g,
+            _ => job.slot,
+        }
+    }
+
+    /// What a row is taken to hold.
+    fn room(&self) -> i64 {
+        match self.lie {
+            Lie::NoSilenceAfterTheLast => self.f + self.cycle.request.g,
+            _ => self.f,
+        }
     }
 
     fn before(&self, first: i64, second: i64) -> bool {
@@ -164,7 +201,8 @@ impl WrongSearch<'_> {
         };
         for k in window(&job, self.f, self.rows) {
             self.tries += 1;
-            let fits = self.load(placed, k) + job.cost <= self.f && self.in_order(placed, k);
+            let load = self.load(placed, k) + self.slot(&job);
+            let fits = load <= self.room() && self.in_order(placed, k);
             if self.tries > 30_000 || !fits {
                 continue;
             }
@@ -207,11 +245,35 @@ fn plan_changed(bytes: &[u8], out: &mut [u8], change: fn(&mut request::Request))
     }
 }
 
+/// Plans a request whose g is above 15.
+fn plan_any_g(bytes: &[u8], out: &mut [u8]) -> Option<i32> {
+    let [front @ .., 1, g] = bytes else {
+        return None;
+    };
+    let mut read = request::read(front).ok()?;
+    read.g = i64::from(*g);
+    let cycle = cycle::of(read).ok()?;
+    let lengths = plausible_lengths(&cycle);
+    let table = first_plan(&cycle, &lengths, Direction::EarliestFirst);
+    Some(table.map_or(-9, |bytes| put(&bytes, out)))
+}
+
+/// Whether some length is plausible once the silent ticks are left out.
+fn plausible_without_silence(bytes: &[u8]) -> bool {
+    let mut cycle = read_cycle(bytes).expect("9 comes after the cycle");
+    cycle.request.g = 0;
+    !plausible_lengths(&cycle).is_empty()
+}
+
 impl Sham {
     fn plan_from(&self, cycle: &Cycle, out: &mut [u8]) -> Option<i32> {
         if matches!(
             self.0,
-            Lie::LooksOneWayAtPairs | Lie::ComparesRowsOfPairs | Lie::ForgetsCarriedLoad
+            Lie::LooksOneWayAtPairs
+                | Lie::ComparesRowsOfPairs
+                | Lie::ForgetsCarriedLoad
+                | Lie::SilenceInLengthsOnly
+                | Lie::NoSilenceAfterTheLast
         ) {
             return wrong_plan(self.0, cycle).map(|bytes| put(&bytes, out));
         }
@@ -267,8 +329,19 @@ impl Bus for Sham {
             | Lie::TakesLatestFrames
             | Lie::LooksOneWayAtPairs
             | Lie::ComparesRowsOfPairs
-            | Lie::ForgetsCarriedLoad => self.plan_otherwise(request, out),
+            | Lie::ForgetsCarriedLoad
+            | Lie::SilenceInLengthsOnly
+            | Lie::NoSilenceAfterTheLast => self.plan_otherwise(request, out),
             Lie::ForgetsPairs => plan_changed(request, out, |read| read.pairs.clear()),
+            Lie::ForgetsSilentTicks => plan_changed(request, out, |read| read.g = 0),
+            Lie::SilenceInCapacityOnly => match Reference.plan(request, out) {
+                -9 if plausible_without_silence(request) => -10,
+                answer => answer,
+            },
+            Lie::SilenceBeforeTheDeadline => match request::read(request) {
+                Ok(read) if read.tasks.iter().any(|task| read.slot(task) > task.d) => -3,
+                _ => Reference.plan(request, out),
+            },
             Lie::OverfillsRows => plan_changed(request, out, |read| {
                 if read.tasks[0].c > 1 {
                     read.tasks[0].c -= 1;
@@ -296,6 +369,18 @@ impl Bus for Sham {
                 -6 => Reference.plan(&request[..request.len() - 1], out),
                 answer => answer,
             },
+            Lie::SixBeforeSeventeen => match Reference.plan(request, out) {
+                -17 if request::read(&request[..request.len() - 1]) == Err(17) => -6,
+                answer => answer,
+            },
+            Lie::TakesAnyG => match Reference.plan(request, out) {
+                -17 => plan_any_g(request, out).unwrap_or(-17),
+                answer => answer,
+            },
+            Lie::ZeroIsNoSection => match request.split_last() {
+                Some((0, front)) if request::read(front).is_ok() => -6,
+                _ => Reference.plan(request, out),
+            },
             _ => Reference.plan(request, out),
         }
     }
@@ -317,6 +402,11 @@ impl Bus for Sham {
                 Reference.check(request, &encode(&read))
             }
             (Lie::FourteenBeforeThirteen, -13) => -14,
+            (Lie::CheckForgetsSilentTicks, -14) => {
+                let mut read = request::read(request).expect("14 comes after the request");
+                read.g = 0;
+                Reference.check(&request::write(&read), table)
+            }
             _ => answer,
         }
     }
@@ -384,6 +474,10 @@ impl Bus for Sham {
             Lie::CountsEveryReport => u32::MAX,
             _ => ticks,
         };
+        if self.0 == Lie::ReportAllowsSilence {
+            let silent = request::read(request).map_or(0, |read| read.g as u32);
+            return Reference.report(request, task, ticks.saturating_sub(silent), state);
+        }
         if self.0 == Lie::ReportJudgesTheCycle {
             if let Err(number) = read_cycle(request) {
                 return -number;
@@ -438,12 +532,12 @@ fn flights_end_without_a_table() {
     assert!(fault.starts_with("too few tables"), "{fault}");
 }
 
-/// A planner that forgets pairs, and a check that passes every table.
-struct Careless;
+/// A planner with this lie, and a check that passes every table.
+struct Careless(Lie);
 
 impl Bus for Careless {
     fn plan(&self, request: &[u8], out: &mut [u8]) -> i32 {
-        Sham(Lie::ForgetsPairs).plan(request, out)
+        Sham(self.0).plan(request, out)
     }
 
     fn check(&self, request: &[u8], table: &[u8]) -> i32 {
@@ -469,6 +563,38 @@ impl Bus for Careless {
 
 #[test]
 fn flights_catch_a_table_that_breaks_a_pair() {
-    let fault = fly_many(&Careless, 23, 2_000).expect_err("some pair is broken");
+    let careless = Careless(Lie::ForgetsPairs);
+    let fault = fly_many(&careless, 23, 2_000).expect_err("some pair is broken");
     assert!(fault.starts_with("pair "), "{fault}");
+}
+
+/// A row of 20 ticks in a frame of 20 ends in time only where each transfer starts at once; with
+/// a silent tick after each the last one is late.
+#[test]
+fn flights_catch_a_row_without_silent_ticks() {
+    let tasks = [(5, 20, 20, 0), (5, 20, 20, 0), (10, 20, 20, 0)];
+    let table = common::table(20, 20, "0.0 1.0 2.0");
+    let careless = Careless(Lie::PassesEveryTable);
+    for (g, late) in [(0, false), (1, true)] {
+        let request = sheet::silent_request(&tasks, &[], g);
+        let mut flight = Flight::start(&careless, &request, &table).expect("every table passes");
+        let flown = flight.fly(&mut Random::new(25), 100);
+        let fault = flown.err().unwrap_or_default();
+        assert_eq!(fault.contains("after its due time"), late, "{fault}");
+    }
+}
+
+/// Planners that leave too little silence in a row, or none behind its last transfer.
+#[test]
+fn flights_catch_a_frame_that_is_silent_too_late() {
+    for lie in [
+        Lie::ForgetsSilentTicks,
+        Lie::SilenceInLengthsOnly,
+        Lie::NoSilenceAfterTheLast,
+    ] {
+        assert!(fly_many(&Careless(lie), 26, 2_000).is_err(), "{lie:?}");
+    }
+    let careless = Careless(Lie::NoSilenceAfterTheLast);
+    let fault = fly_many(&careless, 26, 2_000).expect_err("some row is too full");
+    assert!(fault.contains("is silent until"), "{fault}");
 }

@@ -1,4 +1,5 @@
-//! Flights of planned tables: release, deadline, order of pairs, exactly once, state and count.
+//! Flights of planned tables: release, deadline, order of pairs, silent ticks, exactly once, state
+//! and count.
 
 mod common;
 
@@ -15,4 +16,5 @@ fn flights_keep_their_promises() {
     tell_left_out("flights", done.requests, done.left_out, MOST_TRIES);
     assert!(done.with_carry * 10 > done.flights, "{done:?}");
     assert!(done.with_pairs * 10 > done.flights, "{done:?}");
+    assert!(done.with_silence * 10 > done.flights, "{done:?}");
 }

@@ -3,7 +3,7 @@
 
 use bus_tests::bus::Bus;
 use bus_tests::library::Library;
-use bus_tests::sheet::{self, request};
+use bus_tests::sheet::{self, request, silent_request};
 
 const STACK: usize = 256 * 1024;
 
@@ -19,6 +19,7 @@ fn deep_requests() -> Vec<Vec<u8>> {
         request(&tasks, &chain),
         request(&tasks, &[]),
         request(&halving, &[(6, 7); 16]),
+        silent_request(&halving, &[(6, 7); 16], 2),
         request(&[(1, 64, 64, 0), (40, 8_128, 8_128, 0)], &[]),
         request(&[(1, 10_000, 10_000, 9_999)], &[]),
         sheet::p9(),

@@ -6,8 +6,8 @@ use mathlib.Core.List.{List, map, flatMap}
 use lib.ListN.{getD}
 use Rattle.cursor.specs.Parsed.{records}
 use Rattle.cursor.specs.Fields.{byteOf, wordOf, wordBytes}
-use Rattle.request.specs.Request.{taskRule, judgedTask, taskOf, tasksOf, pairsOf, reading}
-use Rattle.request.specs.Encode.{taskBytes, pairBytes, sectionBytes, requestBytes}
+use Rattle.request.specs.Request.{taskRule, judgedTask, taskOf, tasksOf, pairsOf, silentOf, reading}
+use Rattle.request.specs.Encode.{taskBytes, pairBytes, sectionBytes, silentBytes, requestBytes}
 use Rattle.planned_table.specs.Outcome.{Outcome, refusal}
 use Rattle.planner.specs.Outcome.{outcome}
 use Rattle.text.specs.Text.{ascii, decimalSteps, decimalOf}
@@ -27,7 +27,7 @@ pub record Listed : Type 0 where
 pub listed : Listed
 unfolding
     listing refusedLine tableLines headLine rowLines rowLine busyTicks each entryText named decimalOf decimalSteps
-    reading tasksOf taskOf judgedTask taskRule pairsOf records byteOf wordOf wordBytes taskBytes pairBytes sectionBytes requestBytes flatMap
+    reading tasksOf taskOf judgedTask taskRule pairsOf silentOf records byteOf wordOf wordBytes taskBytes pairBytes sectionBytes silentBytes requestBytes flatMap
 listed = record {
   P1-listed = ap (printed (tasksIn (reading P1-printed))) (planned-at 0);
   P7-listed = ap (printed (tasksIn (reading (bytesOf P7)))) (planned-at 5);

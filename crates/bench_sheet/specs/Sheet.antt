@@ -10,8 +10,8 @@ use Rattle.cursor.specs.Fields.{byteOf, wordOf, wordBytes}
 use Rattle.cursor.specs.Padded.{padded}
 use Rattle.arith.specs.Gcd.{gcdOf, gcdSteps}
 use Rattle.arith.specs.Lcm.{lcmOf}
-use Rattle.request.specs.Request.{taskRule, judgedTask, taskOf, tasksOf, pairRule, judgedPair, pairOf, pairsOf, reading}
-use Rattle.request.specs.Encode.{taskBytes, pairBytes, sectionBytes, requestBytes}
+use Rattle.request.specs.Request.{taskRule, judgedTask, taskOf, tasksOf, pairRule, judgedPair, pairOf, pairsOf, silentOf, reading}
+use Rattle.request.specs.Encode.{taskBytes, pairBytes, sectionBytes, silentBytes, requestBytes}
 use Rattle.request.specs.declared.Task.{Task}
 use Rattle.request.specs.declared.Pair.{Pair}
 use Rattle.cycle.specs.Cycle.{lcmWith, hyperperiod, jobsIn, jobOf, jobsFrom, jobsOf, allJobs, before, insert, inOrder, planned, cycle, cycleOf}
@@ -75,7 +75,7 @@ pub record Line : Type 0 where
 
 -- the request file
 abbrev pub bytesOf : Line → List ℕ
-bytesOf p = requestBytes (p .tasks) (p .pairs)
+bytesOf p = requestBytes (p .tasks) (p .pairs) 0
 
 abbrev pub line : List Task → List Pair → Outcome → Line
 line tasks pairs o = record { tasks = tasks; pairs = pairs; comes-to = o }
@@ -93,7 +93,7 @@ P1 = line (task 5 20 20 0 ∷ task 5 20 20 0 ∷ task 10 40 40 0 ∷ []) [] (han
 abbrev pub P2 : Line
 P2 = line (task 2 6 6 0 ∷ task 2 8 8 0 ∷ task 8 24 24 0 ∷ []) [] (refusal 9)
 
-abbrev P3 : Line
+abbrev pub P3 : Line
 P3 =
     line (task 2 6 6 0 ∷ task 2 8 8 0 ∷ task 4 24 24 0 ∷ task 4 24 24 0 ∷ []) (pair 2 3 ∷ [])
     (tabled 4 24 ((_·_ 0 0 ∷ _·_ 1 0 ∷ []) ∷ (_·_ 2 0 ∷ []) ∷ (_·_ 0 1 ∷ _·_ 1 1 ∷ []) ∷ (_·_ 0 2 ∷ []) ∷ (_·_ 3 0 ∷ []) ∷ (_·_ 0 3 ∷ _·_ 1 2 ∷ []) ∷ []))
@@ -162,7 +162,7 @@ frame s = nextFrame (decode (encode P7-table)) s
 
 -- P8: what is planned; its one job is released at 2 and due at 7
 abbrev P8-instance : Instance
-P8-instance = record { tasks = P8 .tasks; pairs = P8 .pairs; h = 10; jobs = record { task = 0; number = 0; release = 2; due = 7 } ∷ [] }
+P8-instance = record { tasks = P8 .tasks; pairs = P8 .pairs; g = 0; h = 10; jobs = record { task = 0; number = 0; release = 2; due = 7 } ∷ [] }
 
 pub record SheetHolds : Type 0 where
   -- what planning each request comes to: f, H and the rows, or the number
@@ -177,13 +177,13 @@ pub record SheetHolds : Type 0 where
   pub P7-frame-1 : entriesOf (frame (frame freshState .state)) ≡ []
   pub P7-frame-2 : entriesOf (frame (frame (frame freshState .state) .state)) ≡ carried 0 0 ∷ []
   -- "5 is plausible and has no plan"
-  pub P8-cycle : cycleOf (bytesOf P8) ≡ cycle (P8-instance .tasks) (P8-instance .pairs) (P8-instance .h) (P8-instance .jobs)
+  pub P8-cycle : cycleOf (bytesOf P8) ≡ cycle (P8-instance .tasks) (P8-instance .pairs) (P8-instance .g) (P8-instance .h) (P8-instance .jobs)
   pub P8-plausible : plausible P8-instance 5 ≡ true
   pub P8-no-plan : (frames : List ℕ) → IsPlan P8-instance 5 frames → ⊥
 
 pub sheet-holds : SheetHolds
-unfolding outcome cycleOf reading tasksOf taskOf judgedTask taskRule pairsOf pairOf judgedPair pairRule records byteOf wordOf
-    requestBytes sectionBytes taskBytes pairBytes wordBytes flatMap
+unfolding outcome cycleOf reading tasksOf taskOf judgedTask taskRule pairsOf pairOf judgedPair pairRule silentOf records byteOf wordOf
+    requestBytes sectionBytes taskBytes pairBytes silentBytes wordBytes flatMap
     choose chooseFrom isTried foundOr problemAt firstFrameOf endFrameOf firstFrom costs costOf slot plausible frameRules frameRule
     linkCounts linkPlaces inPlaces allLinks linksFrom linksOfJob linksBy linkBy linkIf placeBefore placeFrom isJob padded
     plan search firstOf when orElse fits all-kept row-sum

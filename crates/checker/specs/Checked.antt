@@ -98,8 +98,8 @@ judged x t = pick (both (eqb (t .h) (x .h)) (plausible x (t .f))) (planOf x (t .
 -- "the check 1 to 8 then 12 to 14": 12 for a table that has not the form
 unfoldable pub checked : Cycle → Decoded → Verdict
 checked (noCycle number) d = refusal number
-checked (cycle tasks pairs h jobs) malformed = refusal 12
-checked (cycle tasks pairs h jobs) (table t) = judged (instance tasks pairs h jobs) t
+checked (cycle tasks pairs g h jobs) malformed = refusal 12
+checked (cycle tasks pairs g h jobs) (table t) = judged (instance tasks pairs g h jobs) t
 
 -- 0 where it accepts
 abbrev pub numberOf : Verdict → ℕ

@@ -1,7 +1,7 @@
 -- Which number the check answers, exactly, for all byte strings.
 -- Each number has a condition, and some condition holds; a table that describes a plan has the request's H and a plausible f. So the conditions
 -- exclude each other, and the number tells which one holds.
-use Prim.Native.Nat.{ℕ}
+use Prim.Native.Nat.{ℕ, _<_}
 use mathlib.Core.Path.{_≡_, refl, sym, ap, _∙_}
 use mathlib.Core.Bool.{Bool, true, false, false≢true}
 use mathlib.Core.Logic.{_↔_, ⊎-elim}
@@ -13,7 +13,7 @@ use borrow.Author.Tests.{eq-eqb, eqb-true}
 use Rattle.cursor.specs.Choice.{pick, both}
 use Rattle.cursor.specs.ParsedLaws.{never, both-true}
 use Rattle.cycle.specs.Cycle.{noCycle, cycleOf}
-use Rattle.cycle.specs.LimitLaws.{no-cycle-number}
+use Rattle.cycle.specs.LimitLaws.{no-cycle-number, request-number-pos, request-number-own}
 use Rattle.table.specs.Table.{Table, Decoded, table, malformed, decode}
 use Rattle.cursor.specs.Front.{Bytes}
 use Rattle.table.specs.TableBytes.{SaysTable, says-decodes, decodes-says}
@@ -59,6 +59,11 @@ module _ (request bytes : List ℕ) where
   own-number : (number : ℕ) → cycleOf request ≡ noCycle number → checkNumber request bytes ≡ number
   unfolding checked
   own-number number e = rw e
+
+  -- and is none of the check's
+  not-own : (number : ℕ) → cycleOf request ≡ noCycle number → {k : ℕ} → 8 < k → k < 17 → checkNumber request bytes ≡ k → ⊥
+  not-own number q l h e =
+      request-number-own (no-cycle-number request number q) (omega (arith, own-number number q)) (omega (arith, own-number number q))
 
   module _ (x : Instance) (within : Within request x) where
     malformed-number : decode bytes ≡ malformed → checkNumber request bytes ≡ 12
@@ -158,22 +163,22 @@ module _ (request bytes : List ℕ) where
     check-exact = record {
       request-refused = own-number;
       twelve = (
-        λ e. cases (NoTable request bytes) (λ k q. absurd (omega (arith, own-number k q, no-cycle-number request k q)))
+        λ e. cases (NoTable request bytes) (λ k q. absurd (not-own k q (omega arith) (omega arith) e))
             (λ c. c) (λ c. absurd (omega (arith, other-sizes-number c))) (λ c. absurd (omega (arith, no-plan-number c))) (λ c. absurd (omega (arith, plan-number c))),
         no-table-number,
       );
       thirteen = (
-        λ e. cases (OfBoth request bytes (λ x t. SizesFit x t → ⊥)) (λ k q. absurd (omega (arith, own-number k q, no-cycle-number request k q)))
+        λ e. cases (OfBoth request bytes (λ x t. SizesFit x t → ⊥)) (λ k q. absurd (not-own k q (omega arith) (omega arith) e))
             (λ c. absurd (omega (arith, no-table-number c))) (λ c. c) (λ c. absurd (omega (arith, no-plan-number c))) (λ c. absurd (omega (arith, plan-number c))),
         other-sizes-number,
       );
       fourteen = (
-        λ e. cases (OfBoth request bytes (λ x t. SizesFit x t × (Accepted x t → ⊥))) (λ k q. absurd (omega (arith, own-number k q, no-cycle-number request k q)))
+        λ e. cases (OfBoth request bytes (λ x t. SizesFit x t × (Accepted x t → ⊥))) (λ k q. absurd (not-own k q (omega arith) (omega arith) e))
             (λ c. absurd (omega (arith, no-table-number c))) (λ c. absurd (omega (arith, other-sizes-number c))) (λ c. c) (λ c. absurd (omega (arith, plan-number c))),
         no-plan-number,
       );
       accepts = (
-        λ e. cases (OfBoth request bytes Accepted) (λ k q. absurd (omega (arith, own-number k q, no-cycle-number request k q)))
+        λ e. cases (OfBoth request bytes Accepted) (λ k q. absurd (omega (arith, own-number k q, request-number-pos (no-cycle-number request k q))))
             (λ c. absurd (omega (arith, no-table-number c))) (λ c. absurd (omega (arith, other-sizes-number c))) (λ c. absurd (omega (arith, no-plan-number c))) (λ c. c),
         plan-number,
       );

@@ -9,7 +9,7 @@ use lib.Dec.{eqb}
 use Rattle.cursor.specs.Choice.{pick, both}
 use Rattle.cursor.specs.ParsedLaws.{never}
 use Rattle.cycle.specs.Cycle.{Cycle, cycle, noCycle, cycleOf}
-use Rattle.cycle.specs.LimitLaws.{no-cycle-number}
+use Rattle.cycle.specs.LimitLaws.{no-cycle-number, request-number-pos}
 use Rattle.table.specs.Table.{Table, Decoded, table, malformed, decode}
 use Rattle.model.specs.Plan.{Instance, IsPlan}
 use Rattle.model.specs.Plausible.{plausible}
@@ -34,11 +34,11 @@ module _ (request bytes : List ℕ) where
   plan-read f frames e = go (cycleOf request) refl (decode bytes) refl e
     where
       go : (c : Cycle) → cycleOf request ≡ c → (d : Decoded) → decode bytes ≡ d → checked c d ≡ accepted f frames → PlanRead request bytes f frames
-      go (cycle tasks pairs h jobs) within (table t) read q =
-          let x = instance tasks pairs h jobs in
+      go (cycle tasks pairs g h jobs) within (table t) read q =
+          let x = instance tasks pairs g h jobs in
           let right = accepts-described request bytes x t within read f frames .0 e in
           record { x = x; within = within; t = t; read = read; is-plan = right .0; describes = right .1 }
-      go (cycle tasks pairs h jobs) within malformed read q = absurd (never (cc))
+      go (cycle tasks pairs g h jobs) within malformed read q = absurd (never (cc))
       go (noCycle k) within (table t) read q = absurd (never (cc))
       go (noCycle k) within malformed read q = absurd (never (cc))
 
@@ -52,11 +52,11 @@ module _ (request bytes : List ℕ) where
       rules f frames false b q = let same : 13 ≡ n = cc in omega arith
 
       go : (c : Cycle) → cycleOf request ≡ c → (d : Decoded) → checked c d ≡ refusal n → 0 < n
-      go (noCycle k) is (table t) q = let same : k ≡ n = cc in omega (arith, no-cycle-number request k is)
-      go (noCycle k) is malformed q = let same : k ≡ n = cc in omega (arith, no-cycle-number request k is)
-      go (cycle tasks pairs h jobs) is malformed q = let same : 12 ≡ n = cc in omega arith
-      go (cycle tasks pairs h jobs) is (table t) q =
-          let x = instance tasks pairs h jobs in
+      go (noCycle k) is (table t) q = let same : k ≡ n = cc in omega (arith, request-number-pos (no-cycle-number request k is))
+      go (noCycle k) is malformed q = let same : k ≡ n = cc in omega (arith, request-number-pos (no-cycle-number request k is))
+      go (cycle tasks pairs g h jobs) is malformed q = let same : 12 ≡ n = cc in omega arith
+      go (cycle tasks pairs g h jobs) is (table t) q =
+          let x = instance tasks pairs g h jobs in
           let frames = framesIn (t .rows) jobs in
           rules (t .f) frames (both (eqb (t .h) h) (plausible x (t .f)))
           (both (entriesRight x (t .rows) frames) (rulesRight x (length (t .rows)) (t .f) frames)) q

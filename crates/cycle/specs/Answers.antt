@@ -47,16 +47,17 @@ unfoldable pub listed : List Job → List Job
 listed jobs = padded 128 noJob jobs
 
 abbrev pub refused : ℕ → answer.Cycle
-refused number = record { refusal = number; n = 0; tasks = replicate 16 noTask; m = 0; pairs = replicate 16 noPair; h = 0; count = 0; jobs = replicate 128 noJob }
+refused number = record { refusal = number; n = 0; tasks = replicate 16 noTask; m = 0; pairs = replicate 16 noPair; g = 0; h = 0; count = 0; jobs = replicate 128 noJob }
 
 abbrev pub answered : Cycle → answer.Cycle
-answered (cycle tasks pairs h jobs) =
+answered (cycle tasks pairs g h jobs) =
     record {
       refusal = 0;
       n = length tasks;
       tasks = padded 16 noTask tasks;
       m = length pairs;
       pairs = padded 16 noPair pairs;
+      g = g;
       h = h;
       count = length jobs;
       jobs = listed jobs;

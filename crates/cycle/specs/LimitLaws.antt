@@ -4,7 +4,7 @@ use Prim.Native.Nat.{ℕ, zero, suc, _+_, _*_, _/_, _≤_, _<_, _∣_}
 use mathlib.Core.Path.{_≡_, refl, subst}
 use mathlib.Core.Bool.{Bool, true, false}
 use mathlib.Core.List.{List, [], _∷_}
-use mathlib.Core.Logic.{_↔_}
+use mathlib.Core.Logic.{_↔_, _⊎_, inl, inr, ⊎-elim}
 use native.Mathlib.Nat.{dvd-refl, dvd-trans, one-dvd, le-of-dvd, div-mul-cancel, mul-le-mul-right, lt-of-mul-lt-mul-right}
 use native.Mathlib.Omega.{arith}
 use lib.ListN.{length, getD}
@@ -133,34 +133,51 @@ module _ (tasks : List Task) (pairs : List Pair) (kept : Readable tasks pairs) w
         due-below = job-due-below h some divides;
       }
 
--- what the cycle of some bytes keeps, which has the tasks and the pairs that were read; the number of a refusal is from 1 to 8
+-- the numbers of a refused request
+abbrev pub RequestNumber : ℕ → Type 0
+RequestNumber number = ((1 ≤ number) × (number ≤ 8)) ⊎ (number ≡ 17)
+
+pub request-number-pos : {number : ℕ} → RequestNumber number → 1 ≤ number
+request-number-pos (inl n) = n .0
+request-number-pos (inr n) = omega arith
+
+pub request-number-few : {number : ℕ} → RequestNumber number → number ≤ 17
+request-number-few (inl n) = omega (arith, n .1)
+request-number-few (inr n) = omega arith
+
+-- none of the numbers of a plan or of a table
+pub request-number-own : {number : ℕ} → RequestNumber number → 8 < number → number < 17 → ⊥
+request-number-own (inl n) l h = omega (arith, n .1)
+request-number-own (inr n) l h = omega arith
+
+-- what the cycle of some bytes keeps, which has the tasks, the pairs and the silent ticks that were read; the number of a refusal
 abbrev Kept : List ℕ → Cycle → Type 0
-Kept bytes (cycle tasks pairs h jobs) = WithinLimits tasks pairs h jobs × (reading bytes ≡ readable tasks pairs)
-Kept bytes (noCycle number) = (1 ≤ number) × (number ≤ 8)
+Kept bytes (cycle tasks pairs g h jobs) = WithinLimits tasks pairs h jobs × (reading bytes ≡ readable tasks pairs g)
+Kept bytes (noCycle number) = RequestNumber number
 
 cycle-kept : (bytes : List ℕ) → Kept bytes (cycleOf bytes)
 unfolding cycleOf
 cycle-kept bytes = first (reading bytes) refl
   where
-    second : (tasks : List Task) (pairs : List Pair) → reading bytes ≡ readable tasks pairs
+    second : (tasks : List Task) (pairs : List Pair) (g : ℕ) → reading bytes ≡ readable tasks pairs g
         → (s t : Bool) → ltb 10000 (hyperperiod tasks) ≡ s → ltb 128 (length (allJobs tasks (hyperperiod tasks))) ≡ t
-        → Kept bytes (pick s (noCycle 7) (pick t (noCycle 8) (cycle tasks pairs (hyperperiod tasks) (planned tasks (hyperperiod tasks)))))
-    second tasks pairs e true t p q = (omega arith, omega arith)
-    second tasks pairs e false true p q = (omega arith, omega arith)
-    second tasks pairs e false false p q = (within-limits tasks pairs (readable-kept bytes tasks pairs e) (ltb-false _ _ p) (ltb-false _ _ q), e)
+        → Kept bytes (pick s (noCycle 7) (pick t (noCycle 8) (cycle tasks pairs g (hyperperiod tasks) (planned tasks (hyperperiod tasks)))))
+    second tasks pairs g e true t p q = inl (omega arith, omega arith)
+    second tasks pairs g e false true p q = inl (omega arith, omega arith)
+    second tasks pairs g e false false p q = (within-limits tasks pairs (readable-kept bytes tasks pairs g e) (ltb-false _ _ p) (ltb-false _ _ q), e)
 
     first : (r : Reading) → reading bytes ≡ r → Kept bytes (afterReading r)
-    first (readable tasks pairs) e = second tasks pairs e (ltb 10000 (hyperperiod tasks)) (ltb 128 (length (allJobs tasks (hyperperiod tasks)))) refl refl
-    first (unreadable number) e = let range = unreadable-number bytes number e in omega arith
+    first (readable tasks pairs g) e = second tasks pairs g e (ltb 10000 (hyperperiod tasks)) (ltb 128 (length (allJobs tasks (hyperperiod tasks)))) refl refl
+    first (unreadable number) e = ⊎-elim (λ n. inl (n .0, omega (arith, n .1))) (λ n. inr n) (unreadable-number bytes number e)
 
-pub cycle-within : (bytes : List ℕ) (tasks : List Task) (pairs : List Pair) (h : ℕ) (jobs : List Job)
-    → cycleOf bytes ≡ cycle tasks pairs h jobs → WithinLimits tasks pairs h jobs
-cycle-within bytes tasks pairs h jobs e = subst (Kept bytes) e (cycle-kept bytes) .0
+pub cycle-within : (bytes : List ℕ) (tasks : List Task) (pairs : List Pair) (g h : ℕ) (jobs : List Job)
+    → cycleOf bytes ≡ cycle tasks pairs g h jobs → WithinLimits tasks pairs h jobs
+cycle-within bytes tasks pairs g h jobs e = subst (Kept bytes) e (cycle-kept bytes) .0
 
-pub no-cycle-number : (bytes : List ℕ) (number : ℕ) → cycleOf bytes ≡ noCycle number → (1 ≤ number) × (number ≤ 8)
+pub no-cycle-number : (bytes : List ℕ) (number : ℕ) → cycleOf bytes ≡ noCycle number → RequestNumber number
 no-cycle-number bytes number e = subst (Kept bytes) e (cycle-kept bytes)
 
--- a cycle has the tasks and the pairs that were read
-pub cycle-reading : (bytes : List ℕ) (tasks : List Task) (pairs : List Pair) (h : ℕ) (jobs : List Job)
-    → cycleOf bytes ≡ cycle tasks pairs h jobs → reading bytes ≡ readable tasks pairs
-cycle-reading bytes tasks pairs h jobs e = subst (Kept bytes) e (cycle-kept bytes) .1
+-- a cycle has the tasks, the pairs and the silent ticks that were read
+pub cycle-reading : (bytes : List ℕ) (tasks : List Task) (pairs : List Pair) (g h : ℕ) (jobs : List Job)
+    → cycleOf bytes ≡ cycle tasks pairs g h jobs → reading bytes ≡ readable tasks pairs g
+cycle-reading bytes tasks pairs g h jobs e = subst (Kept bytes) e (cycle-kept bytes) .1

@@ -11,7 +11,7 @@ use Rattle.cursor.specs.Choice.{pick}
 use Rattle.cursor.specs.Padded.{padded, padded-length, take-padded, getD-padded}
 use Rattle.request.specs.Request.{Reading, readable, unreadable, reading, noTask, periodOf}
 use Rattle.request.specs.Answers as request
-use Rattle.request.specs.Readable.{Readable, TaskKept, readable-kept, unreadable-number}
+use Rattle.request.specs.Readable.{Readable, TaskKept, readable-kept, unreadable-number, unread-pos}
 use Rattle.request.specs.declared.Task.{Task}
 use Rattle.request.specs.declared.Pair.{Pair}
 use Rattle.request.specs.declared.Request.{Request}
@@ -29,16 +29,17 @@ unfolding cycleOf
 not-read s r e ne = go (reading s) e
   where
     go : (x : Reading) → r ≡ request.answered x → refused (r .refusal) ≡ answered (afterReading x)
-    go (readable tasks pairs) q = absurd (ne (ap (λ (y : Request). y .refusal) q))
+    go (readable tasks pairs g) q = absurd (ne (ap (λ (y : Request). y .refusal) q))
     go (unreadable number) q = ap refused (ap (λ (y : Request). y .refusal) q)
 
 -- what is known once it is read
 pub record Read (s : List ℕ) (r : Request) : Type 0 where
   pub tasks : List Task
   pub pairs : List Pair
-  pub is : reading s ≡ readable tasks pairs
+  pub g : ℕ
+  pub is : reading s ≡ readable tasks pairs g
   pub kept : Readable tasks pairs
-  pub request-is : r ≡ request.answered (readable tasks pairs)
+  pub request-is : r ≡ request.answered (readable tasks pairs g)
   pub sized : Sized (r .tasks) (r .n)
   pub named : take (r .n) (r .tasks) ≡ tasks
 
@@ -50,13 +51,14 @@ sized-of tasks pairs kept = record {
   kept = λ i h. subst TaskKept (sym (getD-padded 16 noTask tasks i h)) (kept .task i h);
 }
 
-read-is : (s : List ℕ) (r : Request) (tasks : List Task) (pairs : List Pair)
-    → reading s ≡ readable tasks pairs → r ≡ request.answered (readable tasks pairs) → Read s r
-read-is s r tasks pairs is e =
-    let kept = readable-kept s tasks pairs is in
+read-is : (s : List ℕ) (r : Request) (tasks : List Task) (pairs : List Pair) (g : ℕ)
+    → reading s ≡ readable tasks pairs g → r ≡ request.answered (readable tasks pairs g) → Read s r
+read-is s r tasks pairs g is e =
+    let kept = readable-kept s tasks pairs g is in
     record {
       tasks = tasks;
       pairs = pairs;
+      g = g;
       is = is;
       kept = kept;
       request-is = e;
@@ -68,9 +70,9 @@ pub was-read : (s : List ℕ) (r : Request) → r ≡ request.answered (reading 
 was-read s r e z = go (reading s) refl e
   where
     go : (x : Reading) → reading s ≡ x → r ≡ request.answered x → Read s r
-    go (readable tasks pairs) is q = read-is s r tasks pairs is q
+    go (readable tasks pairs g) is q = read-is s r tasks pairs g is q
     go (unreadable number) is q =
-        let positive = unreadable-number s number is in
+        let positive = unread-pos (unreadable-number s number is) in
         absurd (omega (arith, ap (λ (y : Request). y .refusal) q))
 
 -- h is 0 where H is above 10,000, and H elsewhere
@@ -95,7 +97,7 @@ module _ {s : List ℕ} {r : Request} (read : Read s r) {h : ℕ} (h-is : h ≡ 
   cases : ShortOr0 tasks h
   cases = short-cases tasks h pos (h-is ∙ ap shortCycle (read .named))
 
-  cycle-is : cycleOf s ≡ limited tasks (read .pairs) (hyperperiod tasks)
+  cycle-is : cycleOf s ≡ limited tasks (read .pairs) (read .g) (hyperperiod tasks)
   unfolding cycleOf
   cycle-is = ap afterReading (read .is)
 
@@ -135,19 +137,20 @@ module _ {s : List ℕ} {r : Request} (read : Read s r) {h : ℕ} (h-is : h ≡ 
 
     -- the answer of these parts
     abbrev parts : List Job → answer.Cycle
-    parts jobs = record { refusal = 0; n = r .n; tasks = r .tasks; m = r .m; pairs = r .pairs; h = h; count = count; jobs = jobs }
+    parts jobs = record { refusal = 0; n = r .n; tasks = r .tasks; m = r .m; pairs = r .pairs; g = r .g; h = h; count = count; jobs = jobs }
 
     pub all-read : count ≤ 128 → {jobs : List Job} → jobs ≡ listed (planned (take (r .n) (r .tasks)) h) → parts jobs ≡ answered (cycleOf s)
     all-read l {jobs} e =
         let in-order : jobs ≡ listed (planned tasks (hyperperiod tasks)) = e ∙ rw (read .named, h-all) in
         let total : count ≡ length (planned tasks (hyperperiod tasks)) = counted ∙ sym (planned-length tasks (hyperperiod tasks)) in
         let e = read .request-is in
-        let same : parts jobs ≡ answered (cycle tasks (read .pairs) (hyperperiod tasks) (planned tasks (hyperperiod tasks))) = λ q. record {
+        let same : parts jobs ≡ answered (cycle tasks (read .pairs) (read .g) (hyperperiod tasks) (planned tasks (hyperperiod tasks))) = λ q. record {
           refusal = 0;
           n = e q .n;
           tasks = e q .tasks;
           m = e q .m;
           pairs = e q .pairs;
+          g = e q .g;
           h = h-all q;
           count = total q;
           jobs = in-order q;

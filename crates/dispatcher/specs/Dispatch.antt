@@ -83,9 +83,9 @@ reportTaken s = record { refusal = 0; state = s }
 abbrev pub reportRefused : ℕ → State → Reported
 reportRefused number s = record { refusal = number; state = s }
 
--- 1 to 6: not a request; 16: task number not below n
+-- 1 to 6 and 17: not a request; 16: task number not below n
 unfoldable pub reported : Reading → ℕ → ℕ → State → Reported
-reported (readable tasks pairs) task ticks s = pick (ltb task (length tasks)) (reportTaken (counted (exceeds tasks task ticks) s)) (reportRefused 16 s)
+reported (readable tasks pairs g) task ticks s = pick (ltb task (length tasks)) (reportTaken (counted (exceeds tasks task ticks) s)) (reportRefused 16 s)
 reported (unreadable number) task ticks s = reportRefused number s
 
 -- what a frame's answer shows, and the entries that it says

@@ -15,7 +15,7 @@ use Rattle.dispatcher.specs.Dispatch.{exceeds, raised, counted, reportTa
 use Rattle.dispatcher.specs.declared.State.{State}
 
 module _ (r : Reading) (task ticks : ℕ) (s : State) where
-  module _ (tasks : List Task) (pairs : List Pair) (is : r ≡ readable tasks pairs) where
+  module _ (tasks : List Task) (pairs : List Pair) (g : ℕ) (is : r ≡ readable tasks pairs g) where
     pub report-counted : task < length tasks → reported r task ticks s ≡ reportTaken (counted (exceeds tasks task ticks) s)
     unfolding reported
     report-counted h = rw (is, lt-ltb task (length tasks) h)
@@ -25,7 +25,7 @@ module _ (r : Reading) (task ticks : ℕ) (s : State) where
     unfolding reported
     report-unknown h = rw (is, le-ltb task (length tasks) h)
 
-  -- 1 to 6
+  -- 1 to 6 and 17
   pub report-unreadable : (number : ℕ) → r ≡ unreadable number → reported r task ticks s ≡ reportRefused number s
   unfolding reported
   report-unreadable number is = rw is
@@ -34,7 +34,7 @@ module _ (r : Reading) (task ticks : ℕ) (s : State) where
 pub report-refused-still : (r : Reading) (task ticks : ℕ) (s : State) → (reported r task ticks s .refusal ≡ 0 → ⊥) → reported r task ticks s .state ≡ s
 unfolding reported
 report-refused-still (unreadable number) task ticks s ne = refl
-report-refused-still (readable tasks pairs) task ticks s ne = go (ltb task (length tasks)) ne
+report-refused-still (readable tasks pairs g) task ticks s ne = go (ltb task (length tasks)) ne
   where
     go : (b : Bool) → (pick b (reportTaken (counted (exceeds tasks task ticks) s)) (reportRefused 16 s) .refusal ≡ 0 → ⊥)
         → pick b (reportTaken (counted (exceeds tasks task ticks) s)) (reportRefused 16 s) .state ≡ s

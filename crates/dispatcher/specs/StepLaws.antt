@@ -104,14 +104,14 @@ module _ (bytes : List ℕ) (s : State) (r : Row) (w : RowFound bytes (s .row) r
 
 -- Report
 
--- 1 to 6 are the request reader's
+-- 1 to 6 and 17 are the request reader's
 pub report-refused : (bytes : List ℕ) (task ticks : ℕ) (s : State) (r : Request) → r ≡ answered (reading bytes) → (r .refusal ≡ 0 → ⊥)
     → reportRefused (r .refusal) s ≡ reported (reading bytes) task ticks s
 report-refused bytes task ticks s r e ne = sym (report-unreadable (reading bytes) task ticks s (r .refusal) (not-read bytes r e ne))
 
 module _ (bytes : List ℕ) (task ticks : ℕ) (s : State) (r : Request) (w : WasRead bytes r) where
   pub task-unknown : r .n ≤ task → reportRefused 16 s ≡ reported (reading bytes) task ticks s
-  task-unknown h = sym (report-unknown (reading bytes) task ticks s (w .tasks) (w .pairs) (w .is) (omega (arith, w .n-is)))
+  task-unknown h = sym (report-unknown (reading bytes) task ticks s (w .tasks) (w .pairs) (w .g) (w .is) (omega (arith, w .n-is)))
 
   module _ (h : task < r .n) where
     below : task < length (w .tasks)
@@ -122,4 +122,4 @@ module _ (bytes : List ℕ) (task ticks : ℕ) (s : State) (r : Request) (w : Wa
 
     pub task-known : (count : ℕ) → count ≡ raised (ltb (getD (r .tasks) task noTask .c) ticks) (s .count)
         → reportTaken (withCount count s) ≡ reported (reading bytes) task ticks s
-    task-known count e = rw (e, w .task-is task below) (sym (report-counted (reading bytes) task ticks s (w .tasks) (w .pairs) (w .is) below))
+    task-known count e = rw (e, w .task-is task below) (sym (report-counted (reading bytes) task ticks s (w .tasks) (w .pairs) (w .g) (w .is) below))

@@ -131,7 +131,7 @@ fn count_overrun(over: bool, count: u16) -> u16
     count
 }
 
-// The ticks that a task used: more than C are an overrun. 1 to 6 where the bytes are no request, 16 where it has no such task.
+// The ticks that a task used: more than C are an overrun. 1 to 6 or 17 where the bytes are no request, 16 where it has no such task.
 pub fn report(request: &[u8], task: u8, ticks: u32, state: State) -> Reported
     ensures { λ r. ⌜ r ≡ reported (reading (now (request .entry))) task ticks state ⌝ }
 {

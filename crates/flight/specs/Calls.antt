@@ -73,7 +73,7 @@ plainTurn n s = record { answer = number n; after = s }
 -- "On a report whose bytes have the form of a request with none behind it, and whose task number is below the n in them, it answers no number, and v
 -- rises by one if the ticks exceed that task's C in them, stopping at 65,535. Any other report gives its number by the table below and changes nothing."
 unfoldable pub heard : Reading → ℕ → ℕ → Plain → Turn Plain
-heard (readable tasks pairs) task ticks s = pick (ltb task (length tasks)) (plainTurn 0 (oneHeard (exceeds tasks task ticks) s)) (plainTurn 16 s)
+heard (readable tasks pairs g) task ticks s = pick (ltb task (length tasks)) (plainTurn 0 (oneHeard (exceeds tasks task ticks) s)) (plainTurn 16 s)
 heard (unreadable n) task ticks s = plainTurn n s
 
 -- "It never refuses a next-frame call of the list."

@@ -1,7 +1,7 @@
 -- The claim about a flight as a whole: 01, "What demand 3 compares".
 use mathlib.Core.Path.{_≡_}
 use mathlib.Core.List.{List}
-use Prim.Native.Nat.{ℕ, _*_, _%_, _≤_, _<_}
+use Prim.Native.Nat.{ℕ, suc, _+_, _*_, _%_, _≤_, _<_}
 use lib.ListN.{length}
 use lib.Dec.{ltb}
 use Rattle.cycle.specs.Planned.{IsJob}
@@ -39,10 +39,10 @@ module _ (x : Instance) (tableBytes : List ℕ) (t : Table) (calls : List Call) 
 
   -- when that entry starts and ends
   abbrev pub starts : ℕ → ℕ → ℕ
-  starts m p = start (t .f) actual m p
+  starts m p = start (x .g) (t .f) actual m p
 
   abbrev pub ends : ℕ → ℕ → ℕ
-  ends m p = finish (t .f) actual m p
+  ends m p = finish (x .g) (t .f) actual m p
 
   -- how often the job has run
   abbrev pub runs : ℕ → ℕ → ℕ → ℕ
@@ -60,6 +60,8 @@ module _ (x : Instance) (tableBytes : List ℕ) (t : Table) (calls : List Call) 
     pub frames-are : length (framesFlown tableBytes calls) ≡ plainAfter t calls .m
     -- every entry served stands for a job of the request, of some cycle: nothing else runs
     pub each-stands : (m p : ℕ) → Served (framesFlown tableBytes calls) m p → StandsForSome x (height t) (framesFlown tableBytes calls) m p
+    -- "each later entry of a frame start[s] g ticks after the one before ended"
+    pub silent-between : (m p : ℕ) → Served (framesFlown tableBytes calls) m (suc p) → starts m (suc p) ≡ ends m p + x .g
     -- a started job starts no earlier than its release and ends by its deadline
     pub not-before-release : (i j q m p : ℕ) → Started i j q m p → releasedIn x q i j ≤ starts m p
     pub by-deadline : (i j q m p : ℕ) → Started i j q m p → ends m p ≤ dueIn x q i j

@@ -8,7 +8,7 @@ use native.Mathlib.Omega.{arith}
 use lib.ListN.{length, take, drop}
 use lib.Seq.{take-append-seam}
 use Rattle.cycle.specs.Cycle.{noCycle, cycleOf}
-use Rattle.cycle.specs.LimitLaws.{no-cycle-number}
+use Rattle.cycle.specs.LimitLaws.{no-cycle-number, request-number-pos}
 use Rattle.table.specs.Table.{Table, encode}
 use Rattle.cursor.specs.Front.{Bytes}
 use Rattle.table.specs.TableBytes.{SaysTable, says-decodes}
@@ -69,4 +69,4 @@ module _ (requestBytes out : List ℕ) where
       refused : (number : ℕ) → cycleOf requestBytes ≡ noCycle number → Flies requestBytes handedBytes
       refused number q =
           let given = ap (λ (w : Written). w .refusal) (not-planned requestBytes out number q .0) in
-          absurd (omega (arith, no-cycle-number requestBytes number q))
+          absurd (omega (arith, request-number-pos (no-cycle-number requestBytes number q)))

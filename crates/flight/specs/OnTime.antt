@@ -1,5 +1,5 @@
 -- Starts and ends: by capacity every frame's transfers end in it, and so each job keeps to its window and each pair to its order.
-use mathlib.Core.Path.{_≡_, sym, ap, subst, _∙_}
+use mathlib.Core.Path.{_≡_, refl, sym, ap, subst, _∙_}
 use mathlib.Core.Logic.{⊎-elim}
 use mathlib.Core.List.{List, []}
 use Prim.Native.Nat.{ℕ, zero, suc, _+_, _*_, _-_, _/_, _%_, _≤_, _<_}
@@ -26,29 +26,35 @@ use Rattle.flight.specs.Serving.{stands-for-some, served-then, stands-th
 
 -- Inside a frame
 
--- a transfer takes at most its time in a row
-c-fits : (x : Instance) (i : ℕ) → taskAt x i .c ≤ slot (taskAt x i)
+-- the time of a transfer in its row is its C and the silent ticks after it
+slot-is : (x : Instance) (i : ℕ) → slot (x .g) (taskAt x i) ≡ taskAt x i .c + x .g
 unfolding slot
-c-fits x i = omega arith
+slot-is x i = refl
 
 -- an entry starts no later than if all before it took their time in the row
 start-le : (x : Instance) (f : ℕ) (actual : ℕ → ℕ → ℕ) (m : ℕ) (es : List Entry)
-    → ((p : ℕ) → p < length es → actual m p ≤ slotOf x (getD es p noEntry)) → (p : ℕ) → p ≤ length es → start f actual m p ≤ m * f + slotsTo x es p
+    → ((p : ℕ) → p < length es → actual m p + x .g ≤ slotOf x (getD es p noEntry)) → (p : ℕ) → p ≤ length es
+    → start (x .g) f actual m p ≤ m * f + slotsTo x es p
 unfolding start
 start-le x f actual m es fits zero h = omega arith
 start-le x f actual m es fits (suc p) h = omega (arith, start-le x f actual m es fits p (omega arith), fits p h, slotsTo-next x es p h)
 
--- nothing starts before its frame, and what stands later starts later
-frame-begins : (f : ℕ) (actual : ℕ → ℕ → ℕ) (m p : ℕ) → m * f ≤ start f actual m p
+-- what stands next starts when the silent ticks are over
+pub starts-next : (g f : ℕ) (actual : ℕ → ℕ → ℕ) (m p : ℕ) → start g f actual m (suc p) ≡ finish g f actual m p + g
 unfolding start
-frame-begins f actual m zero = omega arith
-frame-begins f actual m (suc p) = omega (arith, frame-begins f actual m p)
+starts-next g f actual m p = refl
 
-one-by-one : (f : ℕ) (actual : ℕ → ℕ → ℕ) (m p q : ℕ) → p < q → finish f actual m p ≤ start f actual m q
+-- nothing starts before its frame, and what stands later starts later
+frame-begins : (g f : ℕ) (actual : ℕ → ℕ → ℕ) (m p : ℕ) → m * f ≤ start g f actual m p
 unfolding start
-one-by-one f actual m p zero h = absurd (omega arith)
-one-by-one f actual m p (suc q) h =
-    ⊎-elim (λ (e : p ≡ q). rw e (omega arith)) (λ (l : p < q). omega (arith, one-by-one f actual m p q l))
+frame-begins g f actual m zero = omega arith
+frame-begins g f actual m (suc p) = omega (arith, frame-begins g f actual m p)
+
+one-by-one : (g f : ℕ) (actual : ℕ → ℕ → ℕ) (m p q : ℕ) → p < q → finish g f actual m p ≤ start g f actual m q
+unfolding start
+one-by-one g f actual m p zero h = absurd (omega arith)
+one-by-one g f actual m p (suc q) h =
+    ⊎-elim (λ (e : p ≡ q). rw e (omega arith)) (λ (l : p < q). omega (arith, one-by-one g f actual m p q l))
     (eq-or-lt-of-le (let k : p ≤ q = omega arith in k))
 
 module _ (x : Instance) (g : Good x) (t : Table) (frames : List ℕ) (v : IsPlan x (t .f) frames) (d : Describes x (t .f) frames t) where
@@ -77,16 +83,16 @@ module _ (x : Instance) (g : Good x) (t : Table) (frames : List ℕ) (v : IsPlan
   -- the frames flown, and the actual times
   module _ (actual : ℕ → ℕ → ℕ) (fr : List (List Entry)) (is : (m : ℕ) → m < length fr → getD fr m [] ≡ plainFrame t m) (keep : KeepToC x fr actual) where
     -- even with its whole C, an entry ends in its frame
-    pub room : (m p : ℕ) → Served fr m p → start (t .f) actual m p + taskAt x (servedAt fr m p .task) .c ≤ (m + 1) * t .f
+    pub room : (m p : ℕ) → Served fr m p → start (x .g) (t .f) actual m p + taskAt x (servedAt fr m p .task) .c ≤ (m + 1) * t .f
     room m p s =
         let es : List Entry = getD fr m [] in
-        let fits : (o : ℕ) → o < length es → actual m o ≤ slotOf x (getD es o noEntry) =
-        λ o h. omega (arith, keep m o (record { frame-flown = s .frame-flown; place-filled = h }), c-fits x (servedAt fr m o .task)) in
-        let before : start (t .f) actual m p ≤ m * t .f + slotsTo x es p = start-le x (t .f) actual m es fits p (omega (arith, s .place-filled)) in
+        let fits : (o : ℕ) → o < length es → actual m o + x .g ≤ slotOf x (getD es o noEntry) =
+        λ o h. omega (arith, keep m o (record { frame-flown = s .frame-flown; place-filled = h }), slot-is x (servedAt fr m o .task)) in
+        let before : start (x .g) (t .f) actual m p ≤ m * t .f + slotsTo x es p = start-le x (t .f) actual m es fits p (omega (arith, s .place-filled)) in
         let fewer : slots x es ≤ slots x (rowOf t (m % height t)) = rw (is m (s .frame-flown)) (slots-served x (ltb m (height t)) (rowOf t (m % height t))) in
         omega (
           arith,
-          c-fits x (servedAt fr m p .task),
+          slot-is x (servedAt fr m p .task),
           slotsTo-next x es p (s .place-filled),
           slotsTo-le x es (suc p),
           row-fits (m % height t) (mod-lt m (some-row x g t frames v d)),
@@ -110,19 +116,19 @@ module _ (x : Instance) (g : Good x) (t : Table) (frames : List ℕ) (v : IsPlan
           let c = ap (λ (z : ℕ). q * z) (whole x g t frames v d) in
           omega arith
 
-      pub after-release : releasedIn x q i j ≤ start (t .f) actual m p
+      pub after-release : releasedIn x q i j ≤ start (x .g) (t .f) actual m p
       after-release =
           let y = started-place in
-          omega (arith, ticks, v .not-early (y .place) (y .within), job-there x g i j y .0, frame-begins (t .f) actual m p)
+          omega (arith, ticks, v .not-early (y .place) (y .within), job-there x g i j y .0, frame-begins (x .g) (t .f) actual m p)
 
       -- even with its whole C it ends by its deadline
-      pub leaves-time : start (t .f) actual m p + taskAt x i .c ≤ dueIn x q i j
+      pub leaves-time : start (x .g) (t .f) actual m p + taskAt x i .c ≤ dueIn x q i j
       leaves-time =
           let its = meant (m / height t) i j q (servedAt fr m p) (s .stands) .task in
           let y = started-place in
           omega (arith, ticks, rw its at (room m p (s .served-there)), v .not-late (y .place) (y .within), job-there x g i j y .1)
 
-      pub before-due : finish (t .f) actual m p ≤ dueIn x q i j
+      pub before-due : finish (x .g) (t .f) actual m p ≤ dueIn x q i j
       before-due =
           let its = meant (m / height t) i j q (servedAt fr m p) (s .stands) .task in
           omega (arith, leaves-time, rw its at (keep m p (s .served-there)))
@@ -182,12 +188,12 @@ module _ (x : Instance) (g : Good x) (t : Table) (frames : List ℕ) (v : IsPlan
       first-starts : Starts (height t) fr a j q first-frame (first-entry .place)
       first-starts = record { served-there = first-served; stands = rw (first-entry .is) (stands-then x g t frames v d a j first-place q) }
 
-      ended-in-earlier : first-frame < m → finish (t .f) actual first-frame (first-entry .place) ≤ start (t .f) actual m p
+      ended-in-earlier : first-frame < m → finish (x .g) (t .f) actual first-frame (first-entry .place) ≤ start (x .g) (t .f) actual m p
       ended-in-earlier l =
           let w : (first-frame + 1) * t .f ≤ m * t .f = mul-le-mul-right (t .f) (let n : first-frame + 1 ≤ m = omega arith in n) in
-          omega (arith, room first-frame (first-entry .place) first-served, keep first-frame (first-entry .place) first-served, frame-begins (t .f) actual m p)
+          omega (arith, room first-frame (first-entry .place) first-served, keep first-frame (first-entry .place) first-served, frame-begins (x .g) (t .f) actual m p)
 
-      ended-in-same : first-frame ≡ m → finish (t .f) actual first-frame (first-entry .place) ≤ start (t .f) actual m p
+      ended-in-same : first-frame ≡ m → finish (x .g) (t .f) actual first-frame (first-entry .place) ≤ start (x .g) (t .f) actual m p
       ended-in-same e =
           let of-a : servedAt fr first-frame (first-entry .place) .task ≡ a =
           meant (first-frame / height t) a j q (servedAt fr first-frame (first-entry .place)) (first-starts .stands) .task in
@@ -196,9 +202,9 @@ module _ (x : Instance) (g : Good x) (t : Table) (frames : List ℕ) (v : IsPlan
           let lower : servedAt fr m (first-entry .place) .task < servedAt fr m p .task = omega (arith, rw e at of-a, of-b, pair .rises) in
           let before : first-entry .place < p =
           rising-before 0 (getD fr m []) (first-entry .place) p rises (rw e at (first-entry .filled)) (s .served-there .place-filled) lower in
-          rw e (one-by-one (t .f) actual m (first-entry .place) p before)
+          rw e (one-by-one (x .g) (t .f) actual m (first-entry .place) p before)
 
-      pub ended : EndedBy (height t) fr (finish (t .f) actual) a j q (start (t .f) actual m p)
+      pub ended : EndedBy (height t) fr (finish (x .g) (t .f) actual) a j q (start (x .g) (t .f) actual m p)
       ended = record {
         m = first-frame;
         p = first-entry .place;

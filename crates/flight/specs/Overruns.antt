@@ -16,7 +16,7 @@ use Rattle.flight.specs.Flight.{plainAfter}
 
 -- 1 for an accepted report above C
 unfoldable pub overrun : Reading → ℕ → ℕ → ℕ
-overrun (readable tasks pairs) task ticks = pick (ltb task (length tasks)) (bit (exceeds tasks task ticks)) 0
+overrun (readable tasks pairs g) task ticks = pick (ltb task (length tasks)) (bit (exceeds tasks task ticks)) 0
 overrun (unreadable n) task ticks = 0
 
 abbrev pub overrunIn : Call → ℕ
@@ -30,7 +30,7 @@ overruns (c ∷ cs) = overrunIn c + overruns cs
 heard-counts : (r : Reading) (task ticks : ℕ) (s : Plain) → s .v ≤ 65535 → heard r task ticks s .after .v ≡ min 65535 (s .v + overrun r task ticks)
 unfolding heard overrun
 heard-counts (unreadable n) task ticks s h = omega arith
-heard-counts (readable tasks pairs) task ticks s h = go (ltb task (length tasks))
+heard-counts (readable tasks pairs g) task ticks s h = go (ltb task (length tasks))
   where
     go : (b : Bool) → pick b (plainTurn 0 (oneHeard (exceeds tasks task ticks) s)) (plainTurn 16 s) .after .v
         ≡ min 65535 (s .v + pick b (bit (exceeds tasks task ticks)) 0)

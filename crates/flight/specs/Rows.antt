@@ -104,7 +104,7 @@ rising-before low (e ∷ es) (suc p) (suc q) r h k l =
 -- The time that entries take
 
 abbrev pub slotOf : Instance → Entry → ℕ
-slotOf x e = slot (taskAt x (e .task))
+slotOf x e = slot (x .g) (taskAt x (e .task))
 
 -- together
 unfoldable pub slots : Instance → List Entry → ℕ

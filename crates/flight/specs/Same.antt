@@ -32,16 +32,16 @@ turnOf F u = record { answer = u .answer; after = stateFor F (u .after) }
 report-same : (F : ℕ) (r : Reading) (i ticks : ℕ) (s : Plain) → reportTurn (reported r i ticks (stateFor F s)) ≡ turnOf F (heard r i ticks s)
 unfolding heard
 report-same F (unreadable n) i ticks s = rw (report-unreadable (unreadable n) i ticks (stateFor F s) n refl)
-report-same F (readable tasks pairs) i ticks s = go (ltb i (length tasks)) refl
+report-same F (readable tasks pairs g) i ticks s = go (ltb i (length tasks)) refl
   where
     r : Reading
-    r = readable tasks pairs
+    r = readable tasks pairs g
 
     go : (b : Bool) → ltb i (length tasks) ≡ b
         → reportTurn (reported r i ticks (stateFor F s))
         ≡ turnOf F (pick (ltb i (length tasks)) (plainTurn 0 (oneHeard (exceeds tasks i ticks) s)) (plainTurn 16 s))
-    go true q = rw (report-counted r i ticks (stateFor F s) tasks pairs refl (ltb-true i (length tasks) q), q)
-    go false q = rw (report-unknown r i ticks (stateFor F s) tasks pairs refl (ltb-false i (length tasks) q), q)
+    go true q = rw (report-counted r i ticks (stateFor F s) tasks pairs g refl (ltb-true i (length tasks) q), q)
+    go false q = rw (report-unknown r i ticks (stateFor F s) tasks pairs g refl (ltb-false i (length tasks) q), q)
 
 module _ (bytes : List ℕ) (t : Table) (says : decode bytes ≡ table t) (pos : 0 < height t) where
   turn-same : (s : Plain) (c : Call) → dispatch bytes (stateFor (height t) s) c ≡ turnOf (height t) (plainly t s c)
@@ -100,7 +100,7 @@ pub record Still (s : Plain) (u : Turn Plain) : Type 0 where
 heard-still : (r : Reading) (i ticks : ℕ) (s : Plain) → Still s (heard r i ticks s)
 unfolding heard
 heard-still (unreadable n) i ticks s = record { same-m = refl; no-frame = λ l. refl }
-heard-still (readable tasks pairs) i ticks s = go (ltb i (length tasks))
+heard-still (readable tasks pairs g) i ticks s = go (ltb i (length tasks))
   where
     go : (b : Bool) → Still s (pick b (plainTurn 0 (oneHeard (exceeds tasks i ticks) s)) (plainTurn 16 s))
     go true = record { same-m = refl; no-frame = λ l. refl }

@@ -18,7 +18,7 @@ use Rattle.flight.specs.Timing.{KeepToC, timesRun}
 use Rattle.flight.specs.Flight.{framesFlown, plainAfter, Flight}
 use Rattle.flight.specs.Same.{all-answers, final-state, framesFrom, framesFrom-length, framesFrom-at, asked, m-after, frames-served}
 use Rattle.flight.specs.Serving.{place-of-job, job-there, some-row, some-length, whole, frame-read-off, runs-from}
-use Rattle.flight.specs.OnTime.{some-job, after-release, before-due, ended}
+use Rattle.flight.specs.OnTime.{starts-next, some-job, after-release, before-due, ended}
 
 module _ (x : Instance) (g : Good x) (bytes : List ℕ) (t : Table) (says : decode bytes ≡ table t)
     (ks : List ℕ) (v : IsPlan x (t .f) ks) (d : Describes x (t .f) ks t) (calls : List Call) where
@@ -53,6 +53,7 @@ module _ (x : Instance) (g : Good x) (bytes : List ℕ) (t : Table) (says : deco
           count-is = ap (λ (s : State). s .count) state;
           frames-are = frames-length ∙ sym m-is;
           each-stands = some-job x g t ks v d actual (framesFlown bytes calls) frame-is keep;
+          silent-between = λ m p s. starts-next (x .g) (t .f) actual m p;
           not-before-release = after-release x g t ks v d actual (framesFlown bytes calls) frame-is keep;
           by-deadline = before-due x g t ks v d actual (framesFlown bytes calls) frame-is keep;
           pairs-keep-order = ended x g t ks v d actual (framesFlown bytes calls) frame-is keep;
@@ -69,12 +70,12 @@ module _ (x : Instance) (g : Good x) (bytes : List ℕ) (t : Table) (says : deco
 
 -- THE THEOREM: for every request within the limits, every table accepted for it, every list of calls and all actual times from 0 to C.
 pub flight : (requestBytes tableBytes : List ℕ) (x : Instance) (t : Table)
-    → cycleOf requestBytes ≡ cycle (x .tasks) (x .pairs) (x .h) (x .jobs) → decode tableBytes ≡ table t → Accepted x t
+    → cycleOf requestBytes ≡ cycle (x .tasks) (x .pairs) (x .g) (x .h) (x .jobs) → decode tableBytes ≡ table t → Accepted x t
     → (calls : List Call) (actual : ℕ → ℕ → ℕ) → KeepToC x (framesFlown tableBytes calls) actual
     → Flight x tableBytes t calls actual
 flight requestBytes tableBytes x t within says a calls actual keep =
     let same : a .f ≡ t .f = sym (a .describes .same-f) in
-    let good : Good x = instance-good (x .tasks) (x .pairs) (x .h) (x .jobs) (cycle-within requestBytes (x .tasks) (x .pairs) (x .h) (x .jobs) within) in
+    let good : Good x = instance-good (x .tasks) (x .pairs) (x .g) (x .h) (x .jobs) (cycle-within requestBytes (x .tasks) (x .pairs) (x .g) (x .h) (x .jobs) within) in
     flies x good tableBytes t says (a .frames)
     (subst (λ (f : ℕ). IsPlan x f (a .frames)) same (a .is-plan))
     (subst (λ (f : ℕ). Describes x f (a .frames) t) same (a .describes))

@@ -28,13 +28,13 @@ pub record Served (frames : List (List Entry)) (m p : ℕ) : Type 0 where
 abbrev pub KeepToC : Instance → List (List Entry) → (ℕ → ℕ → ℕ) → Type 0
 KeepToC x frames actual = (m p : ℕ) → Served frames m p → actual m p ≤ taskAt x (servedAt frames m p .task) .c
 
--- "In frame m (from 0) the first entry served starts at m·f and each next one when the one before ends"
-unfoldable pub start : ℕ → (ℕ → ℕ → ℕ) → ℕ → ℕ → ℕ
-start f actual m zero = m * f
-start f actual m (suc p) = start f actual m p + actual m p
+-- "In frame m (from 0) the first entry served starts at m·f", and "each later entry of a frame start[s] g ticks after the one before ended"
+unfoldable pub start : ℕ → ℕ → (ℕ → ℕ → ℕ) → ℕ → ℕ → ℕ
+start g f actual m zero = m * f
+start g f actual m (suc p) = start g f actual m p + actual m p + g
 
-abbrev pub finish : ℕ → (ℕ → ℕ → ℕ) → ℕ → ℕ → ℕ
-finish f actual m p = start f actual m p + actual m p
+abbrev pub finish : ℕ → ℕ → (ℕ → ℕ → ℕ) → ℕ → ℕ → ℕ
+finish g f actual m p = start g f actual m p + actual m p
 
 -- Job j of task i, of cycle q
 

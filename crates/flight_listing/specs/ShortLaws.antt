@@ -95,7 +95,7 @@ flight-short request = go (outcome request) (outcome-good request)
   where
     go : (o : Outcome) → GoodOutcome o → length (flown o) ≤ 65536
     go (handed t) good = flight-length t good
-    go (refusal number) good = omega (arith, refused-length number (good .1))
+    go (refusal number) good = omega (arith, refused-length number (omega (arith, good .1)))
 
 -- so a buffer of 65,536 bytes or more holds it whole, with the old bytes behind it
 pub flight-whole : (request out new : List ℕ) (end : ℕ) → 65536 ≤ length out → PutIn (flightListing request) out end new

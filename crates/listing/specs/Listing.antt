@@ -52,7 +52,7 @@ tableLines tasks t = headLine (t .f) (t .h) (length (t .rows)) ++ rowLines tasks
 
 -- the tasks of a request
 abbrev pub tasksIn : Reading → List Task
-tasksIn (readable tasks pairs) = tasks
+tasksIn (readable tasks pairs g) = tasks
 tasksIn (unreadable number) = []
 
 -- what is printed for a table, or for a refusal

@@ -117,14 +117,14 @@ module _ (bytes : List ℕ) (r : Request) (e : r ≡ answered (reading bytes)) w
   tasks-are = go (reading bytes) e
     where
       go : (x : Reading) → r ≡ answered x → r .tasks ≡ padded 16 noTask (tasksIn x)
-      go (readable tasks pairs) q = ap (λ (y : Request). y .tasks) q
+      go (readable tasks pairs g) q = ap (λ (y : Request). y .tasks) q
       go (unreadable number) q = ap (λ (y : Request). y .tasks) q
 
   pub tasks-size : length (r .tasks) ≡ 16
   tasks-size = ap length tasks-are ∙ padded-length 16 noTask (tasksIn (reading bytes)) (go (reading bytes) refl)
     where
       go : (x : Reading) → reading bytes ≡ x → length (tasksIn x) ≤ 16
-      go (readable tasks pairs) is = readable-kept bytes tasks pairs is .few-tasks
+      go (readable tasks pairs g) is = readable-kept bytes tasks pairs g is .few-tasks
       go (unreadable number) is = omega arith
 
   pub table-lines : (t : Table) (z : Sizes) → SizesRead t z

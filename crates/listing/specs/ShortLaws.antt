@@ -26,7 +26,7 @@ use Rattle.text.specs.Text.{ascii, PutIn}
 use Rattle.text.specs.TextLaws.{decimal-length, put-whole}
 use Rattle.listing.specs.Listing.{refusedLine, headLine, busyTicks, named, entryText, each, rowLine, rowLines, tableLines, tasksIn, printed, listing}
 
-pub refused-length : (number : ℕ) → number ≤ 10 → length (refusedLine number) ≤ 11
+pub refused-length : (number : ℕ) → number ≤ 99 → length (refusedLine number) ≤ 11
 unfolding refusedLine
 refused-length number h = simp length-append (omega (arith, decimal-length 1 number (omega arith)))
 
@@ -94,7 +94,8 @@ task-small {tasks} w i = go (ltb i (length tasks)) refl
 tasks-small : (request : List ℕ) (t : Table) → outcome request ≡ handed t → (i : ℕ) → getD (tasksIn (reading request)) i noTask .c ≤ 10000
 tasks-small request t e i =
     let (x, is) = handed-cycle request t e in
-    rw (cycle-reading request (x .tasks) (x .pairs) (x .h) (x .jobs) is) (task-small (cycle-within request (x .tasks) (x .pairs) (x .h) (x .jobs) is) i)
+    rw (cycle-reading request (x .tasks) (x .pairs) (x .g) (x .h) (x .jobs) is)
+    (task-small (cycle-within request (x .tasks) (x .pairs) (x .g) (x .h) (x .jobs) is) i)
 
 pub listing-short : (request : List ℕ) → length (listing request) ≤ 4096
 unfolding listing
@@ -102,7 +103,7 @@ listing-short request = go (outcome request) refl (outcome-good request)
   where
     go : (o : Outcome) → outcome request ≡ o → GoodOutcome o → length (printed (tasksIn (reading request)) o) ≤ 4096
     go (handed t) is good = table-length (tasksIn (reading request)) (tasks-small request t is) t good
-    go (refusal number) is good = omega (arith, refused-length number (good .1))
+    go (refusal number) is good = omega (arith, refused-length number (omega (arith, good .1)))
 
 -- so a buffer of 4,096 bytes or more holds it whole, with the old bytes behind it
 pub listing-whole : (request out new : List ℕ) (end : ℕ) → 4096 ≤ length out → PutIn (listing request) out end new

@@ -21,6 +21,7 @@ unfoldable pub instanceOf : Cycle → Instance
 instanceOf c = record {
   tasks = firsts (min (c .n) 16) noTask (c .tasks);
   pairs = firsts (min (c .m) 16) noPair (c .pairs);
+  g = c .g;
   h = c .h;
   jobs = firsts (min (c .count) 128) noJob (c .jobs);
 }
@@ -30,12 +31,12 @@ pub jobs-counted : (c : Cycle) → c .count ≤ 128 → length (instanceOf c .jo
 unfolding instanceOf
 jobs-counted c few = firsts-length noJob (c .jobs) (min (c .count) 128) ∙ omega arith
 
-abbrev pub instance : List Task → List Pair → ℕ → List Job → Instance
-instance tasks pairs h jobs = record { tasks = tasks; pairs = pairs; h = h; jobs = jobs }
+abbrev pub instance : List Task → List Pair → ℕ → ℕ → List Job → Instance
+instance tasks pairs g h jobs = record { tasks = tasks; pairs = pairs; g = g; h = h; jobs = jobs }
 
 -- the cycle of a request within the limits
-module _ (tasks : List Task) (pairs : List Pair) (h : ℕ) (jobs : List Job) (w : WithinLimits tasks pairs h jobs) where
-  pub instance-good : Good (instance tasks pairs h jobs)
+module _ (tasks : List Task) (pairs : List Pair) (g h : ℕ) (jobs : List Job) (w : WithinLimits tasks pairs h jobs) where
+  pub instance-good : Good (instance tasks pairs g h jobs)
   instance-good = record {
     readable = w .readable;
     in-order = w .in-order;
@@ -44,7 +45,7 @@ module _ (tasks : List Task) (pairs : List Pair) (h : ℕ) (jobs : List Job) (w 
     few-jobs = w .jobs-few;
   }
 
-  pub instance-answered : instanceOf (answered (cycle tasks pairs h jobs)) ≡ instance tasks pairs h jobs
+  pub instance-answered : instanceOf (answered (cycle tasks pairs g h jobs)) ≡ instance tasks pairs g h jobs
   unfolding instanceOf listed
   instance-answered =
       let n : min (length tasks) 16 ≡ length tasks = omega (arith, w .readable .few-tasks) in

@@ -11,10 +11,11 @@ use Rattle.cycle.specs.Planned.{noJob}
 use Rattle.cycle.specs.declared.Job.{Job}
 use Rattle.search.specs.Placing.{row-sum}
 
--- what is planned: the tasks and pairs of a request, the length H of its cycle, and the cycle's jobs in planning order
+-- what is planned: the tasks, the pairs and the silent ticks g of a request, the length H of its cycle, and the cycle's jobs in planning order
 pub record Instance : Type 0 where
   pub tasks : List Task
   pub pairs : List Pair
+  pub g : ℕ
   pub h : ℕ
   pub jobs : List Job
 
@@ -31,16 +32,16 @@ jobAt x y = getD (x .jobs) y noJob
 abbrev pub rowsAt : Instance → ℕ → ℕ
 rowsAt x f = x .h / f
 
--- "the C of the jobs in a row": the time that a transfer of the task takes in its row
-unfoldable pub slot : Task → ℕ
-slot task = task .c
+-- "In capacity, and in f ≥ C, each C counts as C + g.": the time that a transfer of the task takes in its row, with the silent ticks after it
+unfoldable pub slot : ℕ → Task → ℕ
+slot g task = task .c + g
 
-unfoldable pub costOf : List Task → Job → ℕ
-costOf tasks job = slot (getD tasks (job .task) noTask)
+unfoldable pub costOf : ℕ → List Task → Job → ℕ
+costOf g tasks job = slot g (getD tasks (job .task) noTask)
 
 -- that of each job
 unfoldable pub costs : Instance → List ℕ
-costs x = map (costOf (x .tasks)) (x .jobs)
+costs x = map (costOf (x .g) (x .tasks)) (x .jobs)
 
 -- the frame of the job at place y
 abbrev pub frameAt : List ℕ → ℕ → ℕ
@@ -61,6 +62,6 @@ pub record IsPlan (x : Instance) (f : ℕ) (frames : List ℕ) : Type 0 where
   -- "Window: k·f ≥ r and (k+1)·f ≤ r + D."
   pub not-early : (y : ℕ) → y < length (x .jobs) → jobAt x y .release ≤ frameAt frames y * f
   pub not-late : (y : ℕ) → y < length (x .jobs) → (frameAt frames y + 1) * f ≤ jobAt x y .due
-  -- "Capacity: the C of the jobs in a row, carried ones included, add up to at most f." A job stands in row k mod F.
+  -- "Capacity: the C of the jobs in a row, carried ones included, add up to at most f.", each C as C + g. A job stands in row k mod F.
   pub capacity : (r : ℕ) → r < rowsAt x f → row-sum (rowsAt x f) (costs x) frames r ≤ f
   pub order : PairsKept x frames

@@ -16,11 +16,11 @@ use Rattle.model.specs.Good.{Good, JobFacts, job-facts, PlaceOf, first-j
 
 pub costs-length : (x : Instance) → length (costs x) ≡ length (x .jobs)
 unfolding costs
-costs-length x = length-map (x .jobs) (costOf (x .tasks))
+costs-length x = length-map (x .jobs) (costOf (x .g) (x .tasks))
 
-pub cost-at : (x : Instance) (y : ℕ) → y < length (x .jobs) → getD (costs x) y 0 ≡ slot (taskAt x (jobAt x y .task))
+pub cost-at : (x : Instance) (y : ℕ) → y < length (x .jobs) → getD (costs x) y 0 ≡ slot (x .g) (taskAt x (jobAt x y .task))
 unfolding costs costOf
-cost-at x y h = map-at (costOf (x .tasks)) 0 noJob (x .jobs) y h
+cost-at x y h = map-at (costOf (x .g) (x .tasks)) 0 noJob (x .jobs) y h
 
 -- the load of a job's row has the job in it
 row-sum-has : (rows : ℕ) (cs ks : List ℕ) (y : ℕ) → y < length cs → y < length ks → getD cs y 0 ≤ row-sum rows cs ks (getD ks y 0 % rows)
@@ -44,11 +44,11 @@ module _ (x : Instance) (g : Good x) (f : ℕ) (frames : List ℕ) (v : IsPlan x
       record { starts = omega (arith, v .not-early y h, facts .released); ends = omega (arith, v .not-late y h, facts .released, facts .due) }
 
   -- a plan's frames have room for every task, since every task has a job
-  pub slot-fits : (i : ℕ) → i < length (x .tasks) → slot (taskAt x i) ≤ f
+  pub slot-fits : (i : ℕ) → i < length (x .tasks) → slot (x .g) (taskAt x i) ≤ f
   slot-fits i known =
       let there : PlaceOf x i 0 = first-job x g i known in
       let y : ℕ = there .place in
-      let cost : getD (costs x) y 0 ≡ slot (taskAt x i) = rw (there .task) at (cost-at x y (there .within)) in
+      let cost : getD (costs x) y 0 ≡ slot (x .g) (taskAt x i) = rw (there .task) at (cost-at x y (there .within)) in
       let r : ℕ = frameAt frames y % rowsAt x f in
       omega (
         arith,

@@ -8,15 +8,15 @@ use Rattle.arith.specs.Gcd.{gcdOf}
 use Rattle.request.specs.declared.Task.{Task}
 use Rattle.model.specs.Plan.{Instance, rowsAt, slot}
 
--- "f ≥ every C, and 2f − gcd(f, T) ≤ D for every task": for one task
-unfoldable pub frameRule : ℕ → Task → Bool
-frameRule f task = both (leb (slot task) f) (leb (2 * f) (task .d + gcdOf f (task .t)))
+-- "f ≥ every C, and 2f − gcd(f, T) ≤ D for every task", C counting as C + g: for one task
+unfoldable pub frameRule : ℕ → ℕ → Task → Bool
+frameRule g f task = both (leb (slot g task) f) (leb (2 * f) (task .d + gcdOf f (task .t)))
 
 -- for all of them
-unfoldable pub frameRules : ℕ → List Task → Bool
-frameRules f [] = true
-frameRules f (task ∷ tasks) = both (frameRule f task) (frameRules f tasks)
+unfoldable pub frameRules : ℕ → ℕ → List Task → Bool
+frameRules g f [] = true
+frameRules g f (task ∷ tasks) = both (frameRule g f task) (frameRules g f tasks)
 
 -- "f is plausible if it divides H, H/f ≤ 256, f ≥ every C, and 2f − gcd(f, T) ≤ D for every task"
 unfoldable pub plausible : Instance → ℕ → Bool
-plausible x f = both (ltb 0 f) (both (eqb (x .h % f) 0) (both (leb (rowsAt x f) 256) (frameRules f (x .tasks))))
+plausible x f = both (ltb 0 f) (both (eqb (x .h % f) 0) (both (leb (rowsAt x f) 256) (frameRules (x .g) f (x .tasks))))

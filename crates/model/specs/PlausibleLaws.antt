@@ -22,9 +22,9 @@ use Rattle.model.specs.Phase.{EveryWindowHolds, plausible-necessary}
 use Rattle.model.specs.Good.{Good, PlaceOf, place-of}
 use Rattle.model.specs.PlanLaws.{length-pos, in-window, slot-fits}
 
--- "f ≥ every C, and 2f − gcd(f, T) ≤ D for every task": for one task
-pub record FrameRule (f : ℕ) (task : Task) : Type 0 where
-  pub room : slot task ≤ f
+-- "f ≥ every C, and 2f − gcd(f, T) ≤ D for every task", C counting as C + g: for one task
+pub record FrameRule (g f : ℕ) (task : Task) : Type 0 where
+  pub room : slot g task ≤ f
   pub frame : 2 * f ≤ task .d + gcdOf f (task .t)
 
 -- what the test says
@@ -32,37 +32,37 @@ pub record IsPlausible (x : Instance) (f : ℕ) : Type 0 where
   pub some : 0 < f
   pub divides : f ∣ x .h
   pub few-rows : rowsAt x f ≤ 256
-  pub rule : (i : ℕ) → i < length (x .tasks) → FrameRule f (taskAt x i)
+  pub rule : (i : ℕ) → i < length (x .tasks) → FrameRule (x .g) f (taskAt x i)
 
-module _ (f : ℕ) where
-  rule-says : (task : Task) → frameRule f task ≡ true → FrameRule f task
+module _ (g f : ℕ) where
+  rule-says : (task : Task) → frameRule g f task ≡ true → FrameRule g f task
   unfolding frameRule
   rule-says task e =
-      let b = both-true (leb (slot task) f) _ e in
-      record { room = leb-true (slot task) f (b .0); frame = leb-true (2 * f) (task .d + gcdOf f (task .t)) (b .1) }
+      let b = both-true (leb (slot g task) f) _ e in
+      record { room = leb-true (slot g task) f (b .0); frame = leb-true (2 * f) (task .d + gcdOf f (task .t)) (b .1) }
 
-  says-rule : (task : Task) → FrameRule f task → frameRule f task ≡ true
+  says-rule : (task : Task) → FrameRule g f task → frameRule g f task ≡ true
   unfolding frameRule
-  says-rule task v = rw (le-leb (slot task) f (v .room)) (le-leb (2 * f) (task .d + gcdOf f (task .t)) (v .frame))
+  says-rule task v = rw (le-leb (slot g task) f (v .room)) (le-leb (2 * f) (task .d + gcdOf f (task .t)) (v .frame))
 
-  rules-say : (tasks : List Task) → frameRules f tasks ≡ true → (i : ℕ) → i < length tasks → FrameRule f (getD tasks i noTask)
+  rules-say : (tasks : List Task) → frameRules g f tasks ≡ true → (i : ℕ) → i < length tasks → FrameRule g f (getD tasks i noTask)
   unfolding frameRules
   rules-say [] e i h = absurd (omega arith)
-  rules-say (task ∷ tasks) e zero h = rule-says task (both-true (frameRule f task) (frameRules f tasks) e .0)
-  rules-say (task ∷ tasks) e (suc i) h = rules-say tasks (both-true (frameRule f task) (frameRules f tasks) e .1) i (omega arith)
+  rules-say (task ∷ tasks) e zero h = rule-says task (both-true (frameRule g f task) (frameRules g f tasks) e .0)
+  rules-say (task ∷ tasks) e (suc i) h = rules-say tasks (both-true (frameRule g f task) (frameRules g f tasks) e .1) i (omega arith)
 
-  say-rules : (tasks : List Task) → ((i : ℕ) → i < length tasks → FrameRule f (getD tasks i noTask)) → frameRules f tasks ≡ true
+  say-rules : (tasks : List Task) → ((i : ℕ) → i < length tasks → FrameRule g f (getD tasks i noTask)) → frameRules g f tasks ≡ true
   unfolding frameRules
   say-rules [] v = refl
   say-rules (task ∷ tasks) v = rw (says-rule task (v 0 (omega arith))) (say-rules tasks (λ i h. v (suc i) (omega arith)))
 
 -- the rules, a task at a time
-module _ (f : ℕ) (tasks : List Task) (i : ℕ) where
-  pub rules-end : length tasks ≤ i → frameRules f (drop i tasks) ≡ true
+module _ (g f : ℕ) (tasks : List Task) (i : ℕ) where
+  pub rules-end : length tasks ≤ i → frameRules g f (drop i tasks) ≡ true
   unfolding frameRules
   rules-end h = rw (drop-of-length-le tasks h)
 
-  pub rules-next : i < length tasks → frameRules f (drop i tasks) ≡ both (frameRule f (getD tasks i noTask)) (frameRules f (drop (i + 1) tasks))
+  pub rules-next : i < length tasks → frameRules g f (drop i tasks) ≡ both (frameRule g f (getD tasks i noTask)) (frameRules g f (drop (i + 1) tasks))
   unfolding frameRules
   rules-next h = rw (add-one i, drop-cons tasks i noTask h)
 
@@ -77,14 +77,14 @@ module _ (x : Instance) (f : ℕ) where
         some = ltb-true 0 f (b .0);
         divides = dvd-of-mod-eq-zero f (eqb-true (x .h % f) 0 (c .0));
         few-rows = leb-true (rowsAt x f) 256 (d .0);
-        rule = rules-say f (x .tasks) (d .1);
+        rule = rules-say (x .g) f (x .tasks) (d .1);
       }
 
   pub says-plausible : IsPlausible x f → plausible x f ≡ true
   unfolding plausible
   says-plausible v =
       rw (lt-ltb 0 f (v .some), eq-eqb (x .h % f) 0 (mod-eq-zero-of-dvd f (v .divides)), le-leb (rowsAt x f) 256 (v .few-rows))
-      (say-rules f (x .tasks) (v .rule))
+      (say-rules (x .g) f (x .tasks) (v .rule))
 
 -- "This is necessary for a plan"
 pub plausible-needed : (x : Instance) → Good x → (f : ℕ) (frames : List ℕ) → IsPlan x f frames → plausible x f ≡ true

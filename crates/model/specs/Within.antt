@@ -6,30 +6,30 @@ use mathlib.Core.Logic.{_⊎_, inl, inr}
 use native.Mathlib.Omega.{arith}
 use Rattle.cycle.specs.Cycle.{Cycle, cycle, noCycle, cycleOf}
 use Rattle.cycle.specs.Answers.{answered}
-use Rattle.cycle.specs.LimitLaws.{WithinLimits, cycle-within, no-cycle-number}
+use Rattle.cycle.specs.LimitLaws.{WithinLimits, cycle-within, no-cycle-number, request-number-pos}
 use Rattle.cycle.specs.declared.Cycle as answer
 use Rattle.model.specs.Plan.{Instance}
 use Rattle.model.specs.Good.{Good}
 use Rattle.model.specs.Answers.{instance, instanceOf, instance-good, instance-answered}
 
 -- "A request is within the limits if its bytes have the form under Request file with no bytes behind it, H is at most 10,000 and there are at
--- most 128 jobs.": they give the tasks, the pairs, H and the jobs of x
+-- most 128 jobs.": they give the tasks, the pairs, the silent ticks, H and the jobs of x
 abbrev pub Within : List ℕ → Instance → Type 0
-Within request x = cycleOf request ≡ cycle (x .tasks) (x .pairs) (x .h) (x .jobs)
+Within request x = cycleOf request ≡ cycle (x .tasks) (x .pairs) (x .g) (x .h) (x .jobs)
 
 module _ (request : List ℕ) where
   pub within-limits : (x : Instance) → Within request x → WithinLimits (x .tasks) (x .pairs) (x .h) (x .jobs)
-  within-limits x w = cycle-within request (x .tasks) (x .pairs) (x .h) (x .jobs) w
+  within-limits x w = cycle-within request (x .tasks) (x .pairs) (x .g) (x .h) (x .jobs) w
 
   pub within-good : (x : Instance) → Within request x → Good x
-  within-good x w = instance-good (x .tasks) (x .pairs) (x .h) (x .jobs) (within-limits x w)
+  within-good x w = instance-good (x .tasks) (x .pairs) (x .g) (x .h) (x .jobs) (within-limits x w)
 
   -- within the limits, or refused with a number
   pub within-or-not : ((x : Instance) × Within request x) ⊎ ((number : ℕ) × (cycleOf request ≡ noCycle number))
   within-or-not = go (cycleOf request) refl
     where
       go : (c : Cycle) → cycleOf request ≡ c → ((x : Instance) × Within request x) ⊎ ((number : ℕ) × (cycleOf request ≡ noCycle number))
-      go (cycle tasks pairs h jobs) e = inl (instance tasks pairs h jobs, e)
+      go (cycle tasks pairs g h jobs) e = inl (instance tasks pairs g h jobs, e)
       go (noCycle number) e = inr (number, e)
 
 -- What the answer of reading a request tells: what is planned, and that it is within the limits; or the number of the refusal.
@@ -45,21 +45,22 @@ module _ (request : List ℕ) (c : answer.Cycle) (is : c ≡ answered (cycleOf r
   read-within z = go (cycleOf request) refl is
     where
       go : (d : Cycle) → cycleOf request ≡ d → c ≡ answered d → Taken request c
-      go (cycle tasks pairs h jobs) e q =
-          let w = cycle-within request tasks pairs h jobs e in
-          let same : instanceOf c ≡ instance tasks pairs h jobs = ap instanceOf q ∙ instance-answered tasks pairs h jobs w in
+      go (cycle tasks pairs g h jobs) e q =
+          let w = cycle-within request tasks pairs g h jobs e in
+          let same : instanceOf c ≡ instance tasks pairs g h jobs = ap instanceOf q ∙ instance-answered tasks pairs g h jobs w in
           record {
-            within = e ∙ ap (λ (x : Instance). cycle (x .tasks) (x .pairs) (x .h) (x .jobs)) (sym same);
-            good = subst Good (sym same) (instance-good tasks pairs h jobs w);
+            within = e ∙ ap (λ (x : Instance). cycle (x .tasks) (x .pairs) (x .g) (x .h) (x .jobs)) (sym same);
+            good = subst Good (sym same) (instance-good tasks pairs g h jobs w);
             few-tasks = omega (arith, ap (λ (d : answer.Cycle). d .n) q, w .readable .few-tasks);
             few-pairs = omega (arith, ap (λ (d : answer.Cycle). d .m) q, w .readable .few-pairs);
             few-jobs = omega (arith, ap (λ (d : answer.Cycle). d .count) q, w .jobs-few);
           }
-      go (noCycle number) e q = let pos = no-cycle-number request number e in absurd (omega (arith, ap (λ (d : answer.Cycle). d .refusal) q))
+      go (noCycle number) e q =
+          absurd (omega (arith, ap (λ (d : answer.Cycle). d .refusal) q, request-number-pos (no-cycle-number request number e)))
 
   pub read-refused : (c .refusal ≡ 0 → ⊥) → cycleOf request ≡ noCycle (c .refusal)
   read-refused ne = go (cycleOf request) refl is
     where
       go : (d : Cycle) → cycleOf request ≡ d → c ≡ answered d → cycleOf request ≡ noCycle (c .refusal)
-      go (cycle tasks pairs h jobs) e q = absurd (ne (ap (λ (d : answer.Cycle). d .refusal) q))
+      go (cycle tasks pairs g h jobs) e q = absurd (ne (ap (λ (d : answer.Cycle). d .refusal) q))
       go (noCycle number) e q = e ∙ ap noCycle (sym (ap (λ (d : answer.Cycle). d .refusal) q))

@@ -9,26 +9,26 @@ ghost use Rattle.model.specs.Plan.{slot};
 ghost use Rattle.model.specs.Plausible.{frameRules, plausible};
 ghost use Rattle.model.specs.Answers.{instanceOf};
 
-// The time that a transfer of the task takes in its row.
-pub fn slot(task: Task) -> u32
-    ensures { λ r. ⌜ r ≡ slot task ⌝ }
+// The time that a transfer of the task takes in its row, with the g silent ticks after it.
+pub fn slot(g: u8, task: Task) -> u32
+    ensures { λ r. ⌜ r ≡ slot g task ⌝ }
 {
-    task.c as u32
+    (task.c as u32) + (g as u32)
 }
 
-// f ≥ C and 2f − gcd(f, T) ≤ D for the first n tasks.
-fn frame_rules(tasks: [Task; 16], n: usize, f: u16) -> bool
+// f ≥ C + g and 2f − gcd(f, T) ≤ D for the first n tasks.
+fn frame_rules(tasks: [Task; 16], n: usize, g: u8, f: u16) -> bool
     requires { ⌜ n ≤ 16 ⌝ }
-    ensures { λ r. ⌜ r ≡ frameRules f (firsts n noTask tasks) ⌝ }
+    ensures { λ r. ⌜ r ≡ frameRules g f (firsts n noTask tasks) ⌝ }
 {
     let mut i: usize = 0;
     while i < n {
         let x = tasks[i];
-        if (f as u32) < slot(x) {
+        if (f as u32) < slot(g, x) {
             return false;
         }
-        let g = arith::gcd(f, x.t);
-        if (x.d as u32) + (g as u32) < 2 * (f as u32) {
+        let common = arith::gcd(f, x.t);
+        if (x.d as u32) + (common as u32) < 2 * (f as u32) {
             return false;
         }
         i += 1;
@@ -51,5 +51,5 @@ pub fn plausible(cycle: Cycle, f: u16) -> bool
     }
     let tasks = cycle.tasks;
     let n = arith::at_most(cycle.n, 16);
-    frame_rules(tasks, n, f)
+    frame_rules(tasks, n, cycle.g, f)
 }

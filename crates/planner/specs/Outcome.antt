@@ -16,7 +16,7 @@ byChoice x noPlausible = refusal 9
 
 -- "The planner visits 1 to 11": the request, its cycle, the choice; 11 is the writer's
 abbrev pub inCycle : Cycle → Outcome
-inCycle (cycle tasks pairs h jobs) = byChoice (instance tasks pairs h jobs) (choose (instance tasks pairs h jobs))
+inCycle (cycle tasks pairs g h jobs) = byChoice (instance tasks pairs g h jobs) (choose (instance tasks pairs g h jobs))
 inCycle (noCycle number) = refusal number
 
 unfoldable pub outcome : List ℕ → Outcome

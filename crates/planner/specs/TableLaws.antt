@@ -12,7 +12,7 @@ use borrow.Author.Tests.{le-ltb, ltb-false}
 use Rattle.cursor.specs.Choice.{pick}
 use Rattle.cursor.specs.ParsedLaws.{never}
 use Rattle.cycle.specs.Cycle.{Cycle, cycle, noCycle, cycleOf}
-use Rattle.cycle.specs.LimitLaws.{cycle-within, no-cycle-number}
+use Rattle.cycle.specs.LimitLaws.{cycle-within, no-cycle-number, request-number-pos, request-number-few}
 use Rattle.table.specs.Table.{Table, encode}
 use Rattle.table.specs.WellFormed.{WellFormed}
 use Rattle.table.specs.Layout as table
@@ -35,7 +35,7 @@ pub record GoodTable (t : Table) : Type 0 where
 
 abbrev pub GoodOutcome : Outcome → Type 0
 GoodOutcome (handed t) = GoodTable t
-GoodOutcome (refusal number) = (0 < number) × (number ≤ 10)
+GoodOutcome (refusal number) = (0 < number) × (number ≤ 17)
 
 pub outcome-good : (request : List ℕ) → GoodOutcome (outcome request)
 unfolding outcome RightChoice
@@ -53,12 +53,12 @@ outcome-good request = by-cycle (cycleOf request) refl
     by-choice x good few noPlausible r = (omega arith, omega arith)
 
     by-cycle : (c : Cycle) → cycleOf request ≡ c → GoodOutcome (inCycle c)
-    by-cycle (cycle tasks pairs h jobs) e =
-        let within = cycle-within request tasks pairs h jobs e in
-        let x = instance tasks pairs h jobs in
-        let good = instance-good tasks pairs h jobs within in
+    by-cycle (cycle tasks pairs g h jobs) e =
+        let within = cycle-within request tasks pairs g h jobs e in
+        let x = instance tasks pairs g h jobs in
+        let good = instance-good tasks pairs g h jobs within in
         by-choice x good (within .h-few) (choose x) (choose-right x good)
-    by-cycle (noCycle number) e = let range = no-cycle-number request number e in (omega arith, omega arith)
+    by-cycle (noCycle number) e = let own = no-cycle-number request number e in (request-number-pos own, request-number-few own)
 
 -- a table that fits is written, with the old bytes behind it
 module _ (t : Table) (out : List ℕ) (fits : length (encode t) ≤ length out) where
@@ -115,5 +115,5 @@ unfolding outcome
 handed-cycle request t e = go (cycleOf request) refl e
   where
     go : (c : Cycle) → cycleOf request ≡ c → inCycle c ≡ handed t → (x : Instance) × Within request x
-    go (cycle tasks pairs h jobs) is q = (instance tasks pairs h jobs, is)
+    go (cycle tasks pairs g h jobs) is q = (instance tasks pairs g h jobs, is)
     go (noCycle number) is q = absurd (never (cc))

@@ -46,16 +46,17 @@ module _ (number : Job → ℕ) (jobs : List Job) where
   pub all-numbers : (y n : ℕ) → y ≤ n → n ≤ y → numbers y ≡ numbers n
   all-numbers y n l g = let e : y ≡ n = omega arith in rw e
 
--- a task that is not known costs nothing
-module _ (places : List Task) (n : ℕ) (job : Job) where
-  pub cost-unknown : n ≤ job .task → 0 ≡ costOf (firsts n noTask places) job
+-- a task that is not known takes no time but the silent ticks
+module _ (g : ℕ) (places : List Task) (n : ℕ) (job : Job) where
+  pub cost-unknown : n ≤ job .task → g ≡ costOf g (firsts n noTask places) job
   unfolding costOf slot
   cost-unknown h =
-      sym (ap (λ (x : Task). x .c) (List·getD-eq-default (firsts n noTask places) noTask {n = job .task} (omega (arith, firsts-length noTask places n))))
+      omega arith
+      ∙ sym (ap (slot g) (List·getD-eq-default (firsts n noTask places) noTask {n = job .task} (omega (arith, firsts-length noTask places n))))
 
-  pub cost-known : job .task < n → slot (getD places (job .task) noTask) ≡ costOf (firsts n noTask places) job
+  pub cost-known : job .task < n → slot g (getD places (job .task) noTask) ≡ costOf g (firsts n noTask places) job
   unfolding costOf
-  cost-known h = sym (ap slot (getD-firsts noTask places n (job .task) h))
+  cost-known h = sym (ap (slot g) (getD-firsts noTask places n (job .task) h))
 
 -- frames of length 0 have no number but 0
 module _ (f : ℕ) (job : Job) where

@@ -217,7 +217,7 @@ same-links x z e q (suc n) y = rw (same-links x z e q n (y + 1), e, q)
 -- the jobs and the pairs in the first places of two arrays
 module _ (jobs : List Job) (n : ℕ) (pairs : List Pair) (m : ℕ) where
   abbrev pub linking : Instance
-  linking = instance [] (firsts m noPair pairs) 0 (firsts n noJob jobs)
+  linking = instance [] (firsts m noPair pairs) 0 0 (firsts n noJob jobs)
 
   -- the links of one job more
   pub job-linked : n ≤ 128 → m ≤ 16 → (y : ℕ) (counts places : List ℕ) → LinksSoFar linking y counts places → y < n → (after : List ℕ) (count : ℕ)

@@ -25,17 +25,17 @@ enum LinkFound {
     NoLink,
 }
 
-// The slot of the job's task, 0 where that is not one of the n tasks.
-fn cost(tasks: [Task; 16], n: usize, job: Job) -> u32
+// The slot of the job's task, the silent ticks alone where that is not one of the n tasks.
+fn cost(tasks: [Task; 16], n: usize, g: u8, job: Job) -> u32
     requires { ⌜ n ≤ 16 ⌝ }
-    ensures { λ r. ⌜ r ≡ costOf (firsts n noTask tasks) job ⌝ }
+    ensures { λ r. ⌜ r ≡ costOf g (firsts n noTask tasks) job ⌝ }
 {
     let i = job.task as usize;
     if n <= i {
-        return 0;
+        return g as u32;
     }
     let x = tasks[i];
-    model::slot(x)
+    model::slot(g, x)
 }
 
 // The time that each job takes in its row.
@@ -44,13 +44,14 @@ pub fn costs(cycle: Cycle) -> [u32; 128]
 {
     let tasks = cycle.tasks;
     let jobs = cycle.jobs;
+    let g = cycle.g;
     let n = arith::at_most(cycle.n, 16);
     let count = arith::at_most(cycle.count, 128);
     let mut out = [0u32; 128];
     let mut y: usize = 0;
     while y < count {
         let job = jobs[y];
-        out[y] = cost(tasks, n, job);
+        out[y] = cost(tasks, n, g, job);
         y += 1;
     }
     out

@@ -1,4 +1,4 @@
-// Runs the reading of requests on byte strings of every kind that 01's rows 1 to 8 refuse, and prints the number that each gets
+// Runs the reading of requests on byte strings of every kind that 1 to 8 and 17 refuse, and prints the number that each gets
 // (0: none). The file `stdout` beside src/ has the numbers that they must get.
 use libc::STDOUT_FILENO;
 
@@ -47,7 +47,7 @@ fn show_tasks() {
     );
 }
 
-// 4 to 6: the pairs and what follows them.
+// 4 and 5: the pairs.
 fn show_pairs() {
     show(b"17 pairs", b"\x01\x01\x00\x0a\x00\x0a\x00\x00\x00\x11");
     show(
@@ -70,13 +70,49 @@ fn show_pairs() {
         b"a pair twice",
         b"\x02\x01\x00\x0a\x00\x0a\x00\x00\x00\x01\x00\x0a\x00\x0a\x00\x00\x00\x02\x00\x01\x00\x01",
     );
+}
+
+// 17 and 6: the third section and what follows it.
+fn show_silent() {
     show(
-        b"a byte behind no pairs",
+        b"a third section of no byte",
         b"\x01\x01\x00\x0a\x00\x0a\x00\x00\x00\x00\x00",
     );
     show(
-        b"a byte behind a pair",
-        b"\x02\x01\x00\x0a\x00\x0a\x00\x00\x00\x01\x00\x0a\x00\x0a\x00\x00\x00\x01\x00\x01\x00",
+        b"15 silent ticks",
+        b"\x01\x01\x00\x0a\x00\x0a\x00\x00\x00\x00\x01\x0f",
+    );
+    show(
+        b"a third section that ends at its count",
+        b"\x01\x01\x00\x0a\x00\x0a\x00\x00\x00\x00\x01",
+    );
+    show(
+        b"a third section of two bytes",
+        b"\x01\x01\x00\x0a\x00\x0a\x00\x00\x00\x00\x02\x00\x00",
+    );
+    show(
+        b"a count of 255 alone, behind a pair",
+        b"\x02\x01\x00\x0a\x00\x0a\x00\x00\x00\x01\x00\x0a\x00\x0a\x00\x00\x00\x01\x00\x01\xff",
+    );
+    show(
+        b"16 silent ticks",
+        b"\x01\x01\x00\x0a\x00\x0a\x00\x00\x00\x00\x01\x10",
+    );
+    show(
+        b"16 silent ticks and a byte behind them",
+        b"\x01\x01\x00\x0a\x00\x0a\x00\x00\x00\x00\x01\x10\x00",
+    );
+    show(
+        b"a byte behind a third section of no byte",
+        b"\x01\x01\x00\x0a\x00\x0a\x00\x00\x00\x00\x00\x00",
+    );
+    show(
+        b"a byte behind 15 silent ticks",
+        b"\x01\x01\x00\x0a\x00\x0a\x00\x00\x00\x00\x01\x0f\x00",
+    );
+    show(
+        b"a byte behind a pair and no silent ticks",
+        b"\x02\x01\x00\x0a\x00\x0a\x00\x00\x00\x01\x00\x0a\x00\x0a\x00\x00\x00\x01\x00\x01\x01\x00\x00",
     );
 }
 
@@ -106,5 +142,6 @@ fn main() {
     show_counts();
     show_tasks();
     show_pairs();
+    show_silent();
     show_cycles();
 }

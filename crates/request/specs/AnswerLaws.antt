@@ -7,7 +7,7 @@ use lib.ListN.{length, getD}
 use Rattle.cursor.specs.Padded.{getD-padded}
 use Rattle.request.specs.Request.{Reading, readable, unreadable, reading, noTask}
 use Rattle.request.specs.Answers.{answered}
-use Rattle.request.specs.Readable.{Readable, readable-kept, unreadable-number}
+use Rattle.request.specs.Readable.{Readable, readable-kept, unreadable-number, unread-pos}
 use Rattle.request.specs.declared.Task.{Task}
 use Rattle.request.specs.declared.Pair.{Pair}
 use Rattle.request.specs.declared.Request.{Request}
@@ -16,7 +16,8 @@ use Rattle.request.specs.declared.Request.{Request}
 pub record WasRead (bytes : List ℕ) (r : Request) : Type 0 where
   pub tasks : List Task
   pub pairs : List Pair
-  pub is : reading bytes ≡ readable tasks pairs
+  pub g : ℕ
+  pub is : reading bytes ≡ readable tasks pairs g
   pub kept : Readable tasks pairs
   pub n-is : r .n ≡ length tasks
   pub task-is : (i : ℕ) → i < length tasks → getD (r .tasks) i noTask ≡ getD tasks i noTask
@@ -26,21 +27,22 @@ module _ (bytes : List ℕ) (r : Request) (e : r ≡ answered (reading bytes)) w
   was-read z = go (reading bytes) refl e
     where
       go : (x : Reading) → reading bytes ≡ x → r ≡ answered x → WasRead bytes r
-      go (readable tasks pairs) is q = record {
+      go (readable tasks pairs g) is q = record {
         tasks = tasks;
         pairs = pairs;
+        g = g;
         is = is;
-        kept = readable-kept bytes tasks pairs is;
+        kept = readable-kept bytes tasks pairs g is;
         n-is = ap (λ (y : Request). y .n) q;
         task-is = λ i h. rw q (getD-padded 16 noTask tasks i h);
       }
       go (unreadable number) is q =
-          let positive = unreadable-number bytes number is in
+          let positive = unread-pos (unreadable-number bytes number is) in
           absurd (omega (arith, ap (λ (y : Request). y .refusal) q))
 
   pub not-read : (r .refusal ≡ 0 → ⊥) → reading bytes ≡ unreadable (r .refusal)
   not-read ne = go (reading bytes) refl e
     where
       go : (x : Reading) → reading bytes ≡ x → r ≡ answered x → reading bytes ≡ unreadable (r .refusal)
-      go (readable tasks pairs) is q = absurd (ne (ap (λ (y : Request). y .refusal) q))
+      go (readable tasks pairs g) is q = absurd (ne (ap (λ (y : Request). y .refusal) q))
       go (unreadable number) is q = is ∙ rw q

@@ -1,5 +1,5 @@
 -- The answers of the reading functions, as values of their types: a number where the definition refuses, and lists in arrays of 16.
-use Prim.Native.Nat.{ℕ, _+_, _*_}
+use Prim.Native.Nat.{ℕ, _+_, _-_, _*_}
 use mathlib.Core.List.{List}
 use lib.ListN.{length, replicate}
 use Rattle.cursor.specs.Parsed.{Parsed, got, refused}
@@ -11,6 +11,7 @@ use Rattle.request.specs.declared.Pair.{Pair}
 use Rattle.request.specs.declared.Request.{Request}
 use Rattle.request.specs.declared.TaskSection.{TaskSection}
 use Rattle.request.specs.declared.PairSection.{PairSection}
+use Rattle.request.specs.declared.SilentSection.{SilentSection}
 use Rattle.request.specs.declared.TaskRead.{TaskRead}
 use Rattle.request.specs.declared.TaskRead.the-variants.{OneTask, NoTask}
 use Rattle.request.specs.declared.PairRead.{PairRead}
@@ -55,10 +56,19 @@ noTasks number = taskSection (refused number)
 abbrev pub noPairs : ℕ → PairSection
 noPairs number = pairSection (refused number)
 
+abbrev pub noSilent : ℕ → SilentSection
+noSilent number = record { refusal = number; g = 0; end = 0 }
+
+-- the third section of some bytes, which ends where the bytes behind it begin
+abbrev pub silentSection : List ℕ → Parsed ℕ → SilentSection
+silentSection bytes (got g rest) = record { refusal = 0; g = g; end = length bytes - length rest }
+silentSection bytes (refused number) = noSilent number
+
 abbrev pub unread : ℕ → Request
-unread number = record { refusal = number; n = 0; tasks = replicate 16 noTask; m = 0; pairs = replicate 16 noPair }
+unread number = record { refusal = number; n = 0; tasks = replicate 16 noTask; m = 0; pairs = replicate 16 noPair; g = 0 }
 
 -- the reading of a request as the function's answer
 abbrev pub answered : Reading → Request
-answered (readable tasks pairs) = record { refusal = 0; n = length tasks; tasks = padded 16 noTask tasks; m = length pairs; pairs = padded 16 noPair pairs }
+answered (readable tasks pairs g) =
+    record { refusal = 0; n = length tasks; tasks = padded 16 noTask tasks; m = length pairs; pairs = padded 16 noPair pairs; g = g }
 answered (unreadable number) = unread number

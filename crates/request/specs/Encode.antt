@@ -1,5 +1,6 @@
 -- The bytes of a request, in the words of 01's 'Request file'.
-use Prim.Native.Nat.{ℕ}
+use Prim.Native.Nat.{ℕ, zero, suc}
+use mathlib.Core.Path.{_≡_}
 use mathlib.Core.List.{List, [], _∷_, _++_, flatMap}
 use lib.ListN.{length}
 use Rattle.cursor.specs.Fields.{wordBytes}
@@ -18,6 +19,21 @@ pairBytes q = q .a ∷ q .b ∷ []
 unfoldable pub sectionBytes : {A : Type 0} → (A → List ℕ) → List A → List ℕ
 sectionBytes write xs = length xs ∷ flatMap write xs
 
+-- "a count 0 or 1, then that many bytes"; "A g of 0 is written by leaving the third section out."
+unfoldable pub silentBytes : ℕ → List ℕ
+silentBytes zero = []
+silentBytes (suc g) = 1 ∷ suc g ∷ []
+
+-- the bytes that say g: a g of 0 may also be written as a section of no byte, or of the byte 0
+pub data SaysSilent (g : ℕ) (bytes : List ℕ) : Type 0 where
+  left-out : g ≡ 0 → bytes ≡ [] → SaysSilent g bytes
+  no-byte : g ≡ 0 → bytes ≡ 0 ∷ [] → SaysSilent g bytes
+  one-byte : bytes ≡ 1 ∷ g ∷ [] → SaysSilent g bytes
+
+-- the sections that every request has
+abbrev pub twoSections : List Task → List Pair → List ℕ
+twoSections tasks pairs = sectionBytes taskBytes tasks ++ sectionBytes pairBytes pairs
+
 -- "Sections stand in a fixed order, each after its count. First: task count n .. Second: pair count"
-unfoldable pub requestBytes : List Task → List Pair → List ℕ
-requestBytes tasks pairs = sectionBytes taskBytes tasks ++ sectionBytes pairBytes pairs
+unfoldable pub requestBytes : List Task → List Pair → ℕ → List ℕ
+requestBytes tasks pairs g = sectionBytes taskBytes tasks ++ sectionBytes pairBytes pairs ++ silentBytes g

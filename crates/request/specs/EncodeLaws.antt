@@ -1,13 +1,18 @@
--- Reading a request and writing it undo each other, and no request is the beginning of another: cut short it is refused with 1, and with
--- bytes behind it with 6. Each record by itself, then a section, one law for both, then the whole.
-use Prim.Native.Nat.{ℕ, _<_}
-use mathlib.Core.Path.{_≡_, sym, _∙_}
+-- Reading a request and writing it undo each other, but for the ways to write a g of 0. Cut short a request is refused with 1, unless its third
+-- section alone is cut off, and with bytes behind that section with 6. Each record by itself, then a section, one law for the first two, then the whole.
+use Prim.Native.Nat.{ℕ, zero, suc, _+_, _-_, _≤_, _<_}
+use mathlib.Core.Path.{_≡_, refl, sym, ap, _∙_}
 use mathlib.Core.Bool.{Bool, true}
+use mathlib.Core.Logic.{_⊎_, inl, inr}
 use mathlib.Core.List.{List, [], _∷_, _++_, append-nil, append-assoc}
-use lib.ListN.{length, getD, take}
+use native.Mathlib.Omega.{arith}
+use lib.ListN.{length, getD, take, length-append}
+use lib.Seq.{take-append-le, take-append-add, take-append-seam}
+use lib.Dec.{leb}
 use borrow.Author.Tests.{le-leb, lt-ltb, eq-eqb}
 use Rattle.cursor.specs.Parsed.{Parsed, got, refused, then, records}
-use Rattle.cursor.specs.ParsedLaws.{never}
+use Rattle.cursor.specs.ParsedLaws.{never, rule-got}
+use Rattle.cursor.specs.ChoiceLaws.{lt-or-ge}
 use Rattle.cursor.specs.Fields.{byteOf, wordOf}
 use Rattle.cursor.specs.Front.{Bytes, Front, front-then, byte-front, byte-read, word-read, records-front, records-read}
 use Rattle.cursor.specs.OwnBytes.{OwnBytes, ByOwnBytes, value-own, rule-own, byte-own, word-own, then-own, records-own}
@@ -24,15 +29,17 @@ use Rattle.request.specs.Request.{
   pairOf,
   pairCount,
   pairsOf,
+  silentOf,
   section,
+  ended,
   afterTasks,
   reading,
   readable,
   unreadable,
 }
-use Rattle.request.specs.Encode.{taskBytes, pairBytes, sectionBytes, requestBytes}
+use Rattle.request.specs.Encode.{taskBytes, pairBytes, sectionBytes, silentBytes, SaysSilent, left-out, no-byte, one-byte, twoSections, requestBytes}
 use Rattle.request.specs.SectionLaws.{section-steps}
-use Rattle.request.specs.Readable.{TaskKept, PairKept, Readable, task-read, pair-read, reading-sections}
+use Rattle.request.specs.Readable.{TaskKept, PairKept, Readable, task-read, pair-read, reading-sections, readable-kept, silent-few}
 use Rattle.request.specs.declared.Task.{Task}
 use Rattle.request.specs.declared.Pair.{Pair}
 
@@ -125,7 +132,7 @@ sections-own : ByOwnBytes 1 (λ bytes. then (tasksOf bytes) pairsOf)
 unfolding tasksOf pairsOf
 sections-own = then-own 1 tasksOf pairsOf (section-own taskCount taskOf 2 task-own) (λ tasks. section-own pairCount (pairOf tasks) 4 (pair-own tasks))
 
--- what is read, by the second section
+-- what is read, by the first two sections
 module _ (bytes : List ℕ) where
   reading-refused : (number : ℕ) → then (tasksOf bytes) pairsOf ≡ refused number → reading bytes ≡ unreadable number
   unfolding reading
@@ -135,41 +142,123 @@ module _ (bytes : List ℕ) where
       go (got tasks rest) f = rw f
       go (refused m) f = let same : m ≡ number = cc in rw same
 
-  reading-followed : (pairs : List Pair) (b : ℕ) (rest : List ℕ) → then (tasksOf bytes) pairsOf ≡ got pairs (b ∷ rest) → reading bytes ≡ unreadable 6
+-- The third section, of bytes that say g.
+
+pub silent-says : (g : ℕ) → SaysSilent g (silentBytes g)
+unfolding silentBytes
+silent-says zero = left-out refl refl
+silent-says (suc g) = one-byte refl
+
+silent-said : (bytes : List ℕ) (g : ℕ) → silentOf bytes ≡ got g [] → SaysSilent g bytes
+unfolding silentOf byteOf
+silent-said [] g e = left-out (cc) refl
+silent-said (zero ∷ rest) g e = let none : rest ≡ [] = cc in no-byte (cc) (rw none)
+silent-said (suc zero ∷ []) g e = absurd (never (cc))
+silent-said (suc zero ∷ (x ∷ rest)) g e =
+    let r = rule-got (leb x 15) (got x rest) 17 g [] e .1 in
+    let same : x ≡ g = cc in
+    let none : rest ≡ [] = cc in
+    one-byte (rw (same, none))
+silent-said (suc (suc n) ∷ rest) g e = absurd (never (cc))
+
+module _ (g : ℕ) where
+  silent-back : g ≤ 15 → (bytes : List ℕ) → SaysSilent g bytes → silentOf bytes ≡ got g []
+  unfolding silentOf byteOf
+  silent-back few bytes (left-out z e) = rw (e, z)
+  silent-back few bytes (no-byte z e) = rw (e, z)
+  silent-back few bytes (one-byte e) = rw (e, le-leb g 15 few)
+
+  silent-followed : g ≤ 15 → (bytes : List ℕ) → SaysSilent g bytes → 0 < length bytes → (rest : List ℕ) → silentOf (bytes ++ rest) ≡ got g rest
+  unfolding silentOf byteOf
+  silent-followed few bytes (left-out z e) some rest = absurd (omega (arith, ap length e))
+  silent-followed few bytes (no-byte z e) some rest = rw (e, z)
+  silent-followed few bytes (one-byte e) some rest = rw (e, le-leb g 15 few)
+
+  silent-cut : (bytes : List ℕ) → SaysSilent g bytes → (i : ℕ) → 0 < i → i < length bytes → silentOf (take i bytes) ≡ refused 1
+  unfolding silentOf byteOf
+  silent-cut bytes (left-out z e) i some short = absurd (omega (arith, ap length e))
+  silent-cut bytes (no-byte z e) i some short = absurd (omega (arith, ap length e))
+  silent-cut bytes (one-byte e) i some short = let one : i ≡ 1 = omega (arith, ap length e) in rw (e, one)
+
+-- The first two sections, of a request that keeps the form.
+module _ (tasks : List Task) (pairs : List Pair) (kept : Readable tasks pairs) where
+  -- What follows the pairs is judged as the third section.
+  pub read-behind : (rest : List ℕ) → reading (twoSections tasks pairs ++ rest) ≡ ended tasks pairs (silentOf rest)
   unfolding reading
-  reading-followed pairs b rest e = go (tasksOf bytes) e
-    where
-      go : (r : Parsed (List Task)) → then r pairsOf ≡ got pairs (b ∷ rest) → afterTasks r ≡ unreadable 6
-      go (got tasks tail) f = rw f
-      go (refused m) f = absurd (never (cc))
+  read-behind rest =
+      rw (
+        append-assoc (sectionBytes taskBytes tasks) (sectionBytes pairBytes pairs) rest,
+        tasks-back tasks pairs kept (sectionBytes pairBytes pairs ++ rest),
+        pairs-back tasks pairs kept rest,
+      )
+
+  own : OwnBytes 1 (λ bytes. then (tasksOf bytes) pairsOf) (twoSections tasks pairs) pairs []
+  own =
+      let second : pairsOf tasks (sectionBytes pairBytes pairs) ≡ got pairs [] = rw append-nil at (pairs-back tasks pairs kept []) in
+      sections-own (twoSections tasks pairs) pairs [] (rw (tasks-back tasks pairs kept (sectionBytes pairBytes pairs), second))
+
+  cut-in-two : (k : ℕ) → k < length (twoSections tasks pairs) → reading (take k (twoSections tasks pairs)) ≡ unreadable 1
+  cut-in-two k h =
+      let all-own : own .own ≡ twoSections tasks pairs = sym (append-nil (own .own)) ∙ own .whole in
+      reading-refused (take k (twoSections tasks pairs)) 1 (rw all-own at (own .cut) k h)
 
 -- A request that keeps the form is read back from its bytes.
-pub read-encode : (tasks : List Task) (pairs : List Pair) → Readable tasks pairs → reading (requestBytes tasks pairs) ≡ readable tasks pairs
-unfolding reading requestBytes
-read-encode tasks pairs kept =
-    let second : pairsOf tasks (sectionBytes pairBytes pairs) ≡ got pairs [] = rw append-nil at (pairs-back tasks pairs kept []) in
-    rw (tasks-back tasks pairs kept (sectionBytes pairBytes pairs), second)
+pub read-encode : (tasks : List Task) (pairs : List Pair) (g : ℕ) → Readable tasks pairs → g ≤ 15
+    → reading (requestBytes tasks pairs g) ≡ readable tasks pairs g
+unfolding requestBytes
+read-encode tasks pairs g kept few =
+    read-behind tasks pairs kept (silentBytes g) ∙ ap (ended tasks pairs) (silent-back g few (silentBytes g) (silent-says g))
 
-module _ (bytes : List ℕ) (tasks : List Task) (pairs : List Pair) (e : reading bytes ≡ readable tasks pairs) where
+-- the bytes are the two sections and bytes that say g
+pub record Written (bytes : List ℕ) (tasks : List Task) (pairs : List Pair) (g : ℕ) : Type 0 where
+  pub third : List ℕ
+  pub says : SaysSilent g third
+  pub whole : twoSections tasks pairs ++ third ≡ bytes
+
+module _ (bytes : List ℕ) (tasks : List Task) (pairs : List Pair) (g : ℕ) (e : reading bytes ≡ readable tasks pairs g) (k : Bytes bytes) where
   -- A request that is read has these bytes.
-  pub encode-read : Bytes bytes → requestBytes tasks pairs ≡ bytes
-  unfolding requestBytes
-  encode-read k =
-      let h = reading-sections bytes tasks pairs e in
+  pub encode-read : Written bytes tasks pairs g
+  encode-read =
+      let h = reading-sections bytes tasks pairs g e in
       let first = tasks-front bytes tasks (h .behind) (h .first) k in
-      let second = pairs-front tasks (h .behind) pairs [] (h .second) (first .bytes-behind) in
-      rw append-nil at (front-then first second .whole)
+      let second = pairs-front tasks (h .behind) pairs (h .last) (h .second) (first .bytes-behind) in
+      record { third = h .last; says = silent-said (h .last) g (h .third); whole = front-then first second .whole }
 
-  own : OwnBytes 1 (λ bytes. then (tasksOf bytes) pairsOf) bytes pairs []
-  own = let h = reading-sections bytes tasks pairs e in sections-own bytes pairs [] (rw (h .first) (h .second))
+  kept : Readable tasks pairs
+  kept = readable-kept bytes tasks pairs g e
 
-  all-own : own .own ≡ bytes
-  all-own = sym (append-nil (own .own)) ∙ own .whole
+  -- 1: bytes end inside a section or before its count; the third section alone may be left out
+  pub cut-short : (j : ℕ) → j < length bytes → (j ≡ length (twoSections tasks pairs) → ⊥) → reading (take j bytes) ≡ unreadable 1
+  cut-short j h ne = let w = encode-read in rw (← w .whole) (go (w .third) (w .says) (omega (arith, ap length (w .whole), length-append two (w .third))) (lt-or-ge j (length two)))
+    where
+      two : List ℕ
+      two = twoSections tasks pairs
 
-  -- 1: bytes end inside a section or before its count
-  pub cut-short : (k : ℕ) → k < length bytes → reading (take k bytes) ≡ unreadable 1
-  cut-short k h = reading-refused (take k bytes) 1 (rw all-own at (own .cut) k h)
+      go : (third : List ℕ) → SaysSilent g third → j < length two + length third → (j < length two) ⊎ (length two ≤ j)
+          → reading (take j (two ++ third)) ≡ unreadable 1
+      go third says short (inl within) = rw (take-append-le j two third (omega arith)) (cut-in-two tasks pairs kept j within)
+      go third says short (inr past) =
+          let i = j - length two in
+          let place : j ≡ length two + i = omega arith in
+          ap (λ (x : ℕ). reading (take x (two ++ third))) place
+          ∙ ap reading (take-append-add two third i)
+          ∙ read-behind tasks pairs kept (take i third)
+          ∙ ap (ended tasks pairs) (silent-cut g third says i (omega arith) (omega arith))
 
-  -- 6: bytes follow the last pair
-  pub too-long : (b : ℕ) (rest : List ℕ) → reading (bytes ++ (b ∷ rest)) ≡ unreadable 6
-  too-long b rest = reading-followed (bytes ++ (b ∷ rest)) pairs b rest (rw all-own at (own .any-behind) (b ∷ rest))
+  pub cut-before-third : reading (take (length (twoSections tasks pairs)) bytes) ≡ readable tasks pairs 0
+  unfolding silentOf
+  cut-before-third =
+      let w = encode-read in
+      let two = twoSections tasks pairs in
+      rw (← w .whole, take-append-seam two (w .third)) (rw append-nil at (read-behind tasks pairs kept []))
+
+  -- 6: bytes follow the third section
+  pub too-long : length (twoSections tasks pairs) < length bytes → (b : ℕ) (rest : List ℕ) → reading (bytes ++ (b ∷ rest)) ≡ unreadable 6
+  too-long more b rest =
+      let w = encode-read in
+      let two = twoSections tasks pairs in
+      let some : 0 < length (w .third) = omega (arith, ap length (w .whole), length-append two (w .third)) in
+      rw (← w .whole, append-assoc two (w .third) (b ∷ rest)) (
+      read-behind tasks pairs kept (w .third ++ (b ∷ rest))
+      ∙ ap (ended tasks pairs) (silent-followed g (silent-few bytes tasks pairs g e) (w .third) (w .says) some (b ∷ rest))
+      )

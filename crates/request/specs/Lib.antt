@@ -1,6 +1,7 @@
 pub mod Request
 pub mod Encode
 pub mod Answers
+pub mod SilentLaws
 pub mod ReadingLaws
 pub mod SectionLaws
 pub mod Readable

@@ -1,9 +1,10 @@
 -- What a readable request keeps: the form under 01's 'Request file', as facts. Crates above go by these.
--- A request that was read has its two sections, and each record of a section keeps its rule and stands in the bytes as it is written.
+-- A request that was read has its sections, and each record of a section keeps its rule and stands in the bytes as it is written.
 use Prim.Native.Nat.{ℕ, _≤_, _<_}
 use mathlib.Core.Path.{_≡_, refl, sym, ap, _∙_}
 use mathlib.Core.Bool.{true}
 use mathlib.Core.List.{List, [], _∷_}
+use mathlib.Core.Logic.{_⊎_, inl, inr, ⊎-elim}
 use native.Mathlib.Omega.{arith}
 use lib.ListN.{length, getD}
 use lib.Dec.{leb, ltb}
@@ -26,7 +27,9 @@ use Rattle.request.specs.Request.{
   pairOf,
   pairCount,
   pairsOf,
+  silentOf,
   ended,
+  afterPairs,
   afterTasks,
   reading,
   readable,
@@ -34,6 +37,7 @@ use Rattle.request.specs.Request.{
 }
 use Rattle.request.specs.Encode.{taskBytes, pairBytes}
 use Rattle.request.specs.ReadingLaws.{TaskNumber, PairNumber}
+use Rattle.request.specs.SilentLaws.{SilentRead, silent-section}
 use Rattle.request.specs.SectionLaws.{Section, count-some, tasks-section, pairs-section, section-steps, section-each}
 use Rattle.request.specs.declared.Task.{Task}
 use Rattle.request.specs.declared.Pair.{Pair}
@@ -119,53 +123,86 @@ pair-read tasks bytes q rest e =
           front-then a (byte-front 1 (s1 .tail) (s2 .value) (s2 .tail) (s2 .first) (a .bytes-behind) .1);
     })
 
--- the two sections of a readable request
-pub record Sections (bytes : List ℕ) (tasks : List Task) (pairs : List Pair) : Type 0 where
+-- the three sections of a readable request
+pub record Sections (bytes : List ℕ) (tasks : List Task) (pairs : List Pair) (g : ℕ) : Type 0 where
   pub behind : List ℕ
+  pub last : List ℕ
   pub first : tasksOf bytes ≡ got tasks behind
-  pub second : pairsOf tasks behind ≡ got pairs []
+  pub second : pairsOf tasks behind ≡ got pairs last
+  pub third : silentOf last ≡ got g []
 
-module _ (bytes : List ℕ) (tasks : List Task) (pairs : List Pair) where
-  pub reading-sections : reading bytes ≡ readable tasks pairs → Sections bytes tasks pairs
+module _ (bytes : List ℕ) (tasks : List Task) (pairs : List Pair) (g : ℕ) where
+  pub reading-sections : reading bytes ≡ readable tasks pairs g → Sections bytes tasks pairs g
   unfolding reading
   reading-sections e = go (tasksOf bytes) refl e
     where
-      at-end : (ts : List Task) (r : Parsed (List Pair)) → ended ts r ≡ readable tasks pairs → (ts ≡ tasks) × (r ≡ got pairs [])
-      at-end ts (got ps []) f = let same : ps ≡ pairs = cc in (cc, rw same)
-      at-end ts (got ps (b ∷ rest)) f = absurd (never (cc))
-      at-end ts (refused number) f = absurd (never (cc))
+      at-end : (ts : List Task) (ps : List Pair) (r : Parsed ℕ) → ended ts ps r ≡ readable tasks pairs g → (ts ≡ tasks) × (ps ≡ pairs) × (r ≡ got g [])
+      at-end ts ps (got x []) f = let same : x ≡ g = cc in (cc, cc, rw same)
+      at-end ts ps (got x (b ∷ rest)) f = absurd (never (cc))
+      at-end ts ps (refused number) f = absurd (never (cc))
 
-      go : (r : Parsed (List Task)) → tasksOf bytes ≡ r → afterTasks r ≡ readable tasks pairs → Sections bytes tasks pairs
-      go (got ts rest) q f =
-          let h = at-end ts (pairsOf ts rest) f in
-          record { behind = rest; first = q ∙ ap (λ (l : List Task). got l rest) (h .0); second = ap (λ (l : List Task). pairsOf l rest) (sym (h .0)) ∙ h .1 }
-      go (refused number) q f = absurd (never (cc))
+      behind-first : (ts : List Task) (rest : List ℕ) → tasksOf bytes ≡ got ts rest → (r : Parsed (List Pair)) → pairsOf ts rest ≡ r
+          → afterPairs ts r ≡ readable tasks pairs g → Sections bytes tasks pairs g
+      behind-first ts rest p (got ps tail) q f =
+          let h = at-end ts ps (silentOf tail) f in
+          record {
+            behind = rest;
+            last = tail;
+            first = p ∙ ap (λ (l : List Task). got l rest) (h .0);
+            second = ap (λ (l : List Task). pairsOf l rest) (sym (h .0)) ∙ q ∙ ap (λ (l : List Pair). got l tail) (h .1);
+            third = h .2;
+          }
+      behind-first ts rest p (refused number) q f = absurd (never (cc))
 
-  -- Every readable request keeps the form.
-  pub readable-kept : reading bytes ≡ readable tasks pairs → Readable tasks pairs
-  unfolding tasksOf pairsOf
-  readable-kept e =
-      let h = reading-sections e in
-      let some = count-some (length tasks) (section-steps taskCount taskOf 2 bytes tasks (h .behind) (h .first) .allowed) in
-      record {
-        some-task = some .0;
-        few-tasks = some .1;
-        few-pairs = leb-true (length pairs) 16 (section-steps pairCount (pairOf tasks) 4 (h .behind) pairs [] (h .second) .allowed);
-        task = section-each taskCount taskOf 2 bytes tasks (h .behind) noTask TaskKept (λ b x r e. task-read b x r e .kept) (h .first);
-        pair = section-each pairCount (pairOf tasks) 4 (h .behind) pairs [] noPair (PairKept tasks) (λ b q r e. pair-read tasks b q r e .kept) (h .second);
-      }
+      go : (r : Parsed (List Task)) → tasksOf bytes ≡ r → afterTasks r ≡ readable tasks pairs g → Sections bytes tasks pairs g
+      go (got ts rest) p f = behind-first ts rest p (pairsOf ts rest) refl f
+      go (refused number) p f = absurd (never (cc))
 
--- The number of a refusal is from 1 to 6.
-pub unreadable-number : (bytes : List ℕ) (number : ℕ) → reading bytes ≡ unreadable number → (1 ≤ number) × (number ≤ 6)
+  module _ (e : reading bytes ≡ readable tasks pairs g) where
+    h : Sections bytes tasks pairs g
+    h = reading-sections e
+
+    -- Every readable request keeps the form.
+    pub readable-kept : Readable tasks pairs
+    unfolding tasksOf pairsOf
+    readable-kept =
+        let some = count-some (length tasks) (section-steps taskCount taskOf 2 bytes tasks (h .behind) (h .first) .allowed) in
+        record {
+          some-task = some .0;
+          few-tasks = some .1;
+          few-pairs = leb-true (length pairs) 16 (section-steps pairCount (pairOf tasks) 4 (h .behind) pairs (h .last) (h .second) .allowed);
+          task = section-each taskCount taskOf 2 bytes tasks (h .behind) noTask TaskKept (λ b x r e. task-read b x r e .kept) (h .first);
+          pair = section-each pairCount (pairOf tasks) 4 (h .behind) pairs (h .last) noPair (PairKept tasks) (λ b q r e. pair-read tasks b q r e .kept) (h .second);
+        }
+
+    -- "g from 0 to 15"
+    pub silent-few : g ≤ 15
+    silent-few = let known : SilentRead (h .last) (got g []) = rw (h .third) at (silent-section (h .last)) in known .0
+
+-- The number of a refusal is from 1 to 6, or 17.
+abbrev pub UnreadNumber : ℕ → Type 0
+UnreadNumber number = ((1 ≤ number) × (number ≤ 6)) ⊎ (number ≡ 17)
+
+pub unread-pos : {number : ℕ} → UnreadNumber number → 1 ≤ number
+unread-pos (inl n) = n .0
+unread-pos (inr n) = omega arith
+
+pub unreadable-number : (bytes : List ℕ) (number : ℕ) → reading bytes ≡ unreadable number → UnreadNumber number
 unfolding reading
 unreadable-number bytes number e = first (tasksOf bytes) (tasks-section bytes) e
   where
-    second : (ts : List Task) (rest : List ℕ) (r : Parsed (List Pair)) → Section PairNumber pairCount 2 rest r → ended ts r ≡ unreadable number
-        → (1 ≤ number) × (number ≤ 6)
-    second ts rest (got ps []) k f = absurd (never (cc))
-    second ts rest (got ps (b ∷ tail)) k f = let six : 6 ≡ number = cc in omega arith
-    second ts rest (refused m) k f = let same : m ≡ number = cc in omega arith
+    third : (ts : List Task) (ps : List Pair) (rest : List ℕ) (r : Parsed ℕ) → SilentRead rest r → ended ts ps r ≡ unreadable number → UnreadNumber number
+    third ts ps rest (got g []) k f = absurd (never (cc))
+    third ts ps rest (got g (b ∷ tail)) k f = let six : 6 ≡ number = cc in inl (omega arith, omega arith)
+    third ts ps rest (refused m) k f =
+        let same : m ≡ number = cc in
+        ⊎-elim (λ (one : m ≡ 1). inl (omega arith, omega arith)) (λ (last : m ≡ 17). inr (omega arith)) k
 
-    first : (r : Parsed (List Task)) → Section TaskNumber taskCount 8 bytes r → afterTasks r ≡ unreadable number → (1 ≤ number) × (number ≤ 6)
+    second : (ts : List Task) (rest : List ℕ) (r : Parsed (List Pair)) → Section PairNumber pairCount 2 rest r → afterPairs ts r ≡ unreadable number
+        → UnreadNumber number
+    second ts rest (got ps tail) k f = third ts ps tail (silentOf tail) (silent-section tail) f
+    second ts rest (refused m) k f = let same : m ≡ number = cc in inl (omega (arith, k), omega (arith, k))
+
+    first : (r : Parsed (List Task)) → Section TaskNumber taskCount 8 bytes r → afterTasks r ≡ unreadable number → UnreadNumber number
     first (got ts rest) h f = second ts rest (pairsOf ts rest) (pairs-section ts rest) f
-    first (refused m) h f = let same : m ≡ number = cc in omega arith
+    first (refused m) h f = let same : m ≡ number = cc in inl (omega (arith, h), omega (arith, h))

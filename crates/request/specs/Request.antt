@@ -1,5 +1,5 @@
 -- The request file: what its bytes say, or the number that they are refused with.
-use Prim.Native.Nat.{ℕ}
+use Prim.Native.Nat.{ℕ, zero, suc}
 use mathlib.Core.List.{List, [], _∷_}
 use mathlib.Core.Bool.{Bool}
 use lib.ListN.{length, getD}
@@ -65,21 +65,33 @@ pairCount m = leb m 16
 unfoldable pub pairsOf : List Task → List ℕ → Parsed (List Pair)
 pairsOf tasks bytes = section pairCount (pairOf tasks) 4 bytes
 
--- what the bytes of a request say: its tasks and pairs, or the number from 1 to 6 of its refusal
+-- "a third section: a count 0 or 1, then that many bytes: g from 0 to 15, the silent ticks after every transfer, and 0 with a count of 0.
+-- A file that ends after its pairs means g = 0"; 17: "a count above 1 or a g above 15"
+unfoldable pub silentOf : List ℕ → Parsed ℕ
+silentOf [] = got 0 []
+silentOf (zero ∷ rest) = got 0 rest
+silentOf (suc zero ∷ rest) = then (byteOf 1 rest) (λ g rest. pick (leb g 15) (got g rest) (refused 17))
+silentOf (suc (suc n) ∷ rest) = refused 17
+
+-- what the bytes of a request say: its tasks, its pairs and its silent ticks g, or the number of its refusal, from 1 to 6 or 17
 pub data Reading : Type 0 where
-  readable : List Task → List Pair → Reading
+  readable : List Task → List Pair → ℕ → Reading
   unreadable : ℕ → Reading
 
--- 6: bytes follow the last pair
-abbrev pub ended : List Task → Parsed (List Pair) → Reading
-ended tasks (got pairs []) = readable tasks pairs
-ended tasks (got pairs (b ∷ rest)) = unreadable 6
-ended tasks (refused number) = unreadable number
+-- "Number 6 now applies behind this section."
+abbrev pub ended : List Task → List Pair → Parsed ℕ → Reading
+ended tasks pairs (got g []) = readable tasks pairs g
+ended tasks pairs (got g (b ∷ rest)) = unreadable 6
+ended tasks pairs (refused number) = unreadable number
+
+abbrev pub afterPairs : List Task → Parsed (List Pair) → Reading
+afterPairs tasks (got pairs rest) = ended tasks pairs (silentOf rest)
+afterPairs tasks (refused number) = unreadable number
 
 abbrev pub afterTasks : Parsed (List Task) → Reading
-afterTasks (got tasks rest) = ended tasks (pairsOf tasks rest)
+afterTasks (got tasks rest) = afterPairs tasks (pairsOf tasks rest)
 afterTasks (refused number) = unreadable number
 
--- the first section, and the second from the bytes behind it
+-- the first section, and each other one from the bytes behind the one before
 unfoldable pub reading : List ℕ → Reading
 reading bytes = afterTasks (tasksOf bytes)

@@ -16,12 +16,15 @@ use Rattle.cursor.specs.Fields.{byteOf}
 use Rattle.cursor.specs.Widths.{Wide, byte-wide, records-wide, records-count}
 use Rattle.cursor.specs.RecordLaws.{SoFar, all-records, records-each}
 use Rattle.cursor.specs.Padded.{padded, padded-length, take-padded}
-use Rattle.request.specs.Request.{section, taskCount, taskOf, tasksOf, pairCount, pairOf, pairsOf, reading, ended, afterTasks, readable, unreadable, noTask, noPair}
-use Rattle.request.specs.Answers.{sectionAnswer, taskAnswer, taskSection, pairAnswer, pairSection, unread, answered}
+use Rattle.request.specs.Request.{section, taskCount, taskOf, tasksOf, pairCount, pairOf, pairsOf, silentOf, reading, ended, afterPairs, afterTasks, noTask, noPair}
+use Rattle.request.specs.Answers.{sectionAnswer, taskAnswer, taskSection, pairAnswer, pairSection, silentSection, unread, answered}
 use Rattle.request.specs.declared.Task.{Task}
+use Rattle.request.specs.declared.Pair.{Pair}
 use Rattle.request.specs.declared.Request.{Request}
 use Rattle.request.specs.declared.TaskSection.{TaskSection}
 use Rattle.request.specs.declared.PairSection.{PairSection}
+use Rattle.request.specs.declared.SilentSection.{SilentSection}
+use Rattle.request.specs.SilentLaws.{SilentRead, silent-section, silent-number-pos}
 use Rattle.request.specs.ReadingLaws.{TaskNumber, PairNumber, task-wide, pair-wide}
 
 -- a section that was read: its count was let through, and it ends within the bytes, where its count says
@@ -169,11 +172,21 @@ refused-first s a e ne =
     let r = section-refused taskAnswer (λ x. x .refusal) (λ number n xs end. refl) noTask 8 (tasksOf s) (λ z. ne (number ∙ z)) in
     rw number (sym (ap (λ (x : Parsed (List Task)). answered (afterTasks x)) r))
 
+-- What is known of the second section once its answer has no refusal number: the request is what the bytes behind it make it.
+pub record SecondSection (s : List ℕ) (a : TaskSection) (b : PairSection) : Type 0 where
+  pub first : FirstSection s a
+  pub pairs : List Pair
+  pub rest : List ℕ
+  pub is : reading s ≡ ended (first .tasks) pairs (silentOf rest)
+  pub answer : b ≡ pairSection (got pairs rest)
+  pub within : a .end + b .end ≤ length s
+  pub behind : drop (a .end + b .end) s ≡ rest
+
 module _ (s : List ℕ) (a : TaskSection) (h : FirstSection s a) (b : PairSection) (e : b ≡ pairSection (pairsOf (take (a .n) (a .tasks)) (drop (a .end) s))) where
   b-is : b ≡ pairSection (pairsOf (h .tasks) (h .rest))
   b-is = e ∙ rw (h .listed, h .behind)
 
-  whole : reading s ≡ ended (h .tasks) (pairsOf (h .tasks) (h .rest))
+  whole : reading s ≡ afterPairs (h .tasks) (pairsOf (h .tasks) (h .rest))
   unfolding reading
   whole = ap afterTasks (h .is)
 
@@ -182,38 +195,58 @@ module _ (s : List ℕ) (a : TaskSection) (h : FirstSection s a) (b : PairSectio
   refused-second ne =
       let number = ap (λ (x : PairSection). x .refusal) b-is in
       let r = section-refused pairAnswer (λ x. x .refusal) (λ number m xs end. refl) noPair 2 (pairsOf (h .tasks) (h .rest)) (λ z. ne (number ∙ z)) in
-      rw number (sym (ap answered (whole ∙ ap (ended (h .tasks)) r)))
+      rw number (sym (ap answered (whole ∙ ap (afterPairs (h .tasks)) r)))
 
-  module _ (z : b .refusal ≡ 0) where
-    second : SectionOf pairCount 2 (h .rest) (pairsOf (h .tasks) (h .rest))
-    second =
-        section-got pairAnswer (λ x. x .refusal) (λ number m xs end. refl) noPair 2 PairNumber (λ k. omega arith) pairCount (h .rest)
-        (pairsOf (h .tasks) (h .rest)) (pairs-section (h .tasks) (h .rest)) (ap (λ (x : PairSection). x .refusal) (sym b-is) ∙ z)
+  pub second-section : b .refusal ≡ 0 → SecondSection s a b
+  second-section z =
+      let r = section-got pairAnswer (λ x. x .refusal) (λ number m xs end. refl) noPair 2 PairNumber (λ k. omega arith) pairCount (h .rest)
+      (pairsOf (h .tasks) (h .rest)) (pairs-section (h .tasks) (h .rest)) (ap (λ (x : PairSection). x .refusal) (sym b-is) ∙ z) in
+      let answer : b ≡ pairSection (got (r .items) (r .rest)) = b-is ∙ ap pairSection (r .is) in
+      let end : b .end ≡ 1 + 2 * length (r .items) = ap (λ (x : PairSection). x .end) answer in
+      let size : length (h .rest) ≡ length s - a .end = rw (← h .behind, length-drop) refl in
+      record {
+        first = h;
+        pairs = r .items;
+        rest = r .rest;
+        is = whole ∙ ap (afterPairs (h .tasks)) (r .is);
+        answer = answer;
+        within = omega (arith, h .within, r .read .within);
+        behind = sym (drop-drop (b .end) (a .end) s) ∙ ap (drop (b .end)) (h .behind) ∙ ap (λ (k : ℕ). drop k (h .rest)) end ∙ sym (r .read .behind);
+      }
 
-    b-got : b ≡ pairSection (got (second .items) (second .rest))
-    b-got = b-is ∙ ap pairSection (second .is)
+-- the third section, from the bytes behind the second
+module _ (s : List ℕ) (a : TaskSection) (b : PairSection) (k : SecondSection s a b) (c : SilentSection)
+    (e : c ≡ silentSection (drop (a .end + b .end) s) (silentOf (drop (a .end + b .end) s))) where
+  c-is : c ≡ silentSection (k .rest) (silentOf (k .rest))
+  c-is = rw (k .behind) at e
 
-    left : length (second .rest) ≡ length s - a .end - b .end
-    left =
-        let end : b .end ≡ 1 + 2 * length (second .items) = ap (λ (x : PairSection). x .end) b-got in
-        let tail : length (second .rest) ≡ length (drop (1 + 2 * length (second .items)) (h .rest)) = ap length (second .read .behind) in
-        let size : length (h .rest) ≡ length s - a .end = rw (← h .behind, length-drop) refl in
-        omega (arith, tail, length-drop (1 + 2 * length (second .items)) (h .rest))
+  size : length (k .rest) ≡ length s - (a .end + b .end)
+  size = rw (← k .behind, length-drop) refl
 
-    -- bytes follow
-    pub bytes-follow : b .end < length s - a .end → unread 6 ≡ answered (reading s)
-    bytes-follow more = sym (ap answered (whole ∙ ap (ended (h .tasks)) (second .is) ∙ go (second .rest) (omega (arith, left))))
-      where
-        go : (l : List ℕ) → 0 < length l → ended (h .tasks) (got (second .items) l) ≡ unreadable 6
-        go [] pos = absurd (omega arith)
-        go (x ∷ l) pos = refl
+  -- the request is refused in its third section
+  pub refused-third : (c .refusal ≡ 0 → ⊥) → unread (c .refusal) ≡ answered (reading s)
+  refused-third ne = go (silentOf (k .rest)) c-is (k .is)
+    where
+      go : (r : Parsed ℕ) → c ≡ silentSection (k .rest) r → reading s ≡ ended (k .first .tasks) (k .pairs) r → unread (c .refusal) ≡ answered (reading s)
+      go (got g l) q is = absurd (ne (rw q))
+      go (refused number) q is = rw (q, is)
 
-    -- the request is read
-    pub all-read : length s - a .end ≤ b .end
-        → _≡_ {A = Request} (record { refusal = 0; n = a .n; tasks = a .tasks; m = b .m; pairs = b .pairs }) (answered (reading s))
-    all-read end =
-        rw (h .answer, b-got) (sym (ap answered (whole ∙ ap (ended (h .tasks)) (second .is) ∙ go (second .rest) (omega (arith, left)))))
-      where
-        go : (l : List ℕ) → length l ≤ 0 → ended (h .tasks) (got (second .items) l) ≡ readable (h .tasks) (second .items)
-        go [] none = refl
-        go (x ∷ l) none = absurd (omega arith)
+  -- bytes follow
+  pub bytes-follow : c .refusal ≡ 0 → c .end < length s - (a .end + b .end) → unread 6 ≡ answered (reading s)
+  bytes-follow z more = go (silentOf (k .rest)) (silent-section (k .rest)) c-is (k .is)
+    where
+      go : (r : Parsed ℕ) → SilentRead (k .rest) r → c ≡ silentSection (k .rest) r → reading s ≡ ended (k .first .tasks) (k .pairs) r → unread 6 ≡ answered (reading s)
+      go (got g []) known q is = absurd (omega (arith, size, ap (λ (x : SilentSection). x .end) q))
+      go (got g (x ∷ l)) known q is = rw is
+      go (refused number) known q is = absurd (omega (arith, silent-number-pos known, ap (λ (x : SilentSection). x .refusal) q))
+
+  -- the request is read
+  pub all-read : c .refusal ≡ 0 → length s - (a .end + b .end) ≤ c .end
+      → _≡_ {A = Request} (record { refusal = 0; n = a .n; tasks = a .tasks; m = b .m; pairs = b .pairs; g = c .g }) (answered (reading s))
+  all-read z end = go (silentOf (k .rest)) (silent-section (k .rest)) c-is (k .is)
+    where
+      go : (r : Parsed ℕ) → SilentRead (k .rest) r → c ≡ silentSection (k .rest) r → reading s ≡ ended (k .first .tasks) (k .pairs) r
+          → _≡_ {A = Request} (record { refusal = 0; n = a .n; tasks = a .tasks; m = b .m; pairs = b .pairs; g = c .g }) (answered (reading s))
+      go (got g []) known q is = rw (k .first .answer, k .answer, q, is)
+      go (got g (x ∷ l)) known q is = absurd (omega (arith, size, ap (λ (x : SilentSection). x .end) q))
+      go (refused number) known q is = absurd (omega (arith, silent-number-pos known, ap (λ (x : SilentSection). x .refusal) q))

@@ -1,4 +1,4 @@
-// The request file: a team's periodic tasks and the pairs of tasks that keep order.
+// The request file: a team's periodic tasks, the pairs of tasks that keep order and the silent ticks after every transfer.
 // Sections stand in a fixed order, each after its count; every count and record is judged as it is met.
 use cursor::ByteRead;
 use cursor::Cursor;
@@ -6,8 +6,8 @@ use cursor::WordRead;
 ghost use mathlib.Core.Path.{_≡_};
 ghost use Prim.Native.Nat.{_≤_};
 ghost use lib.ListN.{take, drop, length};
-ghost use Rattle.request.specs.Request.{taskRule, pairRule, taskOf, pairOf, tasksOf, pairsOf, reading};
-ghost use Rattle.request.specs.Answers.{taskRead, pairRead, taskNumber, pairNumber, noTasks, noPairs, taskSection, pairSection, unread, answered};
+ghost use Rattle.request.specs.Request.{taskRule, pairRule, taskOf, pairOf, tasksOf, pairsOf, silentOf, reading};
+ghost use Rattle.request.specs.Answers.{taskRead, pairRead, taskNumber, pairNumber, noTasks, noPairs, noSilent, taskSection, pairSection, silentSection, unread, answered};
 
 // A periodic task: worst transfer time C, period T, deadline D after release, phase P.
 pub struct Task {
@@ -23,13 +23,15 @@ pub struct Pair {
     pub b: u8,
 }
 
-// A readable request (refusal 0) has n tasks and m pairs, from the first place on; one that is refused has the number and none.
+// A readable request (refusal 0) has n tasks and m pairs, from the first place on, and g silent ticks after every transfer; one that is
+// refused has the number and none.
 pub struct Request {
     pub refusal: u8,
     pub n: usize,
     pub tasks: [Task; 16],
     pub m: usize,
     pub pairs: [Pair; 16],
+    pub g: u8,
 }
 
 pub enum TaskRead {
@@ -54,6 +56,12 @@ struct PairSection {
     refusal: u8,
     m: usize,
     pairs: [Pair; 16],
+    end: usize,
+}
+
+struct SilentSection {
+    refusal: u8,
+    g: u8,
     end: usize,
 }
 
@@ -252,6 +260,47 @@ fn read_pairs(s: &[u8], tasks: [Task; 16], n: usize) -> PairSection
     }
 }
 
+fn no_silent(refusal: u8) -> SilentSection
+    ensures { λ r. ⌜ r ≡ noSilent refusal ⌝ }
+{
+    SilentSection {
+        refusal,
+        g: 0,
+        end: 0,
+    }
+}
+
+// The third section, from the front of s: the silent ticks, and 0 where it is left out.
+fn read_silent(s: &[u8]) -> SilentSection
+    ensures { λ r. ⌜ r ≡ silentSection (now (s .entry)) (silentOf (now (s .entry))) ⌝ }
+{
+    let front = Cursor { at: 0 };
+    let ByteRead::Byte(count, start) = front.byte(s) else {
+        return no_silent(0);
+    };
+    if 1 < count {
+        return no_silent(17);
+    }
+    if count == 0 {
+        return SilentSection {
+            refusal: 0,
+            g: 0,
+            end: start.at,
+        };
+    }
+    let ByteRead::Byte(g, behind) = start.byte(s) else {
+        return no_silent(1);
+    };
+    if 15 < g {
+        return no_silent(17);
+    }
+    SilentSection {
+        refusal: 0,
+        g,
+        end: behind.at,
+    }
+}
+
 fn refused(refusal: u8) -> Request
     ensures { λ r. ⌜ r ≡ unread refusal ⌝ }
 {
@@ -266,10 +315,11 @@ fn refused(refusal: u8) -> Request
         }; 16],
         m: 0,
         pairs: [Pair { a: 0, b: 0 }; 16],
+        g: 0,
     }
 }
 
-// A request, or the number from 1 to 6 that its bytes are refused with.
+// A request, or the number, from 1 to 6 or 17, that its bytes are refused with.
 pub fn read(s: &[u8]) -> Request
     ensures { λ r. ⌜ r ≡ answered (reading (now (s .entry))) ⌝ }
 {
@@ -284,7 +334,12 @@ pub fn read(s: &[u8]) -> Request
     if second.refusal != 0 {
         return refused(second.refusal);
     }
-    if second.end < s.len() - end {
+    let behind = end + second.end;
+    let third = read_silent(&s[behind..]);
+    if third.refusal != 0 {
+        return refused(third.refusal);
+    }
+    if third.end < s.len() - behind {
         return refused(6);
     }
     let pairs = second.pairs;
@@ -294,5 +349,6 @@ pub fn read(s: &[u8]) -> Request
         tasks,
         m: second.m,
         pairs,
+        g: third.g,
     }
 }

@@ -11,7 +11,7 @@ use Rattle.checker.specs.Checked as checker
 -- the table of the plan that was read, or the number of the check's refusal
 abbrev pub planRead : Cycle → checker.Verdict → Outcome
 planRead c (checker.refusal number) = refusal number
-planRead (cycle tasks pairs h jobs) (checker.accepted f frames) = handed (planTable (instance tasks pairs h jobs) f frames)
+planRead (cycle tasks pairs g h jobs) (checker.accepted f frames) = handed (planTable (instance tasks pairs g h jobs) f frames)
 planRead (noCycle n) (checker.accepted f frames) = refusal n
 
 unfoldable pub rewritten : List ℕ → List ℕ → Outcome

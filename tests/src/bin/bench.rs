@@ -9,7 +9,7 @@ use bus_tests::hard;
 use bus_tests::library::Library;
 use bus_tests::plain::{self, Effort};
 use bus_tests::reference::{read_cycle, table};
-use bus_tests::sheet::{self, request, Short};
+use bus_tests::sheet::{self, request, silent_request, Short};
 use bus_tests::timing::{least, measure, median, quantile, Turns};
 
 /// More than the longest table.
@@ -30,6 +30,7 @@ mod c {
     extern "C" {
         pub fn search_plan(
             request: *const u8,
+            request_len: usize,
             f: *mut u16,
             frames: *mut [u16; 128],
             tries: *mut u64,
@@ -48,7 +49,8 @@ struct Searched {
 /// The request is one that the library plans or refuses with 9 or 10, as all here are.
 fn search_in_c(request: &[u8]) -> Searched {
     let (mut f, mut frames, mut tries) = (0, [0; 128], 0);
-    let answer = unsafe { c::search_plan(request.as_ptr(), &mut f, &mut frames, &mut tries) };
+    let (start, len) = (request.as_ptr(), request.len());
+    let answer = unsafe { c::search_plan(start, len, &mut f, &mut frames, &mut tries) };
     Searched {
         answer,
         f,
@@ -116,10 +118,11 @@ fn by_hand(name: &str, request: Vec<u8>, turns: usize) -> Search {
     compared(name, request, effort, turns)
 }
 
-/// `count` jobs of 13 ticks for `holes` frames of 13 ticks: one too many.
-fn pigeons(count: usize, holes: i64) -> Vec<u8> {
-    let tasks = vec![(13, 13 * holes, 13 * holes, 0); count];
-    request(&tasks, &[])
+/// `count` jobs that take 13 ticks of their row, g of them silent, for `holes` frames of 13 ticks:
+/// one too many.
+fn pigeons(count: usize, holes: i64, g: i64) -> Vec<u8> {
+    let tasks = vec![(13 - g, 13 * holes, 13 * holes, 0); count];
+    silent_request(&tasks, &[], g)
 }
 
 /// 128 jobs and 16 pairs in 64 rows: 118 jobs fill the even frames, and 10 jobs, in pairs and
@@ -143,8 +146,13 @@ fn paired_pigeons(holes: i64) -> Vec<u8> {
 
 fn searches_by_hand() -> Vec<Search> {
     vec![
-        by_hand("10 jobs for 9 frames", pigeons(10, 9), TURNS),
-        by_hand("11 jobs for 10 frames", pigeons(11, 10), TURNS_OF_LONGEST),
+        by_hand("10 jobs for 9 frames", pigeons(10, 9, 0), TURNS),
+        by_hand("10 jobs for 9 frames, g 4", pigeons(10, 9, 4), TURNS),
+        by_hand(
+            "11 jobs for 10 frames",
+            pigeons(11, 10, 0),
+            TURNS_OF_LONGEST,
+        ),
         by_hand("16 pairs, 128 jobs", paired_pigeons(10), TURNS),
         by_hand("16 pairs, 128 jobs, no plan", paired_pigeons(9), TURNS),
     ]

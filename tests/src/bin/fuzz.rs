@@ -13,7 +13,6 @@ use bus_tests::call::{compare, Call};
 use bus_tests::generate;
 use bus_tests::library::Library;
 use bus_tests::random::Random;
-use bus_tests::reference::request;
 use bus_tests::reference::table::encode;
 use bus_tests::reference::{planned, read_cycle, tries_within};
 use bus_tests::rounds::{Tally, MOST_TRIES};
@@ -76,7 +75,7 @@ impl Corpus {
 
     /// Adds a new request, and its table if it has one; false if its search is too long.
     fn learn(&mut self, rng: &mut Random) -> bool {
-        let request = request::write(&generate::valid_request(rng));
+        let request = generate::valid_bytes(rng);
         if tries_within(&request, MOST_TRIES).is_none() {
             return false;
         }

@@ -10,7 +10,8 @@ pub struct Job {
     pub task: usize,
     /// j, the number of the job within its task.
     pub number: i64,
-    pub cost: i64,
+    /// C + g, what the job takes of its row.
+    pub slot: i64,
     pub release: i64,
     pub due: i64,
 }
@@ -33,15 +34,15 @@ pub fn hyperperiod(tasks: &[Task]) -> Option<i64> {
 }
 
 /// All jobs of one cycle, by release and then by task number.
-fn jobs_in_order(tasks: &[Task], h: i64) -> Vec<Job> {
+fn jobs_in_order(request: &Request, h: i64) -> Vec<Job> {
     let mut jobs = Vec::new();
-    for (i, task) in tasks.iter().enumerate() {
+    for (i, task) in request.tasks.iter().enumerate() {
         for j in 0..h / task.t {
             let release = task.p + j * task.t;
             jobs.push(Job {
                 task: i,
                 number: j,
-                cost: task.c,
+                slot: request.slot(task),
                 release,
                 due: release + task.d,
             });
@@ -58,6 +59,6 @@ pub fn of(request: Request) -> Result<Cycle, i32> {
     if count > MOST_JOBS {
         return Err(8);
     }
-    let jobs = jobs_in_order(&request.tasks, h);
+    let jobs = jobs_in_order(&request, h);
     Ok(Cycle { request, h, jobs })
 }

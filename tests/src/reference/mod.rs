@@ -17,12 +17,12 @@ use dispatch::State;
 use search::{Choice, Effort};
 use table::{Entry, Table};
 
-/// The request within the limits that the bytes hold, or 1 to 8.
+/// The request within the limits that the bytes hold, or 1 to 8 or 17.
 pub fn read_cycle(bytes: &[u8]) -> Result<Cycle, i32> {
     cycle::of(request::read(bytes)?)
 }
 
-/// The chosen table, or 1 to 10.
+/// The chosen table, or 1 to 10 or 17.
 pub fn planned(bytes: &[u8]) -> Result<Table, i32> {
     let cycle = read_cycle(bytes)?;
     match search::choose(&cycle, &mut Effort::unlimited()) {
@@ -55,7 +55,7 @@ pub fn listing(bytes: &[u8]) -> String {
     }
 }
 
-/// The table of the plan that request and table describe, or 1 to 8, 12 to 14.
+/// The table of the plan that request and table describe, or 1 to 8, 17, 12 to 14.
 fn checked(request: &[u8], table: &[u8]) -> Result<Table, i32> {
     let cycle = read_cycle(request)?;
     let read = table::decode(table).ok_or(12)?;

@@ -14,12 +14,12 @@ pub fn gcd(a: i64, b: i64) -> i64 {
 
 /// Whether f is plausible for the request.
 pub fn plausible(cycle: &Cycle, f: i64) -> bool {
+    let request = &cycle.request;
     f >= 1
         && cycle.h % f == 0
         && cycle.h / f <= MOST_ROWS
-        && cycle.request.tasks.iter().all(|task| f >= task.c)
-        && cycle
-            .request
+        && request.tasks.iter().all(|task| f >= request.slot(task))
+        && request
             .tasks
             .iter()
             .all(|task| 2 * f - gcd(f, task.t) <= task.d)
@@ -52,17 +52,17 @@ fn windows_hold(cycle: &Cycle, f: i64, frames: &[i64]) -> bool {
 
 fn rows_hold(cycle: &Cycle, f: i64, frames: &[i64]) -> bool {
     let rows = cycle.h / f;
-    (0..rows).all(|row| busy(cycle, rows, frames, row) <= f)
+    (0..rows).all(|row| load(cycle, rows, frames, row) <= f)
 }
 
-/// The sum of C of the jobs in a row.
-pub fn busy(cycle: &Cycle, rows: i64, frames: &[i64], row: i64) -> i64 {
+/// The sum of C + g of the jobs in a row.
+fn load(cycle: &Cycle, rows: i64, frames: &[i64], row: i64) -> i64 {
     cycle
         .jobs
         .iter()
         .zip(frames)
         .filter(|(_, k)| **k % rows == row)
-        .map(|(job, _)| job.cost)
+        .map(|(job, _)| job.slot)
         .sum()
 }
 

@@ -1,4 +1,4 @@
-//! Reading a request file: refusals 1 to 6.
+//! Reading a request file: refusals 1 to 6 and 17.
 
 #[derive(Clone, Copy, Debug, PartialEq, Eq)]
 pub struct Task {
@@ -17,6 +17,15 @@ pub struct Request {
     pub tasks: Vec<Task>,
     /// Task `.0` before task `.1`.
     pub pairs: Vec<(usize, usize)>,
+    /// Silent ticks after every transfer.
+    pub g: i64,
+}
+
+impl Request {
+    /// What a job of the task takes of its row: its transfer and the silent ticks behind it.
+    pub fn slot(&self, task: &Task) -> i64 {
+        task.c + self.g
+    }
 }
 
 /// The bytes not read yet.
@@ -60,7 +69,23 @@ fn read_pair(reader: &mut Reader, tasks: &[Task]) -> Result<(usize, usize), i32>
     }
 }
 
-/// The request in the bytes, or the first number from 1 to 6 met from the front.
+/// The third section; a file that ends before it means 0.
+fn read_silent_ticks(reader: &mut Reader) -> Result<i64, i32> {
+    if reader.rest.is_empty() {
+        return Ok(0);
+    }
+    let count = reader.byte()?;
+    if count > 1 {
+        return Err(17);
+    }
+    let g = if count == 1 { reader.byte()? } else { 0 };
+    if g > 15 {
+        return Err(17);
+    }
+    Ok(g)
+}
+
+/// The request in the bytes, or the first number, of 1 to 6 and 17, met from the front.
 pub fn read(bytes: &[u8]) -> Result<Request, i32> {
     let mut reader = Reader { rest: bytes };
     let n = reader.byte()?;
@@ -79,13 +104,15 @@ pub fn read(bytes: &[u8]) -> Result<Request, i32> {
     for _ in 0..pair_count {
         pairs.push(read_pair(&mut reader, &tasks)?);
     }
+    let g = read_silent_ticks(&mut reader)?;
     if !reader.rest.is_empty() {
         return Err(6);
     }
-    Ok(Request { tasks, pairs })
+    Ok(Request { tasks, pairs, g })
 }
 
-/// The bytes of a request (used to make inputs; nothing is judged).
+/// The bytes of a request (used to make inputs; nothing is judged). A g of 0 is written by leaving
+/// the third section out.
 pub fn write(request: &Request) -> Vec<u8> {
     let mut bytes = vec![request.tasks.len() as u8];
     for task in &request.tasks {
@@ -97,6 +124,9 @@ pub fn write(request: &Request) -> Vec<u8> {
     for &(a, b) in &request.pairs {
         bytes.push(a as u8);
         bytes.push(b as u8);
+    }
+    if request.g != 0 {
+        bytes.extend([1, request.g as u8]);
     }
     bytes
 }

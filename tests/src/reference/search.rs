@@ -44,13 +44,13 @@ struct Problem<'a> {
     windows: Vec<Vec<i64>>,
 }
 
-/// The sum of C of the jobs placed so far in a row.
+/// The sum of C + g of the jobs placed so far in a row.
 fn load(problem: &Problem, placed: &[i64], row: i64) -> i64 {
     placed
         .iter()
         .zip(&problem.cycle.jobs)
         .filter(|(k, _)| **k % problem.rows == row)
-        .map(|(_, job)| job.cost)
+        .map(|(_, job)| job.slot)
         .sum()
 }
 
@@ -70,7 +70,7 @@ fn in_order(problem: &Problem, placed: &[i64], k: i64) -> bool {
 
 fn fits(problem: &Problem, placed: &[i64], k: i64) -> bool {
     let next = &problem.cycle.jobs[placed.len()];
-    load(problem, placed, k % problem.rows) + next.cost <= problem.f && in_order(problem, placed, k)
+    load(problem, placed, k % problem.rows) + next.slot <= problem.f && in_order(problem, placed, k)
 }
 
 fn place_rest(problem: &Problem, placed: &mut Vec<i64>, effort: &mut Effort) -> Found {

@@ -12,10 +12,10 @@ use Rattle.model.proofs.frame_rules.Statement.{statement}
 use Rattle.model.proofs.frame_rules.Tie as tie
 
 abbrev Inv-loop : tie.InvT-loop
-Inv-loop n f tasks i₀ i = (i ≤ n) × (n ≤ 16) × (frameRules f (drop i (firsts n noTask tasks)) ≡ frameRules f (firsts n noTask tasks))
+Inv-loop n g f tasks i₀ i = (i ≤ n) × (n ≤ 16) × (frameRules g f (drop i (firsts n noTask tasks)) ≡ frameRules g f (firsts n noTask tasks))
 
 abbrev μ-loop : tie.MeasureT-loop
-μ-loop n f tasks i₀ i = n - i
+μ-loop n g f tasks i₀ i = n - i
 
 loop-holds : tie.Need-loop-holds Inv-loop μ-loop
 loop-holds c = (omega arith, c .pre, refl)
@@ -24,7 +24,7 @@ returns : tie.Need-returns Inv-loop μ-loop
 returns c =
     let a = c .before .before .before .before .before .args in
     let l = c .before .before .before .before .loop in
-    slot-too-long (a .f) (a .t1) (a .n) (l .i) (c .before .before .before .loop-test .taken) _ (c .before .slot .ensures) (c .if1 .taken) ∙ l .inv .2
+    slot-too-long (a .g) (a .f) (a .t1) (a .n) (l .i) (c .before .before .before .loop-test .taken) _ (c .before .slot .ensures) (c .if1 .taken) ∙ l .inv .2
 
 returns-2 : tie.Need-returns-2 Inv-loop μ-loop
 returns-2 c =
@@ -33,7 +33,7 @@ returns-2 c =
     let s = test .before .before in
     let a = s .args in
     let l = test .before .loop in
-    window-too-short (a .f) (a .t1) (a .n) (l .i) (test .loop-test .taken)
+    window-too-short (a .g) (a .f) (a .t1) (a .n) (l .i) (test .loop-test .taken)
     _ (called .slot .ensures) (c .before .before .before .if1 .left) _ (c .before .before .gcd .ensures) (c .if2 .taken)
     ∙ l .inv .2
 
@@ -44,7 +44,7 @@ loop-again c =
     let s = test .before .before in
     let a = s .args in
     let l = test .before .loop in
-    let kept = rule-kept (a .f) (a .t1) (a .n) (l .i) (test .loop-test .taken)
+    let kept = rule-kept (a .g) (a .f) (a .t1) (a .n) (l .i) (test .loop-test .taken)
     _ (called .slot .ensures) (c .before .before .before .if1 .left) _ (c .before .before .gcd .ensures) (c .if2 .left) in
     (omega arith, s .pre, kept ∙ l .inv .2)
 
@@ -52,7 +52,7 @@ returns-3 : tie.Need-returns-3 Inv-loop μ-loop
 returns-3 c =
     let a = c .before .before .args in
     let l = c .before .loop in
-    all-kept (a .f) (a .t1) (a .n) (l .i) (c .loop-test .left) ∙ l .inv .2
+    all-kept (a .g) (a .f) (a .t1) (a .n) (l .i) (c .loop-test .left) ∙ l .inv .2
 
 pub frame-rules-spec : {M : Type 1} → statement M
 frame-rules-spec =

@@ -11,7 +11,7 @@ cast-i c = search needs
 returns : tie.Need-returns
 returns c =
     let s = c .before .before in
-    cost-unknown (s .args .t1) _ (s .args .job) (c .if1 .taken)
+    cost-unknown (s .args .g) (s .args .t1) _ (s .args .job) (c .if1 .taken)
 
 mul-x : tie.Need-mul-x
 mul-x c = search needs
@@ -25,7 +25,7 @@ slot-requires c κs = search needs
 returns-2 : tie.Need-returns-2
 returns-2 c =
     let s = c .before .before .before .before in
-    c .slot .ensures ∙ cost-known (s .args .t1) _ (s .args .job) (c .before .before .if1 .left)
+    c .slot .ensures ∙ cost-known (s .args .g) (s .args .t1) _ (s .args .job) (c .before .before .if1 .left)
 
 pub cost-spec : {M : Type 1} → statement M
 cost-spec = tie.close (tie.spec cast-i returns mul-x array-copy-out-x slot-requires returns-2)

@@ -12,10 +12,10 @@ use Rattle.problem.proofs.costs.Statement.{statement}
 use Rattle.problem.proofs.costs.Tie as tie
 
 abbrev Inv-loop : tie.InvT-loop
-Inv-loop tasks jobs n count out₀ y₀ out y = (y ≤ count) × (out ≡ numbers (costOf (firsts n noTask tasks)) jobs y)
+Inv-loop tasks jobs g n count out₀ y₀ out y = (y ≤ count) × (out ≡ numbers (costOf g (firsts n noTask tasks)) jobs y)
 
 abbrev μ-loop : tie.MeasureT-loop
-μ-loop tasks jobs n count out₀ y₀ out y = count - y
+μ-loop tasks jobs g n count out₀ y₀ out y = count - y
 
 loop-holds : tie.Need-loop-holds Inv-loop μ-loop
 loop-holds c = (omega arith, no-number _ _)
@@ -38,7 +38,7 @@ loop-again c =
     let room : l .y < 128 = omega (arith, begun .before .at-most2 .ensures, c .before .before .loop-test .taken) in (
       omega arith,
       rw (l .inv .1, c .cost .ensures)
-          (one-number (costOf (firsts (counted .at-most .result) noTask (a .cycle .tasks))) (a .cycle .jobs) (l .y) room),
+          (one-number (costOf (a .cycle .g) (firsts (counted .at-most .result) noTask (a .cycle .tasks))) (a .cycle .jobs) (l .y) room),
     )
 
 returns : tie.Need-returns Inv-loop μ-loop
