@@ -26,6 +26,9 @@ extern "C" {
 #define BUS_STATE_BYTES 64
 #define BUS_ENTRIES_BYTES 32
 
+/* The most tasks, and so the counts of a state. */
+#define BUS_TASKS 16
+
 /* The longest table: 7 + 256 rows + 2 for each of 128 jobs. */
 #define BUS_TABLE_BYTES 519
 
@@ -62,16 +65,31 @@ int32_t bus_rewrite(const uint8_t *request, size_t request_len, const uint8_t *t
 /*
  * The dispatcher's state stands in 64 bytes that the caller lends:
  *
- *   bytes 0 and 1   the row that is served next
- *   byte 2          the mark of the first cycle: 1 while it lasts, then 0
- *   bytes 3 and 4   the number of overruns, at most 65,535
- *   bytes 5 to 63   kept free; bus_fresh sets them to 0, the other calls neither read nor change them
+ *   bytes 0 and 1     the row that is served next
+ *   byte 2            the mark of the first cycle: 1 while it lasts, then 0
+ *   bytes 3 + 2i and  the number of overruns of task i, at most 65,535; i goes from 0 to 15, so
+ *         4 + 2i      these are bytes 3 to 34
+ *   bytes 35 to 63    kept free; bus_fresh sets them to 0, the other calls neither read nor change them
  *
  * Bytes behind the first 64 of a longer buffer are never read or changed.
  */
 
 /*
- * Makes a fresh state: row 0, mark set, no overruns.
+ * The number of overruns of a task that a state holds, from 0 to 65,535; 0 for a number that no
+ * task has. `state` points to the 64 bytes of a state. To see which boards overran:
+ *
+ *     for (unsigned task = 0; task < BUS_TASKS; task++)
+ *         printf("task %u: %u overruns\n", task, (unsigned)bus_overruns(state, task));
+ */
+static inline uint16_t bus_overruns(const uint8_t *state, unsigned task)
+{
+    if (task >= BUS_TASKS)
+        return 0;
+    return (uint16_t)(state[3 + 2 * task] + 256u * state[4 + 2 * task]);
+}
+
+/*
+ * Makes a fresh state: row 0, mark set, no overruns of any task.
  *
  * Answers 0, or refuses with 99.
  */
@@ -93,8 +111,8 @@ int32_t bus_next_frame(const uint8_t *table, size_t table_len, uint8_t *state, s
 
 /*
  * Reports the ticks that a task used. More than the request's C for the task is an overrun, and
- * the state's number of overruns rises by one, up to 65,535. The row and the mark stay. Silent
- * ticks are not used ticks.
+ * the task's number of overruns in the state rises by one, up to 65,535. The numbers of the other
+ * tasks, the row and the mark stay. Silent ticks are not used ticks.
  *
  * Answers 0, or refuses with 99, then 1 to 5, then 17, then 6, then 16.
  */

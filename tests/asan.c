@@ -437,14 +437,32 @@ static int32_t both(call *x)
 
 static void make_state(bytes *b, int usual)
 {
-    enum { S = BUS_STATE_BYTES };
-    static const size_t lengths[] = {S, S, S, S, S, S, S + 6, S - 1, 5, 0};
+    enum { S = BUS_STATE_BYTES, USED = 3 + 2 * BUS_TASKS };
+    static const size_t lengths[] = {S, S, S, S, S, S, S + 6, S - 1, USED, 0};
     random_bytes(b, usual ? S : lengths[below(10)]);
-    if (b->len > 5 && chance(90)) {
+    if (b->len > USED && chance(90)) {
         b->at[0] = (uint8_t)below(12);
         b->at[1] = 0;
         b->at[2] = (uint8_t)below(2);
+        if (chance(30))
+            memset(b->at + 3 + 2 * below(BUS_TASKS), 255, 2);
     }
+}
+
+/* A report and what it does to the counts: its own task's may rise by one, up to 65,535, and all
+ * other bytes stay. */
+static void report(call *x)
+{
+    static bytes before;
+    before = x->b;
+    if (both(x) != 0 || same(&x->b, &before))
+        return;
+    unsigned was = bus_overruns(before.at, x->task);
+    if (bus_overruns(x->b.at, x->task) != was + 1)
+        fault("a count did not rise by one", x);
+    memcpy(before.at + 3 + 2 * x->task, x->b.at + 3 + 2 * x->task, 2);
+    if (!same(&x->b, &before))
+        fault("a report changed another byte than those of its task's count", x);
 }
 
 /* One request, its table if it has one, and calls about both. */
@@ -505,7 +523,7 @@ static void turn(void)
         make_state(&x.b, chance(80));
         x.task = chance(80) ? (uint8_t)below(6) : (uint8_t)draw();
         x.ticks = chance(70) ? (uint32_t)below(60) : (uint32_t)draw();
-        both(&x);
+        report(&x);
     }
 }
 

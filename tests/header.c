@@ -1,5 +1,5 @@
 /*
- * Every call of include/bus.h, on P1. This file is compiled as C99 and as C++11, with every
+ * Every call of include/bus.h, on P1, and the counts that an operator reads. This file is compiled as C99 and as C++11, with every
  * warning an error: the header must be good in both languages, and its calls must link from both.
  */
 #include "bus.h"
@@ -41,6 +41,12 @@ int main(void)
     expect("bus_next_frame", bus_next_frame(table, used, state, sizeof state, entries, sizeof entries), 3);
     expect("bus_report", bus_report(request, sizeof request, 2, 11, state, sizeof state), 0);
     expect("bus_report", bus_report(request, sizeof request, 3, 11, state, sizeof state), -16);
+    for (int32_t i = 0; i < 257; i++)
+        expect("bus_report", bus_report(request, sizeof request, 1, 6, state, sizeof state), 0);
+    for (unsigned task = 0; task <= BUS_TASKS; task++)
+        expect("bus_overruns", bus_overruns(state, task), task == 1 ? 257 : task == 2);
+    expect("bus_next_frame", bus_next_frame(table, used, state, sizeof state, entries, sizeof entries), 2);
+    expect("bus_overruns", bus_overruns(state, 1), 257);
     expect("bus_fresh", bus_fresh(state, sizeof state - 1), -BUS_BAD_BUFFER);
     memcpy(silent, request, sizeof request);
     silent[sizeof request] = 1;

@@ -1,11 +1,30 @@
 //! The six calls of the library, as every implementation here offers them.
 
+use std::ops::Range;
+
 /// Bytes of dispatcher state that a caller lends.
 pub const STATE_LEN: usize = 64;
+/// Bytes of a state that are in use: the row, the mark and a count for each of 16 tasks.
+pub const STATE_USED: usize = 35;
+/// Tasks that have a count in a state.
+pub const TASKS: usize = 16;
 /// Bytes of the 16 places for served entries.
 pub const ENTRIES_LEN: usize = 32;
 /// Refusal of a state or entries buffer that is too short, or of a mark that is not 0 or 1.
 pub const NOT_A_STATE: i32 = 99;
+
+/// Where the count of a task stands in a state.
+pub fn count_bytes(task: usize) -> Range<usize> {
+    3 + 2 * task..5 + 2 * task
+}
+
+/// The counts that a state holds.
+pub fn counts(state: &[u8]) -> [u16; TASKS] {
+    std::array::from_fn(|task| {
+        let two = &state[count_bytes(task)];
+        u16::from_le_bytes([two[0], two[1]])
+    })
+}
 
 /// An answer below 0 is a refusal, its number negated.
 pub trait Bus {
@@ -19,6 +38,6 @@ pub trait Bus {
     fn fresh(&self, state: &mut [u8]) -> i32;
     /// The number of entries served; `entries` gets 16 places of a task and a job byte.
     fn next_frame(&self, table: &[u8], state: &mut [u8], entries: &mut [u8]) -> i32;
-    /// 0, with the overrun counted in the state.
+    /// 0, with the task's overrun counted in the state.
     fn report(&self, request: &[u8], task: u8, ticks: u32, state: &mut [u8]) -> i32;
 }

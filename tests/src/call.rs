@@ -1,6 +1,8 @@
 //! One call with everything it is lent, run with guard bytes around every buffer.
 
-use crate::bus::Bus;
+use std::ops::Range;
+
+use crate::bus::{count_bytes, Bus, ENTRIES_LEN, STATE_LEN};
 use crate::reference::Reference;
 
 /// A call and the content of its buffers before it.
@@ -220,18 +222,19 @@ pub fn run(bus: &dyn Bus, call: &Call) -> Result<Outcome, String> {
     }
 }
 
-/// How many bytes at the front of each writable buffer an answered call may change.
-fn may_write(call: &Call, answer: i32) -> Vec<usize> {
+/// Which bytes of each writable buffer an answered call may change: next-frame no count, a report
+/// none but its own task's.
+fn may_write(call: &Call, answer: i32) -> Vec<Range<usize>> {
     match call {
-        Call::Plan { .. } | Call::Rewrite { .. } => vec![answer as usize],
+        Call::Plan { .. } | Call::Rewrite { .. } => vec![0..answer as usize],
         Call::Check { .. } => vec![],
-        Call::Fresh { .. } => vec![64],
-        Call::NextFrame { .. } => vec![5, 32],
-        Call::Report { .. } => vec![5],
+        Call::Fresh { .. } => vec![0..STATE_LEN],
+        Call::NextFrame { .. } => vec![0..3, 0..ENTRIES_LEN],
+        Call::Report { task, .. } => vec![count_bytes(usize::from(*task))],
     }
 }
 
-/// A refusal changes nothing; an answer leaves what lies behind its own bytes.
+/// A refusal changes nothing; an answer leaves what lies beside its own bytes.
 fn keeps_the_rest(call: &Call, outcome: &Outcome) -> Result<(), String> {
     let before = call.writable();
     if outcome.answer < 0 {
@@ -243,13 +246,13 @@ fn keeps_the_rest(call: &Call, outcome: &Outcome) -> Result<(), String> {
             .then_some(())
             .ok_or_else(|| "a refusal changed a buffer".to_string());
     }
-    let lengths = may_write(call, outcome.answer);
-    for ((old, new), length) in before.iter().zip(&outcome.buffers).zip(lengths) {
-        if length > new.len() {
+    let parts = may_write(call, outcome.answer);
+    for ((old, new), part) in before.iter().zip(&outcome.buffers).zip(parts) {
+        if part.end > new.len() {
             return Err("the answer is longer than the buffer".to_string());
         }
-        if old[length..] != new[length..] {
-            return Err("bytes behind the answer were changed".to_string());
+        if old[..part.start] != new[..part.start] || old[part.end..] != new[part.end..] {
+            return Err("bytes beside the answer were changed".to_string());
         }
     }
     Ok(())

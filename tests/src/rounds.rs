@@ -2,7 +2,7 @@
 
 use std::collections::BTreeMap;
 
-use crate::bus::{Bus, ENTRIES_LEN, STATE_LEN};
+use crate::bus::{count_bytes, Bus, ENTRIES_LEN, STATE_LEN, STATE_USED, TASKS};
 use crate::call::{compare, Call, Outcome};
 use crate::generate;
 use crate::random::Random;
@@ -174,13 +174,18 @@ impl<'a> Comparison<'a> {
         Ok(outcome.buffers[0].clone())
     }
 
-    /// Now and then another state than the last call left: any row, mark, count or length.
+    /// Now and then another state than the last call left: any row, mark or counts, other free bytes.
     fn touch_state(&mut self, state: &mut [u8]) {
         match self.rng.below(5) {
             0 => state[0..2].copy_from_slice(&(self.rng.below(300) as u16).to_le_bytes()),
-            1 => state[3..5].copy_from_slice(&(65_533 + self.rng.below(3) as u16).to_le_bytes()),
+            1 => {
+                for task in 0..TASKS {
+                    let count = self.rng.pick(&[0, 255, 256, 65_533, 65_534, 65_535_u16]);
+                    state[count_bytes(task)].copy_from_slice(&count.to_le_bytes());
+                }
+            }
             2 => state[2] = self.rng.pick(&[0, 1, 0, 1, 2, 255]),
-            3 => state[5..].fill(self.rng.byte()),
+            3 => state[STATE_USED..].fill(self.rng.byte()),
             _ => {
                 state[0..2].fill(255);
                 state[2] = 0;

@@ -1,9 +1,9 @@
 //! A flight: a table served frame by frame with random actual times and reports, beside the
-//! plain dispatcher that keeps only the frames served and the overruns.
+//! plain dispatcher that keeps only the frames served and the overruns of each task.
 
 use std::collections::BTreeMap;
 
-use crate::bus::{Bus, ENTRIES_LEN, STATE_LEN};
+use crate::bus::{count_bytes, counts, Bus, ENTRIES_LEN, STATE_LEN, TASKS};
 use crate::call::{hex, run, Call};
 use crate::generate;
 use crate::random::Random;
@@ -19,7 +19,7 @@ type Instance = (i64, i64, i64);
 #[derive(Clone, Debug)]
 struct PlainDispatcher {
     frames: i64,
-    overruns: i64,
+    overruns: [i64; TASKS],
 }
 
 impl PlainDispatcher {
@@ -39,13 +39,32 @@ impl PlainDispatcher {
             Ok(read) => read,
             Err(number) => return -number,
         };
-        let Some(task) = read.tasks.get(usize::from(task)) else {
+        let Some(known) = read.tasks.get(usize::from(task)) else {
             return -16;
         };
-        if i64::from(ticks) > task.c && self.overruns < 65_535 {
-            self.overruns += 1;
+        let overruns = &mut self.overruns[usize::from(task)];
+        if i64::from(ticks) > known.c && *overruns < 65_535 {
+            *overruns += 1;
         }
         0
+    }
+}
+
+/// A report as it was made.
+struct Report {
+    request: Vec<u8>,
+    task: u8,
+    ticks: u32,
+}
+
+impl Report {
+    /// An accepted report of the task, above its C.
+    fn overran(&self, task: usize) -> bool {
+        let above = |read: request::Request| {
+            let known = read.tasks.get(task);
+            known.is_some_and(|known| i64::from(self.ticks) > known.c)
+        };
+        usize::from(self.task) == task && request::read(&self.request).is_ok_and(above)
     }
 }
 
@@ -63,6 +82,7 @@ pub struct Flight<'a> {
     log: Log,
     /// For each frame served, when the silent ticks of its last transfer are over.
     silent_until: Vec<i64>,
+    reports: Vec<Report>,
 }
 
 impl<'a> Flight<'a> {
@@ -89,11 +109,12 @@ impl<'a> Flight<'a> {
             table,
             plain: PlainDispatcher {
                 frames: 0,
-                overruns: 0,
+                overruns: [0; TASKS],
             },
             state,
             log: Log::new(),
             silent_until: Vec::new(),
+            reports: Vec::new(),
         })
     }
 
@@ -106,6 +127,7 @@ impl<'a> Flight<'a> {
             }
         }
         self.judge_state()?;
+        self.judge_counts()?;
         self.judge_log()
             .map_err(|fault| format!("{fault}: {}", self.described()))
     }
@@ -165,6 +187,15 @@ impl<'a> Flight<'a> {
         Ok(())
     }
 
+    /// Reports an overrun of the task so many times, then judges the state and the counts.
+    pub fn overrun(&mut self, task: u8, times: u32) -> Result<(), String> {
+        for _ in 0..times {
+            self.make_report(self.request.clone(), task, u32::MAX)?;
+        }
+        self.judge_state()?;
+        self.judge_counts()
+    }
+
     fn report(&mut self, rng: &mut Random) -> Result<(), String> {
         let mut bytes = self.request.clone();
         if rng.chance(15) {
@@ -172,6 +203,10 @@ impl<'a> Flight<'a> {
         }
         let task = rng.below(self.cycle.request.tasks.len() + 2) as u8;
         let ticks = rng.pick(&[0, 1, 2, 5, 50, 65_536, u32::MAX]);
+        self.make_report(bytes, task, ticks)
+    }
+
+    fn make_report(&mut self, bytes: Vec<u8>, task: u8, ticks: u32) -> Result<(), String> {
         let call = Call::Report {
             request: bytes.clone(),
             task,
@@ -188,17 +223,24 @@ impl<'a> Flight<'a> {
             ));
         }
         self.state = outcome.buffers[0].clone();
+        self.reports.push(Report {
+            request: bytes,
+            task,
+            ticks,
+        });
         Ok(())
     }
 
-    /// Row m mod F, mark exactly while m < F, count v, and the free bytes as fresh set them.
+    /// Row m mod F, mark exactly while m < F, counts v, and the free bytes as fresh set them.
     fn judge_state(&self) -> Result<(), String> {
         let count = self.table.rows.len() as i64;
         let mut expected = vec![0; STATE_LEN];
         let row = (self.plain.frames % count) as u16;
         expected[0..2].copy_from_slice(&row.to_le_bytes());
         expected[2] = u8::from(self.plain.frames < count);
-        expected[3..5].copy_from_slice(&(self.plain.overruns as u16).to_le_bytes());
+        for (task, overruns) in self.plain.overruns.iter().enumerate() {
+            expected[count_bytes(task)].copy_from_slice(&(*overruns as u16).to_le_bytes());
+        }
         if self.state == expected {
             return Ok(());
         }
@@ -208,6 +250,21 @@ impl<'a> Flight<'a> {
             hex(&expected),
             self.described()
         ))
+    }
+
+    /// The count of a task: its accepted reports above C in the list, or 65,535 if there were more.
+    fn judge_counts(&self) -> Result<(), String> {
+        for (task, count) in counts(&self.state).into_iter().enumerate() {
+            let reports = self.reports.iter();
+            let overran = reports.filter(|report| report.overran(task)).count();
+            if usize::from(count) != overran.min(65_535) {
+                return Err(format!(
+                    "task {task} has count {count} after {overran} overruns: {}",
+                    self.described()
+                ));
+            }
+        }
+        Ok(())
     }
 
     fn judge_log(&self) -> Result<(), String> {
@@ -370,4 +427,24 @@ fn fly_one(
     done.with_pairs += u64::from(!flight.cycle.request.pairs.is_empty());
     done.with_silence += u64::from(flight.cycle.request.g > 0);
     Ok(())
+}
+
+/// One flight in which one task passes 65,535 overruns, with frames and other reports between and
+/// after.
+pub fn fly_long(bus: &dyn Bus, request: &[u8], task: u8, seed: u64) -> Result<(), String> {
+    let mut rng = Random::new(seed);
+    let mut out = vec![0; 1024];
+    let answer = bus.plan(request, &mut out);
+    let length = usize::try_from(answer).map_err(|_| format!("refused {}", -answer))?;
+    let mut flight = Flight::start(bus, request, &out[..length])?;
+    for times in [3, 65_000, 600] {
+        flight.overrun(task, times)?;
+        flight.fly(&mut rng, 40)?;
+    }
+    let counts = counts(&flight.state);
+    let mut others = (0..TASKS).filter(|other| *other != usize::from(task));
+    if counts[usize::from(task)] == 65_535 && others.all(|other| counts[other] < 200) {
+        return Ok(());
+    }
+    Err(format!("counts {counts:?}: {}", flight.described()))
 }

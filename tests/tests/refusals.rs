@@ -2,7 +2,7 @@
 
 mod common;
 
-use bus_tests::bus::Bus;
+use bus_tests::bus::{count_bytes, counts, Bus, STATE_USED, TASKS};
 use bus_tests::sheet::{self, request, silent_request, with_section};
 use common::{checks_as, plan, refused, subjects, table};
 
@@ -167,7 +167,7 @@ fn three_ways_to_write_no_silent_ticks() {
         for (name, bus) in subjects() {
             let mut state = fresh(bus);
             assert_eq!(bus.report(&bytes, 0, 6, &mut state), 0, "{name}");
-            assert_eq!(count(&state), 1, "{name}");
+            assert_eq!(counts(&state)[0], 1, "{name}");
         }
     }
 }
@@ -221,7 +221,7 @@ fn silent_ticks_count_nowhere_else() {
         let mut state = fresh(bus);
         for (ticks, overruns) in [(5, 0), (6, 1), (20, 2), (21, 3)] {
             assert_eq!(bus.report(&tight, 0, ticks, &mut state), 0, "{name}");
-            assert_eq!(count(&state), overruns, "{name}");
+            assert_eq!(counts(&state)[0], overruns, "{name}");
         }
     }
     // 2f - gcd(f, T) is 4 for f 4 and T 8: the deadline needs no tick more for g.
@@ -449,16 +449,12 @@ fn next_frame_refuses_what_is_no_state() {
     }
 }
 
-fn count(state: &[u8]) -> u16 {
-    u16::from_le_bytes([state[3], state[4]])
-}
-
 #[test]
 fn reports_count_only_what_exceeds_c() {
     let bytes = sheet::p1();
     for (name, bus) in subjects() {
         let mut state = fresh(bus);
-        let mut expected = 0;
+        let mut expected = [0; TASKS];
         for (task, ticks, answer) in [
             (0, 5, 0),
             (0, 6, 0),
@@ -470,25 +466,39 @@ fn reports_count_only_what_exceeds_c() {
             (255, 99, -16),
         ] {
             assert_eq!(bus.report(&bytes, task, ticks, &mut state), answer);
-            let c = [5, 5, 10];
-            expected += u16::from(answer == 0 && ticks > c[usize::from(task)]);
-            assert_eq!(count(&state), expected, "{name} {task} {ticks}");
+            if answer == 0 {
+                let task = usize::from(task);
+                expected[task] += u16::from(ticks > [5, 5, 10][task]);
+            }
+            assert_eq!(counts(&state), expected, "{name} {task} {ticks}");
         }
+        assert_eq!(expected[..4], [1, 2, 1, 0]);
         assert_eq!(bus.report(&bytes[..9], 9, 99, &mut state), -1);
         assert_eq!(bus.report(&[0], 9, 99, &mut state), -2);
-        assert_eq!(count(&state), expected, "{name}");
+        assert_eq!(counts(&state), expected, "{name}");
         assert_eq!(state[..3], [0, 0, 1], "{name}");
     }
 }
 
 #[test]
-fn the_count_stops_at_65535() {
+fn each_count_stops_at_65535() {
+    let sixteen = request(&[(1, 10, 10, 0); TASKS], &[]);
     for (name, bus) in subjects() {
-        let mut state = fresh(bus);
-        state[3..5].copy_from_slice(&65_533_u16.to_le_bytes());
-        for expected in [65_534, 65_535, 65_535, 65_535] {
-            assert_eq!(bus.report(&sheet::p1(), 0, 6, &mut state), 0);
-            assert_eq!(count(&state), expected, "{name}");
+        for task in 0..TASKS {
+            let mut state = fresh(bus);
+            state[STATE_USED..].fill(0x99);
+            state[count_bytes(task)].copy_from_slice(&65_533_u16.to_le_bytes());
+            for count in [65_534, 65_535, 65_535, 65_535] {
+                assert_eq!(bus.report(&sixteen, task as u8, 2, &mut state), 0);
+                let mut expected = [0; TASKS];
+                expected[task] = count;
+                assert_eq!(counts(&state), expected, "{name}");
+            }
+            assert_eq!(state[..3], [0, 0, 1], "{name}");
+            assert!(
+                state[STATE_USED..].iter().all(|byte| *byte == 0x99),
+                "{name}"
+            );
         }
     }
 }
@@ -501,7 +511,7 @@ fn reports_take_requests_beyond_the_limits() {
         let long = request(&[(1, 10_001, 1, 0)], &[]);
         assert_eq!(bus.report(&long, 0, 2, &mut state), 0, "{name}");
         assert_eq!(bus.report(&sheet::p11(), 1, 2, &mut state), 0, "{name}");
-        assert_eq!(count(&state), 2, "{name}");
+        assert_eq!(counts(&state)[..3], [1, 1, 0], "{name}");
     }
 }
 
@@ -519,20 +529,20 @@ fn one_row_clears_the_mark_at_once() {
     }
 }
 
-/// Carried entries that are left out leave no hole, and bytes 5 to 63 stay.
+/// Carried entries that are left out leave no hole, and bytes 3 to 63 stay.
 #[test]
 fn served_entries_move_up() {
     let mixed = table(10, 20, "0.0+ 1.0 2.0+ 3.1 / 0.1");
     for (name, bus) in subjects() {
         let mut state = fresh(bus);
-        state[5..].fill(0x99);
+        state[3..].fill(0x99);
         let mut entries = [7; 32];
         assert_eq!(bus.next_frame(&mixed, &mut state, &mut entries), 2);
         assert_eq!(entries[..6], [1, 0, 3, 1, 0, 0], "{name}");
         assert_eq!(bus.next_frame(&mixed, &mut state, &mut entries), 1);
         assert_eq!(bus.next_frame(&mixed, &mut state, &mut entries), 4);
         assert_eq!(entries[..8], [0, 0x80, 1, 0, 2, 0x80, 3, 1], "{name}");
-        assert!(state[5..].iter().all(|byte| *byte == 0x99), "{name}");
+        assert!(state[3..].iter().all(|byte| *byte == 0x99), "{name}");
     }
 }
 
@@ -559,19 +569,33 @@ fn lengths_above_65535() {
         assert_eq!(bus.next_frame(&table, &mut state, &mut entries), 2);
         assert_eq!(bus.report(&request, 0, 3, &mut state), 0, "{name}");
         assert_eq!(bus.report(&long_request, 0, 3, &mut state), -6, "{name}");
-        assert_eq!(state[..5], [1, 0, 1, 1, 0], "{name}");
+        assert_eq!(state[..3], [1, 0, 1], "{name}");
+        assert_eq!(counts(&state)[..2], [1, 0], "{name}");
         assert!(entries[32..].iter().all(|byte| *byte == 0x11), "{name}");
         assert!(state[64..].iter().all(|byte| *byte == 0x11), "{name}");
     }
 }
 
+/// One task from fresh until its count stops, with frames and a few reports of the others between.
 #[test]
-fn reports_from_fresh_until_the_count_stops() {
+fn reports_from_fresh_until_one_count_stops() {
+    let request = sheet::p1();
+    let table = table(20, 40, "0.0 1.0 2.0 / 0.1 1.1");
     for (name, bus) in subjects() {
         let mut state = fresh(bus);
+        let mut expected = [0; TASKS];
         for reports in 1..=65_540_u32 {
-            assert_eq!(bus.report(&sheet::p1(), 0, 6, &mut state), 0);
-            assert_eq!(u32::from(count(&state)), reports.min(65_535), "{name}");
+            assert_eq!(bus.report(&request, 1, 6, &mut state), 0);
+            expected[1] = reports.min(65_535) as u16;
+            if reports % 20_000 == 0 {
+                assert_eq!(bus.report(&request, 2, 11, &mut state), 0);
+                expected[2] += 1;
+            }
+            if reports % 1_000 == 0 {
+                assert!(bus.next_frame(&table, &mut state, &mut [0; 32]) > 0);
+            }
+            assert_eq!(counts(&state), expected, "{name}");
         }
+        assert_eq!(expected[..4], [0, 65_535, 3, 0]);
     }
 }

@@ -2,7 +2,7 @@
 
 mod common;
 
-use bus_tests::bus::Bus;
+use bus_tests::bus::{count_bytes, Bus, STATE_USED, TASKS};
 use bus_tests::random::Random;
 use bus_tests::reference::cycle::{self, Cycle, Job};
 use bus_tests::reference::model::{plausible_lengths, window};
@@ -12,7 +12,7 @@ use bus_tests::reference::table::{decode, encode, of_plan};
 use bus_tests::reference::{planned, read_cycle, Reference};
 use bus_tests::rounds::Comparison;
 use bus_tests::sheet;
-use bus_tests::simulate::{fly_many, Flight};
+use bus_tests::simulate::{fly_long, fly_many, Flight};
 
 #[derive(Clone, Copy, Debug, PartialEq, Eq)]
 enum Lie {
@@ -50,6 +50,10 @@ enum Lie {
     CountsEveryReport,
     CountsTicksEqualToC,
     CountWraps,
+    RaisesTheNextCount,
+    RaisesAllCounts,
+    OneLimitForAllCounts,
+    ClearsCountsWithTheCycle,
     ReportJudgesTheCycle,
     TicksCutTo16Bits,
     FreshForgetsTheMark,
@@ -65,7 +69,7 @@ enum Lie {
     ReportAllowsSilence,
 }
 
-const LIES: [Lie; 47] = [
+const LIES: [Lie; 51] = [
     Lie::TenForAll,
     Lie::NineForTen,
     Lie::TenBeforeElevenFirst,
@@ -100,6 +104,10 @@ const LIES: [Lie; 47] = [
     Lie::CountsEveryReport,
     Lie::CountsTicksEqualToC,
     Lie::CountWraps,
+    Lie::RaisesTheNextCount,
+    Lie::RaisesAllCounts,
+    Lie::OneLimitForAllCounts,
+    Lie::ClearsCountsWithTheCycle,
     Lie::ReportJudgesTheCycle,
     Lie::TicksCutTo16Bits,
     Lie::FreshForgetsTheMark,
@@ -460,7 +468,10 @@ impl Bus for Sham {
                 let used = 2 * answer as usize;
                 entries[used..].copy_from_slice(&old_entries[used..]);
             }
-            Lie::ClearsFreeBytes => state[5..].fill(0),
+            Lie::ClearsFreeBytes => state[STATE_USED..].fill(0),
+            Lie::ClearsCountsWithTheCycle if state[0..2] == [0, 0] => {
+                state[3..STATE_USED].fill(0);
+            }
             _ => {}
         }
         answer
@@ -486,13 +497,39 @@ impl Bus for Sham {
         let answer = Reference.report(request, task, ticks, state);
         match self.0 {
             Lie::ReportsChangeNothing => state.copy_from_slice(&old_state),
-            Lie::CountWraps if answer == 0 && old_state[3..5] == [255, 255] => {
-                state[3..5].fill(0);
+            Lie::CountWraps if answer == 0 => {
+                let own = count_bytes(usize::from(task));
+                if old_state[own.clone()] == [255, 255] {
+                    state[own].fill(0);
+                }
+            }
+            Lie::RaisesTheNextCount if *state != old_state => {
+                state.copy_from_slice(&old_state);
+                raise(state, (usize::from(task) + 1) % TASKS);
+            }
+            Lie::RaisesAllCounts if *state != old_state => {
+                let own = usize::from(task);
+                for other in (0..TASKS).filter(|other| *other != own) {
+                    raise(state, other);
+                }
+            }
+            Lie::OneLimitForAllCounts if answer == 0 => {
+                let mut all_counts = old_state[3..STATE_USED].chunks(2);
+                if all_counts.any(|count| count == [255, 255]) {
+                    state.copy_from_slice(&old_state);
+                }
             }
             _ => {}
         }
         answer
     }
+}
+
+/// One more in the count of a task, up to 65,535.
+fn raise(state: &mut [u8], task: usize) {
+    let two = &mut state[count_bytes(task)];
+    let count = u16::from_le_bytes([two[0], two[1]]).saturating_add(1);
+    two.copy_from_slice(&count.to_le_bytes());
 }
 
 #[test]
@@ -518,10 +555,24 @@ fn flights_catch_a_sham_dispatcher() {
         Lie::LeavesUnusedPlaces,
         Lie::ReportsChangeNothing,
         Lie::CountsEveryReport,
+        Lie::RaisesTheNextCount,
+        Lie::RaisesAllCounts,
+        Lie::ClearsCountsWithTheCycle,
         Lie::TicksCutTo16Bits,
         Lie::FreshForgetsTheMark,
     ] {
         assert!(fly_many(&Sham(lie), 22, 400).is_err(), "{lie:?}");
+    }
+}
+
+/// A list long enough to see these.
+#[test]
+fn a_long_flight_catches_counts_without_a_limit_of_their_own() {
+    for lie in [Lie::CountWraps, Lie::OneLimitForAllCounts] {
+        assert!(
+            fly_long(&Sham(lie), &sheet::p3(), 2, 32).is_err(),
+            "{lie:?}"
+        );
     }
 }
 

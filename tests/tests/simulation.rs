@@ -1,10 +1,11 @@
 //! Flights of planned tables: release, deadline, order of pairs, silent ticks, exactly once, state
-//! and count.
+//! and counts.
 
 mod common;
 
 use bus_tests::rounds::MOST_TRIES;
-use bus_tests::simulate::fly_many;
+use bus_tests::sheet;
+use bus_tests::simulate::{fly_long, fly_many};
 use common::{subject, tell_left_out};
 
 const FLIGHTS: u64 = if cfg!(feature = "linked") { 4_000 } else { 400 };
@@ -17,4 +18,11 @@ fn flights_keep_their_promises() {
     assert!(done.with_carry * 10 > done.flights, "{done:?}");
     assert!(done.with_pairs * 10 > done.flights, "{done:?}");
     assert!(done.with_silence * 10 > done.flights, "{done:?}");
+}
+
+#[test]
+fn one_task_passes_65535_overruns() {
+    for task in 0..4 {
+        fly_long(subject(), &sheet::p3(), task, 32).unwrap_or_else(|fault| panic!("{fault}"));
+    }
 }

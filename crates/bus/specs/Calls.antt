@@ -35,7 +35,7 @@ checkReply request table = reply (checkNumber request table) 0
 unfoldable pub freshReply : List ℕ → ℤ
 freshReply state = pick (ltb (length state) 64) (refused 99) (pos 0)
 
--- the 59 bytes behind the state are 0
+-- the 29 bytes behind the state are 0
 unfoldable pub freshBytes : List ℕ → List ℕ
 freshBytes state = pick (ltb (length state) 64) state (stateBytes freshState (zeros 64 ++ drop 64 state))
 

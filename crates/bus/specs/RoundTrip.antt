@@ -1,23 +1,51 @@
 -- The bytes of a state, both ways: a state that was written is read again, and the bytes of a state are those that it is written as. A later state takes
 -- the place of an earlier one.
 use Prim.Native.Nat.{ℕ, zero, suc, _+_, _*_, _%_, _/_, _≤_, _<_}
-use mathlib.Core.Path.{_≡_, refl, _∙_}
+use mathlib.Core.Path.{_≡_, refl, sym, ap, _∙_}
 use mathlib.Core.Bool.{Bool, true, false}
-use mathlib.Core.List.{List, [], _∷_}
+use mathlib.Core.List.{List, _∷_, _++_}
+use native.Mathlib.Nat.{zero-add}
 use native.Mathlib.Omega.{arith}
-use lib.ListN.{length, length-drop}
+use lib.ListN.{length, getD, drop, length-drop}
+use lib.Seq.{ext-getD, drop-cons}
 use lib.Dec.{ltb, eqb}
 use borrow.Author.Tests.{le-ltb, ltb-true}
 use Rattle.cursor.specs.Fields.{wordBytes}
 use Rattle.cursor.specs.Front.{Bytes}
 use Rattle.dispatcher.specs.declared.State.{State}
-use Rattle.bus.specs.State.{isState, stateOf, stateBytes, markByte}
+use Rattle.bus.specs.State.{isState, wordOf, countIn, countsFrom, stateOf, stateBytes, countBytes, markByte}
 use Rattle.bus.specs.StateLaws.{long, state-long}
+
+word-back : (w : ℕ) → wordOf (w % 256) (w / 256) ≡ w
+word-back w = omega arith
+
+-- of n counts that are written from that of task i on, the k-th
+count-written : (counts rest : List ℕ) (n i k : ℕ) → k < n
+    → wordOf (getD (countBytes counts n i ++ rest) (2 * k) 0) (getD (countBytes counts n i ++ rest) (suc (2 * k)) 0) ≡ getD counts (i + k) 0
+unfolding countBytes wordBytes
+count-written counts rest zero i k h = absurd (omega arith)
+count-written counts rest (suc n) i zero h = word-back (getD counts i 0) ∙ ap (λ (j : ℕ). getD counts j 0) (omega arith)
+count-written counts rest (suc n) i (suc k) h =
+    let two : 2 * suc k ≡ suc (suc (2 * k)) = omega arith in
+    rw two (count-written counts rest n (i + 1) k (omega arith) ∙ ap (λ (j : ℕ). getD counts j 0) (omega arith))
+
+-- of n counts that are read from that of task i on, the k-th
+module _ (bytes : List ℕ) where
+  counts-length : (n i : ℕ) → length (countsFrom bytes n i) ≡ n
+  unfolding countsFrom
+  counts-length zero i = refl
+  counts-length (suc n) i = ap suc (counts-length n (i + 1))
+
+  counts-at : (n i k : ℕ) → k < n → getD (countsFrom bytes n i) k 0 ≡ countIn bytes (i + k)
+  unfolding countsFrom
+  counts-at zero i k h = absurd (omega arith)
+  counts-at (suc n) i zero h = ap (countIn bytes) (omega arith)
+  counts-at (suc n) i (suc k) h = counts-at n (i + 1) k (omega arith) ∙ ap (countIn bytes) (omega arith)
 
 module _ (s : State) (bytes : List ℕ) where
   pub state-length : 64 ≤ length bytes → length (stateBytes s bytes) ≡ length bytes
-  unfolding stateBytes wordBytes
-  state-length h = omega (arith, length-drop 5 bytes)
+  unfolding stateBytes countBytes wordBytes
+  state-length h = omega (arith, length-drop 35 bytes)
 
   -- the mark is 0 or 1
   pub state-is : 64 ≤ length bytes → isState (stateBytes s bytes) ≡ true
@@ -28,19 +56,30 @@ module _ (s : State) (bytes : List ℕ) where
       go true = refl
       go false = refl
 
-  pub state-read : stateOf (stateBytes s bytes) ≡ s
+  -- the count of task i stands in its two bytes
+  pub count-there : (i : ℕ) → i < 16 → countIn (stateBytes s bytes) i ≡ getD (s .counts) i 0
+  unfolding stateBytes wordBytes
+  count-there i h =
+      let low : 3 + 2 * i ≡ suc (suc (suc (2 * i))) = omega arith in
+      let high : 4 + 2 * i ≡ suc (suc (suc (suc (2 * i)))) = omega arith in
+      rw (low, high) (count-written (s .counts) (drop 35 bytes) 16 0 i h ∙ ap (λ (j : ℕ). getD (s .counts) j 0) (omega arith))
+
+  pub state-read : length (s .counts) ≡ 16 → stateOf (stateBytes s bytes) ≡ s
   unfolding stateOf stateBytes wordBytes
-  state-read =
-      let row : s .row % 256 + s .row / 256 * 256 ≡ s .row = omega arith in
-      let count : s .count % 256 + s .count / 256 * 256 ≡ s .count = omega arith in
-      λ i. record { row = row i; first = mark (s .first) i; count = count i }
+  state-read all = λ i. record { row = word-back (s .row) i; first = mark (s .first) i; counts = counts i }
     where
       mark : (first : Bool) → eqb (markByte first) 1 ≡ first
       mark true = refl
       mark false = refl
 
+      counts : countsFrom (stateBytes s bytes) 16 0 ≡ s .counts
+      counts =
+          let many = counts-length (stateBytes s bytes) 16 0 in
+          ext-getD 0 (countsFrom (stateBytes s bytes) 16 0) (s .counts) (many ∙ sym all)
+          (λ i h. counts-at (stateBytes s bytes) 16 0 i (omega (arith, many)) ∙ ap (countIn (stateBytes s bytes)) (zero-add i) ∙ count-there i (omega (arith, many)))
+
   pub state-over : (before : State) → stateBytes s (stateBytes before bytes) ≡ stateBytes s bytes
-  unfolding stateBytes wordBytes
+  unfolding stateBytes countBytes wordBytes
   state-over before = refl
 
 -- two bytes are those of their u16
@@ -56,14 +95,41 @@ mark-back zero h = refl
 mark-back (suc zero) h = refl
 mark-back (suc (suc n)) h = absurd (omega arith)
 
-pub bytes-back : (bytes : List ℕ) → isState bytes ≡ true → Bytes bytes → stateBytes (stateOf bytes) bytes ≡ bytes
-unfolding stateOf stateBytes wordBytes
-bytes-back [] is are = absurd (omega (arith, state-long [] is))
-bytes-back (a ∷ []) is are = absurd (omega (arith, state-long (a ∷ []) is))
-bytes-back (a ∷ b ∷ []) is are = absurd (omega (arith, state-long (a ∷ b ∷ []) is))
-bytes-back (a ∷ b ∷ c ∷ []) is are = absurd (omega (arith, state-long (a ∷ b ∷ c ∷ []) is))
-bytes-back (a ∷ b ∷ c ∷ d ∷ []) is are = absurd (omega (arith, state-long (a ∷ b ∷ c ∷ d ∷ []) is))
-bytes-back (a ∷ b ∷ c ∷ d ∷ e ∷ rest) is are =
-    let bytes : List ℕ = a ∷ b ∷ c ∷ d ∷ e ∷ rest in
-    let mark : c < 2 = ltb-true c 2 (long bytes (state-long bytes is) ∙ is) in
-    rw (low-back a b (are 0), high-back a b (are 0), mark-back c mark, low-back d e (are 3), high-back d e (are 3))
+module _ (bytes : List ℕ) (is : isState bytes ≡ true) (are : Bytes bytes) where
+  two-behind : (i : ℕ) → i < 16 → drop (3 + 2 * i) bytes ≡ getD bytes (3 + 2 * i) 0 ∷ getD bytes (4 + 2 * i) 0 ∷ drop (3 + 2 * (i + 1)) bytes
+  two-behind i h =
+      let far = state-long bytes is in
+      let high : 4 + 2 * i ≡ suc (3 + 2 * i) = omega arith in
+      let next : 3 + 2 * (i + 1) ≡ suc (suc (3 + 2 * i)) = omega arith in
+      rw (high, next) (drop-cons bytes (3 + 2 * i) 0 (omega arith) ∙ ap (λ (l : List ℕ). getD bytes (3 + 2 * i) 0 ∷ l) (drop-cons bytes (suc (3 + 2 * i)) 0 (omega arith)))
+
+  -- n counts from that of task i on, and the bytes behind them
+  counts-back : (n i : ℕ) → i + n ≤ 16 → countBytes (countsFrom bytes 16 0) n i ++ drop (3 + 2 * (i + n)) bytes ≡ drop (3 + 2 * i) bytes
+  unfolding countBytes wordBytes
+  counts-back zero i h = let none : i + 0 ≡ i = omega arith in rw none
+  counts-back (suc n) i h =
+      let count : getD (countsFrom bytes 16 0) i 0 ≡ countIn bytes i = counts-at bytes 16 0 i (omega arith) ∙ ap (countIn bytes) (zero-add i) in
+      let next : i + suc n ≡ i + 1 + n = omega arith in
+      let low = are (3 + 2 * i) in
+      rw (
+        count,
+        low-back (getD bytes (3 + 2 * i) 0) (getD bytes (4 + 2 * i) 0) low,
+        high-back (getD bytes (3 + 2 * i) 0) (getD bytes (4 + 2 * i) 0) low,
+        next,
+        counts-back n (i + 1) (omega arith),
+      ) (sym (two-behind i (omega arith)))
+
+  pub bytes-back : stateBytes (stateOf bytes) bytes ≡ bytes
+  unfolding stateOf stateBytes wordBytes
+  bytes-back =
+      let far = state-long bytes is in
+      let mark : getD bytes 2 0 < 2 = ltb-true (getD bytes 2 0) 2 (long bytes far ∙ is) in
+      rw (
+        low-back (getD bytes 0 0) (getD bytes 1 0) (are 0),
+        high-back (getD bytes 0 0) (getD bytes 1 0) (are 0),
+        mark-back (getD bytes 2 0) mark,
+        counts-back 16 0 (omega arith),
+        ← drop-cons bytes 2 0 (omega arith),
+        ← drop-cons bytes 1 0 (omega arith),
+        ← drop-cons bytes 0 0 (omega arith),
+      )

@@ -1,4 +1,4 @@
--- The bytes that the caller lends: 64 for the dispatcher's state, of which the first five are used, and 32 for the entries.
+-- The bytes that the caller lends: 64 for the dispatcher's state, of which the first 35 are used, and 32 for the entries.
 use Prim.Native.Nat.{ℕ, zero, suc, _+_, _*_}
 use mathlib.Core.Bool.{Bool, false}
 use mathlib.Core.List.{List, [], _∷_, _++_}
@@ -16,20 +16,34 @@ isState bytes = pick (ltb (length bytes) 64) false (ltb (getD bytes 2 0) 2)
 abbrev pub wordOf : ℕ → ℕ → ℕ
 wordOf low high = low + high * 256
 
--- bytes 0 and 1 the row, 2 the mark, 3 and 4 the count
+-- the count of task i
+abbrev pub countIn : List ℕ → ℕ → ℕ
+countIn bytes i = wordOf (getD bytes (3 + 2 * i) 0) (getD bytes (4 + 2 * i) 0)
+
+-- n counts, from that of task i on
+unfoldable pub countsFrom : List ℕ → ℕ → ℕ → List ℕ
+countsFrom bytes zero i = []
+countsFrom bytes (suc n) i = countIn bytes i ∷ countsFrom bytes n (i + 1)
+
+-- bytes 0 and 1 the row, 2 the mark, 3 to 34 the counts
 unfoldable pub stateOf : List ℕ → State
 stateOf bytes = record {
   row = wordOf (getD bytes 0 0) (getD bytes 1 0);
   first = eqb (getD bytes 2 0) 1;
-  count = wordOf (getD bytes 3 0) (getD bytes 4 0);
+  counts = countsFrom bytes 16 0;
 }
 
 abbrev pub markByte : Bool → ℕ
 markByte first = pick first 1 0
 
--- the state in the first five bytes, and behind it what was there
+-- the bytes of n counts, from that of task i on
+unfoldable pub countBytes : List ℕ → ℕ → ℕ → List ℕ
+countBytes counts zero i = []
+countBytes counts (suc n) i = wordBytes (getD counts i 0) ++ countBytes counts n (i + 1)
+
+-- the state in the first 35 bytes, and behind it what was there
 unfoldable pub stateBytes : State → List ℕ → List ℕ
-stateBytes s bytes = wordBytes (s .row) ++ (markByte (s .first) ∷ wordBytes (s .count)) ++ drop 5 bytes
+stateBytes s bytes = wordBytes (s .row) ++ (markByte (s .first) ∷ countBytes (s .counts) 16 0) ++ drop 35 bytes
 
 -- n pairs of a task byte and a job byte, from place i on
 unfoldable pub pairBytes : List ℕ → List ℕ → ℕ → ℕ → List ℕ

@@ -2,12 +2,12 @@
 // caller but that each pointer comes with its length.
 use dispatcher::State;
 ghost use mathlib.Core.Path.{_≡_};
-ghost use Prim.Native.Nat.{_≤_, _<_};
+ghost use Prim.Native.Nat.{_%_, _/_, _≤_, _<_};
 ghost use mathlib.Core.List.{_++_};
-ghost use lib.ListN.{length, drop};
+ghost use lib.ListN.{length, take, drop};
 ghost use lib.IntN.{pos};
 ghost use Rattle.bus.specs.Reply.{refused};
-ghost use Rattle.bus.specs.State.{isState, wordOf, stateOf, stateBytes, pairBytes, zeros};
+ghost use Rattle.bus.specs.State.{isState, wordOf, countsFrom, countBytes, stateOf, stateBytes, pairBytes, zeros};
 ghost use Rattle.bus.specs.Rewrite.{rewriteReply, rewriteBuffer};
 ghost use Rattle.bus.specs.Calls.{planReply, planBuffer, checkReply, freshReply, freshBytes, frameReply, frameState, frameEntries, reportReply, reportState};
 
@@ -78,27 +78,67 @@ fn word(low: u8, high: u8) -> u16
     (low as u16) + (high as u16) * 256
 }
 
+fn low_byte(word: u16) -> u8
+    ensures { λ r. ⌜ r ≡ word % 256 ⌝ }
+{
+    (word % 256) as u8
+}
+
+fn high_byte(word: u16) -> u8
+    ensures { λ r. ⌜ r ≡ word / 256 ⌝ }
+{
+    (word / 256) as u8
+}
+
+// The count of task i stands in bytes 3 + 2i and 4 + 2i.
+fn read_counts(state: &[u8]) -> [u16; 16]
+    requires { ⌜ 64 ≤ length (now state) ⌝ }
+    ensures { λ r. ⌜ r ≡ countsFrom (now (state .entry)) 16 0 ⌝ }
+{
+    let mut counts = [0u16; 16];
+    let mut i: usize = 0;
+    while i < 16 {
+        counts[i] = word(state[3 + 2 * i], state[4 + 2 * i]);
+        i += 1;
+    }
+    counts
+}
+
 fn read_state(state: &[u8]) -> State
     requires { ⌜ 64 ≤ length (now state) ⌝ }
     ensures { λ r. ⌜ r ≡ stateOf (now (state .entry)) ⌝ }
 {
+    let counts = read_counts(state);
     State {
         row: word(state[0], state[1]),
         first: state[2] == 1,
-        count: word(state[3], state[4]),
+        counts,
     }
 }
 
-// The first five bytes; those behind them are left alone.
+// Bytes 3 to 34; those before and behind them are left alone.
+fn write_counts(state: &mut [u8], counts: [u16; 16])
+    requires { ⌜ 64 ≤ length (now state) ⌝ }
+    ensures { λ r. ⌜ now (state .exit) ≡ take 3 (now (state .entry)) ++ countBytes counts 16 0 ++ drop 35 (now (state .entry)) ⌝ }
+{
+    let mut i: usize = 0;
+    while i < 16 {
+        state[3 + 2 * i] = low_byte(counts[i]);
+        state[4 + 2 * i] = high_byte(counts[i]);
+        i += 1;
+    }
+}
+
+// The first 35 bytes; those behind them are left alone.
 fn write_state(state: &mut [u8], new: State)
     requires { ⌜ 64 ≤ length (now state) ⌝ }
     ensures { λ r. ⌜ now (state .exit) ≡ stateBytes new (now (state .entry)) ⌝ }
 {
-    state[0] = (new.row % 256) as u8;
-    state[1] = (new.row / 256) as u8;
+    state[0] = low_byte(new.row);
+    state[1] = high_byte(new.row);
     state[2] = new.first as u8;
-    state[3] = (new.count % 256) as u8;
-    state[4] = (new.count / 256) as u8;
+    let counts = new.counts;
+    write_counts(state, counts);
 }
 
 fn clear(state: &mut [u8])
@@ -112,7 +152,7 @@ fn clear(state: &mut [u8])
     }
 }
 
-// The fresh state, and 0 in the 59 bytes behind it: 0, or 99 negated.
+// The fresh state, and 0 in the 29 bytes behind it: 0, or 99 negated.
 #[no_mangle]
 pub extern "C" fn bus_fresh(state: &mut [u8]) -> i32
     ensures { λ r. ⌜ (r ≡ freshReply (now (state .entry))) × (now (state .exit) ≡ freshBytes (now (state .entry))) ⌝ }

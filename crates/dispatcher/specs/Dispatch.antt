@@ -2,7 +2,7 @@
 use Prim.Native.Nat.{ℕ, _+_, _%_}
 use mathlib.Core.Bool.{Bool, true, false, not}
 use mathlib.Core.List.{List, [], _∷_}
-use lib.ListN.{length, getD}
+use lib.ListN.{length, getD, set, replicate}
 use lib.Dec.{ltb, eqb}
 use Rattle.cursor.specs.Choice.{pick, keep}
 use Rattle.request.specs.Request.{Reading, readable, unreadable, noTask}
@@ -14,13 +14,17 @@ use Rattle.dispatcher.specs.declared.State.{State}
 use Rattle.dispatcher.specs.declared.Frame.{Frame}
 use Rattle.dispatcher.specs.declared.Reported.{Reported}
 
+-- "a count for each of 16 tasks" (02, R-2), each 0
+abbrev pub noOverruns : List ℕ
+noOverruns = replicate 16 0
+
 -- "Fresh: row 0, mark set, count 0."
 abbrev pub freshState : State
-freshState = record { row = 0; first = true; count = 0 }
+freshState = record { row = 0; first = true; counts = noOverruns }
 
--- "the dispatcher's row is m mod F, its mark is set exactly when m < F, and its count is v"
-abbrev pub stateAt : ℕ → ℕ → ℕ → State
-stateAt height m v = record { row = m % height; first = ltb m height; count = v }
+-- "the dispatcher's row is m mod F, its mark is set exactly when m < F, and its count is v": its counts, since R-2
+abbrev pub stateAt : ℕ → ℕ → List ℕ → State
+stateAt height m v = record { row = m % height; first = ltb m height; counts = v }
 
 -- the entries without the carried ones
 unfoldable pub uncarried : List Entry → List Entry
@@ -45,11 +49,11 @@ noFrame number s = framed (rowRefused number) s
 
 -- "the row moves on by one"
 abbrev pub onward : State → State
-onward s = record { row = s .row + 1; first = s .first; count = s .count }
+onward s = record { row = s .row + 1; first = s .first; counts = s .counts }
 
 -- "to 0 with the mark cleared"
 abbrev pub around : State → State
-around s = record { row = 0; first = false; count = s .count }
+around s = record { row = 0; first = false; counts = s .counts }
 
 -- "the row moves on by one, and from the last row to 0 with the mark cleared"
 unfoldable pub moved : ℕ → State → State
@@ -69,12 +73,16 @@ exceeds tasks task ticks = ltb (getD tasks task noTask .c) ticks
 unfoldable pub raised : Bool → ℕ → ℕ
 raised over count = pick over (pick (ltb count 65535) (count + 1) count) count
 
--- "Report moves no row."
-abbrev pub withCount : ℕ → State → State
-withCount count s = record { row = s .row; first = s .first; count = count }
+-- "A report raises only its own task's count." (02, R-2)
+unfoldable pub raisedAt : Bool → ℕ → List ℕ → List ℕ
+raisedAt over task counts = set counts task (raised over (getD counts task 0))
 
-abbrev pub counted : Bool → State → State
-counted over s = withCount (raised over (s .count)) s
+-- "Report moves no row."
+abbrev pub withCounts : List ℕ → State → State
+withCounts counts s = record { row = s .row; first = s .first; counts = counts }
+
+abbrev pub counted : Bool → ℕ → State → State
+counted over task s = withCounts (raisedAt over task (s .counts)) s
 
 -- a report that is taken, with the state after it; and one that gives its number
 abbrev pub reportTaken : State → Reported
@@ -85,7 +93,7 @@ reportRefused number s = record { refusal = number; state = s }
 
 -- 1 to 6 and 17: not a request; 16: task number not below n
 unfoldable pub reported : Reading → ℕ → ℕ → State → Reported
-reported (readable tasks pairs g) task ticks s = pick (ltb task (length tasks)) (reportTaken (counted (exceeds tasks task ticks) s)) (reportRefused 16 s)
+reported (readable tasks pairs g) task ticks s = pick (ltb task (length tasks)) (reportTaken (counted (exceeds tasks task ticks) task s)) (reportRefused 16 s)
 reported (unreadable number) task ticks s = reportRefused number s
 
 -- what a frame's answer shows, and the entries that it says

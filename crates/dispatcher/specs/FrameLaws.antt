@@ -15,7 +15,7 @@ use Rattle.table.specs.WellFormed.{RisingFrom}
 use Rattle.table.specs.RisingLaws.{rising-none, rising-first, rising-cons, rising-less, rising-few, row-rises}
 use Rattle.table.specs.Inverse.{decode-wellformed}
 use Rattle.table.specs.AnswerLaws.{given-count, given-refusal}
-use Rattle.dispatcher.specs.Dispatch.{freshState, stateAt, uncarried, served, shown, noFrame, onward, around, moved, nextFrame}
+use Rattle.dispatcher.specs.Dispatch.{noOverruns, freshState, stateAt, uncarried, served, shown, noFrame, onward, around, moved, nextFrame}
 use Rattle.dispatcher.specs.declared.State.{State}
 
 -- What is served
@@ -115,10 +115,21 @@ module _ (height : ℕ) (s : State) where
   unfolding moved
   moved-last e = rw (eq-eqb (s .row + 1) height e)
 
-pub fresh-at : (height : ℕ) → 0 < height → freshState ≡ stateAt height 0 0
+-- no count changes
+pub frame-counts : (d : Decoded) (s : State) → nextFrame d s .state .counts ≡ s .counts
+unfolding nextFrame moved
+frame-counts (table t) s = go (ltb (s .row) (length (t .rows))) (eqb (s .row + 1) (length (t .rows)))
+  where
+    go : (b last : Bool) → pick b (shown (served (s .first) (rowOf t (s .row))) (pick last (around s) (onward s))) (noFrame 15 s) .state .counts ≡ s .counts
+    go true true = refl
+    go true false = refl
+    go false last = refl
+frame-counts malformed s = refl
+
+pub fresh-at : (height : ℕ) → 0 < height → freshState ≡ stateAt height 0 noOverruns
 fresh-at height pos = rw (zero-mod height, lt-ltb 0 height pos)
 
-pub moved-at : (height m v : ℕ) → 0 < height → moved height (stateAt height m v) ≡ stateAt height (m + 1) v
+pub moved-at : (height m : ℕ) (v : List ℕ) → 0 < height → moved height (stateAt height m v) ≡ stateAt height (m + 1) v
 moved-at height m v pos = go (eqb (m % height + 1) height) refl
   where
     next : (m + 1) % height ≡ suc (m % height) % height

@@ -23,7 +23,7 @@ use Rattle.table.specs.AnswerLaws.{entries-more, entries-none, entries-given, g
 use Rattle.table.specs.AnswerLaws.{RowSought, found, behind, no-table, row-sought, RowFound}
 use Rattle.table.specs.declared.Row.{Row}
 use Rattle.table.specs.declared.Sizes.{Sizes}
-use Rattle.dispatcher.specs.Dispatch.{uncarried, framed, moved, nextFrame, raised, withCount, reportTaken, reportRefused, reported}
+use Rattle.dispatcher.specs.Dispatch.{uncarried, framed, moved, nextFrame, raised, raisedAt, withCounts, reportTaken, reportRefused, reported}
 use Rattle.dispatcher.specs.FrameLaws.{uncarried-none, uncarried-kept, uncarried-passed, frame-served, frame-behind, frame-malformed}
 use Rattle.dispatcher.specs.ReportLaws.{report-counted, report-unknown, report-unreadable}
 use Rattle.dispatcher.specs.declared.State.{State}
@@ -120,6 +120,7 @@ module _ (bytes : List ℕ) (task ticks : ℕ) (s : State) (r : Request) (w : Wa
     pub task-placed : task < 16
     task-placed = omega (arith, below, w .kept .few-tasks)
 
-    pub task-known : (count : ℕ) → count ≡ raised (ltb (getD (r .tasks) task noTask .c) ticks) (s .count)
-        → reportTaken (withCount count s) ≡ reported (reading bytes) task ticks s
+    pub task-known : (count : ℕ) → count ≡ raised (ltb (getD (r .tasks) task noTask .c) ticks) (getD (s .counts) task 0)
+        → reportTaken (withCounts (set (s .counts) task count) s) ≡ reported (reading bytes) task ticks s
+    unfolding raisedAt
     task-known count e = rw (e, w .task-is task below) (sym (report-counted (reading bytes) task ticks s (w .tasks) (w .pairs) (w .g) (w .is) below))

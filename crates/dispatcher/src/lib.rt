@@ -1,4 +1,4 @@
-// The dispatcher: the entries of the next frame, the first-cycle mark and the count of overruns. It stands above the readers of tables and requests.
+// The dispatcher: the entries of the next frame, the first-cycle mark and each task's count of overruns. It stands above the readers of tables and requests.
 use table::Row;
 ghost use mathlib.Core.Path.{_≡_};
 ghost use Prim.Native.Nat.{_≤_, _<_};
@@ -7,11 +7,11 @@ ghost use Rattle.table.specs.Table.{decode};
 ghost use Rattle.table.specs.Answers.{rowGiven, entriesSaid};
 ghost use Rattle.dispatcher.specs.Dispatch.{freshState, uncarried, framed, moved, nextFrame, raised, reported};
 
-// The row that is served next, the mark of the first cycle and the count of overruns.
+// The row that is served next, the mark of the first cycle and, for each of 16 tasks, the count of its overruns.
 pub struct State {
     pub row: u16,
     pub first: bool,
-    pub count: u16,
+    pub counts: [u16; 16],
 }
 
 // The entries to serve in 16 places, filled from the first, as task bytes and job bytes; and the state for the next call.
@@ -34,7 +34,7 @@ pub fn fresh() -> State
     State {
         row: 0,
         first: true,
-        count: 0,
+        counts: [0; 16],
     }
 }
 
@@ -86,17 +86,18 @@ fn move_on(height: u16, state: State) -> State
     requires { ⌜ state .row < height ⌝ }
     ensures { λ r. ⌜ r ≡ moved height state ⌝ }
 {
+    let counts = state.counts;
     if height - state.row == 1 {
         return State {
             row: 0,
             first: false,
-            count: state.count,
+            counts,
         };
     }
     State {
         row: state.row + 1,
         first: state.first,
-        count: state.count,
+        counts,
     }
 }
 
@@ -131,7 +132,7 @@ fn count_overrun(over: bool, count: u16) -> u16
     count
 }
 
-// The ticks that a task used: more than C are an overrun. 1 to 6 or 17 where the bytes are no request, 16 where it has no such task.
+// The ticks that a task used: more than C are an overrun, and its own count rises. 1 to 6 or 17 where the bytes are no request, 16 where it has no such task.
 pub fn report(request: &[u8], task: u8, ticks: u32, state: State) -> Reported
     ensures { λ r. ⌜ r ≡ reported (reading (now (request .entry))) task ticks state ⌝ }
 {
@@ -149,13 +150,14 @@ pub fn report(request: &[u8], task: u8, ticks: u32, state: State) -> Reported
     let tasks = read.tasks;
     let x = tasks[i];
     let over = (x.c as u32) < ticks;
-    let count = count_overrun(over, state.count);
+    let mut counts = state.counts;
+    counts[i] = count_overrun(over, counts[i]);
     Reported {
         refusal: 0,
         state: State {
             row: state.row,
             first: state.first,
-            count,
+            counts,
         },
     }
 }

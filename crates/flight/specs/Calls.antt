@@ -9,7 +9,7 @@ use Rattle.request.specs.Request.{Reading, readable, unreadable, reading}
 use Rattle.table.specs.Table.{Entry, Table, decode, rowOf}
 use Rattle.table.specs.Answers.{rowGiven, entriesSaid}
 use Rattle.table.specs.declared.Row.{Row}
-use Rattle.dispatcher.specs.Dispatch.{served, nextFrame, exceeds, raised, reported, rowShown}
+use Rattle.dispatcher.specs.Dispatch.{noOverruns, served, nextFrame, exceeds, raisedAt, reported, rowShown}
 use Rattle.dispatcher.specs.declared.State.{State}
 use Rattle.dispatcher.specs.declared.Frame.{Frame}
 use Rattle.dispatcher.specs.declared.Reported.{Reported}
@@ -42,13 +42,14 @@ dispatch tableBytes s next-frame = frameTurn (nextFrame (decode tableBytes) s)
 dispatch tableBytes s (report bytes task ticks) = reportTurn (reported (reading bytes) task ticks s)
 
 -- The plain dispatcher. "It keeps two numbers, both 0 at first: m, the frames served, and v, the overruns."
+-- 02, R-2: "The plain dispatcher's v becomes 16 such counts too."
 
 pub record Plain : Type 0 where
   pub m : ℕ
-  pub v : ℕ
+  pub v : List ℕ
 
 abbrev pub begin : Plain
-begin = record { m = 0; v = 0 }
+begin = record { m = 0; v = noOverruns }
 
 -- F
 abbrev pub height : Table → ℕ
@@ -62,9 +63,9 @@ plainFrame t m = served (ltb m (height t)) (rowOf t (m % height t))
 abbrev pub oneServed : Plain → Plain
 oneServed s = record { m = s .m + 1; v = s .v }
 
--- "v rises by one if the ticks exceed that task's C in them, stopping at 65,535"
-abbrev pub oneHeard : Bool → Plain → Plain
-oneHeard over s = record { m = s .m; v = raised over (s .v) }
+-- "v rises by one if the ticks exceed that task's C in them, stopping at 65,535": of the 16 in v, that task's count
+abbrev pub oneHeard : Bool → ℕ → Plain → Plain
+oneHeard over task s = record { m = s .m; v = raisedAt over task (s .v) }
 
 -- a report's number, and the plain dispatcher's numbers after it
 abbrev pub plainTurn : ℕ → Plain → Turn Plain
@@ -73,7 +74,7 @@ plainTurn n s = record { answer = number n; after = s }
 -- "On a report whose bytes have the form of a request with none behind it, and whose task number is below the n in them, it answers no number, and v
 -- rises by one if the ticks exceed that task's C in them, stopping at 65,535. Any other report gives its number by the table below and changes nothing."
 unfoldable pub heard : Reading → ℕ → ℕ → Plain → Turn Plain
-heard (readable tasks pairs g) task ticks s = pick (ltb task (length tasks)) (plainTurn 0 (oneHeard (exceeds tasks task ticks) s)) (plainTurn 16 s)
+heard (readable tasks pairs g) task ticks s = pick (ltb task (length tasks)) (plainTurn 0 (oneHeard (exceeds tasks task ticks) task s)) (plainTurn 16 s)
 heard (unreadable n) task ticks s = plainTurn n s
 
 -- "It never refuses a next-frame call of the list."

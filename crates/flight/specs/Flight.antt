@@ -1,8 +1,8 @@
 -- The claim about a flight as a whole: 01, "What demand 3 compares".
 use mathlib.Core.Path.{_≡_}
 use mathlib.Core.List.{List}
-use Prim.Native.Nat.{ℕ, suc, _+_, _*_, _%_, _≤_, _<_}
-use lib.ListN.{length}
+use Prim.Native.Nat.{ℕ, suc, _+_, _*_, _%_, _≤_, _<_, min}
+use lib.ListN.{length, getD}
 use lib.Dec.{ltb}
 use Rattle.cycle.specs.Planned.{IsJob}
 use Rattle.table.specs.Table.{Entry, Table}
@@ -10,6 +10,7 @@ use Rattle.model.specs.Plan.{Instance, pairAt}
 use Rattle.dispatcher.specs.Dispatch.{freshState}
 use Rattle.dispatcher.specs.declared.State.{State}
 use Rattle.flight.specs.Calls.{Call, Answer, dispatch, Plain, begin, height, plainly, answers, final, framesShown}
+use Rattle.flight.specs.Overruns.{overruns}
 use Rattle.flight.specs.Timing.{Served, start, finish, releasedIn, dueIn, Starts, StandsForSome, EndedBy, timesRun}
 
 -- "The list starts from the fresh state.": the dispatcher's answers, its state after the list, and the frames that it served
@@ -19,6 +20,10 @@ module _ (tableBytes : List ℕ) (calls : List Call) where
 
   abbrev pub stateAfter : State
   stateAfter = final (dispatch tableBytes) freshState calls
+
+  -- the count of task i after the list
+  abbrev pub countAfter : ℕ → ℕ
+  countAfter i = getD (stateAfter .counts) i 0
 
   abbrev pub framesFlown : List (List Entry)
   framesFlown = framesShown answersGiven
@@ -52,10 +57,12 @@ module _ (x : Instance) (tableBytes : List ℕ) (t : Table) (calls : List Call) 
   pub record Flight : Type 0 where
     -- "Every answer of the dispatcher is the plain one's."
     pub same-answers : answersGiven tableBytes calls ≡ plainAnswered t calls
-    -- "After the list the dispatcher's row is m mod F, its mark is set exactly when m < F, and its count is v."
+    -- "After the list the dispatcher's row is m mod F, its mark is set exactly when m < F, and its count is v.": its 16 counts, since R-2
     pub row-is : stateAfter tableBytes calls .row ≡ plainAfter t calls .m % height t
     pub mark-is : stateAfter tableBytes calls .first ≡ ltb (plainAfter t calls .m) (height t)
-    pub count-is : stateAfter tableBytes calls .count ≡ plainAfter t calls .v
+    pub counts-are : stateAfter tableBytes calls .counts ≡ plainAfter t calls .v
+    -- 02, R-2: "for every list of calls, a task's count is the number of its accepted reports above C, or 65,535 if there were more"
+    pub count-is : (i : ℕ) → i < 16 → countAfter tableBytes calls i ≡ min 65535 (overruns i calls)
     -- m frames were answered; the first is frame 0
     pub frames-are : length (framesFlown tableBytes calls) ≡ plainAfter t calls .m
     -- every entry served stands for a job of the request, of some cycle: nothing else runs

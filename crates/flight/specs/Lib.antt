@@ -1,6 +1,7 @@
 -- The flight of an accepted table. To be believed, in this order:
 pub mod Calls
 pub mod Timing
+pub mod Overruns
 pub mod Flight
 -- the theorem:
 pub mod Theorem
@@ -9,6 +10,6 @@ pub mod Same
 pub mod Rows
 pub mod Serving
 pub mod OnTime
--- what the count counts:
-pub mod Overruns
+pub mod Counted
+-- of the public calls' answers:
 pub mod Joined

@@ -39,7 +39,7 @@ report-same F (readable tasks pairs g) i ticks s = go (ltb i (length tasks)) ref
 
     go : (b : Bool) → ltb i (length tasks) ≡ b
         → reportTurn (reported r i ticks (stateFor F s))
-        ≡ turnOf F (pick (ltb i (length tasks)) (plainTurn 0 (oneHeard (exceeds tasks i ticks) s)) (plainTurn 16 s))
+        ≡ turnOf F (pick (ltb i (length tasks)) (plainTurn 0 (oneHeard (exceeds tasks i ticks) i s)) (plainTurn 16 s))
     go true q = rw (report-counted r i ticks (stateFor F s) tasks pairs g refl (ltb-true i (length tasks) q), q)
     go false q = rw (report-unknown r i ticks (stateFor F s) tasks pairs g refl (ltb-false i (length tasks) q), q)
 
@@ -102,7 +102,7 @@ unfolding heard
 heard-still (unreadable n) i ticks s = record { same-m = refl; no-frame = λ l. refl }
 heard-still (readable tasks pairs g) i ticks s = go (ltb i (length tasks))
   where
-    go : (b : Bool) → Still s (pick b (plainTurn 0 (oneHeard (exceeds tasks i ticks) s)) (plainTurn 16 s))
+    go : (b : Bool) → Still s (pick b (plainTurn 0 (oneHeard (exceeds tasks i ticks) i s)) (plainTurn 16 s))
     go true = record { same-m = refl; no-frame = λ l. refl }
     go false = record { same-m = refl; no-frame = λ l. refl }
 

@@ -18,6 +18,7 @@ use Rattle.flight.specs.Timing.{KeepToC, timesRun}
 use Rattle.flight.specs.Flight.{framesFlown, plainAfter, Flight}
 use Rattle.flight.specs.Same.{all-answers, final-state, framesFrom, framesFrom-length, framesFrom-at, asked, m-after, frames-served}
 use Rattle.flight.specs.Serving.{place-of-job, job-there, some-row, some-length, whole, frame-read-off, runs-from}
+use Rattle.flight.specs.Counted.{overruns-counted}
 use Rattle.flight.specs.OnTime.{starts-next, some-job, after-release, before-due, ended}
 
 module _ (x : Instance) (g : Good x) (bytes : List ℕ) (t : Table) (says : decode bytes ≡ table t)
@@ -50,7 +51,8 @@ module _ (x : Instance) (g : Good x) (bytes : List ℕ) (t : Table) (says : deco
           same-answers = all-answers bytes t says (some-row x g t ks v d) calls;
           row-is = ap (λ (s : State). s .row) state;
           mark-is = ap (λ (s : State). s .first) state;
-          count-is = ap (λ (s : State). s .count) state;
+          counts-are = ap (λ (s : State). s .counts) state;
+          count-is = λ i few. overruns-counted i bytes few calls;
           frames-are = frames-length ∙ sym m-is;
           each-stands = some-job x g t ks v d actual (framesFlown bytes calls) frame-is keep;
           silent-between = λ m p s. starts-next (x .g) (t .f) actual m p;

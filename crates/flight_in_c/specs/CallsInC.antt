@@ -1,16 +1,17 @@
 -- Lists of calls from C: what they answer and leave in the lent buffers, and the plain dispatcher's answers as C would see them.
 use mathlib.Core.Path.{_≡_}
 use mathlib.Core.List.{List, [], _∷_, _++_, map}
-use Prim.Native.Nat.{ℕ, _≤_}
+use Prim.Native.Nat.{ℕ, _≤_, _<_, min}
 use lib.IntN.{ℤ}
 use lib.ListN.{length, drop}
 use Rattle.table.specs.Table.{Table}
 use Rattle.dispatcher.specs.Dispatch.{stateAt}
 use Rattle.dispatcher.specs.declared.State.{State}
 use Rattle.flight.specs.Calls as plain
+use Rattle.flight.specs.Overruns.{overruns}
 use Rattle.flight.specs.Flight.{plainAnswered, plainAfter}
 use Rattle.bus.specs.Reply.{reply, after}
-use Rattle.bus.specs.State.{stateBytes, pairBytes, zeros}
+use Rattle.bus.specs.State.{countIn, stateBytes, pairBytes, zeros}
 use Rattle.bus.specs.Calls.{freshBytes, frameReply, frameState, frameEntries, reportReply, reportState}
 
 -- a call of bus_next_frame, with the entries' buffer as it was lent, or of bus_report, with any bytes as its request, any task number and any ticks
@@ -83,5 +84,7 @@ module _ (t : Table) (state : List ℕ) (calls : List CallInC) where
 pub record SameInC (table : List ℕ) (t : Table) (state : List ℕ) (calls : List CallInC) : Type 0 where
   -- every answer and every byte of the entries is the plain dispatcher's
   pub same-seen : allSeen table (freshBytes state) calls ≡ allShown calls (plainAnswered t (map fed calls))
-  -- the state's bytes are those of row, mark and count
+  -- the state's bytes are those of row, mark and counts
   pub same-state : stateLeft table (freshBytes state) calls ≡ plainBytes t state calls
+  -- the two bytes of task i say the number of its accepted reports above C, or 65,535 if there were more
+  pub count-is : (i : ℕ) → i < 16 → countIn (stateLeft table (freshBytes state) calls) i ≡ min 65535 (overruns i (map fed calls))

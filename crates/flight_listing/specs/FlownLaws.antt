@@ -9,7 +9,7 @@ use Rattle.table.specs.Inverse.{decode-wellformed}
 use Rattle.table.specs.RisingLaws.{rising-few, row-rises}
 use Rattle.table.specs.AnswerLaws.{entries-given, given-count}
 use Rattle.table.specs.Left.{less-one, none-left}
-use Rattle.dispatcher.specs.Dispatch.{stateAt, shown, moved, nextFrame, entriesOf}
+use Rattle.dispatcher.specs.Dispatch.{noOverruns, stateAt, shown, moved, nextFrame, entriesOf}
 use Rattle.dispatcher.specs.FrameLaws.{frame-served, served-rises, moved-at}
 use Rattle.dispatcher.specs.declared.State.{State}
 use Rattle.dispatcher.specs.declared.Frame.{Frame}
@@ -32,19 +32,23 @@ module _ (t : Table) (n m : ℕ) (x : Filled) where
   unfolding frameLines
   frames-end h = rw (none-left n m h) (put-none x)
 
--- frame m of the table, from the state after m frames
+-- the state after m frames, nothing reported
+abbrev pub stateAfter : Table → ℕ → State
+stateAfter t m = stateAt (height t) m noOverruns
+
+-- frame m of the table, from that state
 pub record FrameRead (t : Table) (m : ℕ) (frame : Frame) : Type 0 where
   pub few : frame .count ≤ 16
   pub entries : entriesOf frame ≡ plainFrame t m
-  pub state : frame .state ≡ stateAt (height t) (m + 1) 0
+  pub state : frame .state ≡ stateAfter t (m + 1)
 
-pub frame-read : (bytes : List ℕ) (m : ℕ) (s : State) (frame : Frame) → frame ≡ nextFrame (decode bytes) s → s ≡ stateAt (height (tableIn (decode bytes))) m 0
+pub frame-read : (bytes : List ℕ) (m : ℕ) (s : State) (frame : Frame) → frame ≡ nextFrame (decode bytes) s → s ≡ stateAfter (tableIn (decode bytes)) m
     → 0 < height (tableIn (decode bytes)) → FrameRead (tableIn (decode bytes)) m frame
 frame-read bytes m s frame e now some = go (decode bytes) refl now some
   where
-    go : (d : Decoded) → decode bytes ≡ d → s ≡ stateAt (height (tableIn d)) m 0 → 0 < height (tableIn d) → FrameRead (tableIn d) m frame
+    go : (d : Decoded) → decode bytes ≡ d → s ≡ stateAfter (tableIn d) m → 0 < height (tableIn d) → FrameRead (tableIn d) m frame
     go (table t) is at pos =
-        let here : State = stateAt (height t) m 0 in
+        let here : State = stateAfter t m in
         let below : m % height t < height t = mod-lt m pos in
         let from : frame ≡ nextFrame (decode bytes) here = e ∙ ap (nextFrame (decode bytes)) at in
         let given : frame ≡ shown (plainFrame t m) (moved (height t) here) = from ∙ frame-served bytes here t is below in
@@ -52,7 +56,7 @@ frame-read bytes m s frame e now some = go (decode bytes) refl now some
         record {
           few = rw given (omega (arith, given-count (plainFrame t m), rising-few (plainFrame t m) 0 (omega arith) rises));
           entries = rw given (entries-given (plainFrame t m) rises);
-          state = rw given (moved-at (height t) m 0 pos);
+          state = rw given (moved-at (height t) m noOverruns pos);
         }
     go malformed is at pos = absurd (omega arith)
 

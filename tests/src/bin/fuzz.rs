@@ -8,7 +8,7 @@ use std::env;
 use std::process::exit;
 use std::time::{Duration, Instant};
 
-use bus_tests::bus::{ENTRIES_LEN, STATE_LEN};
+use bus_tests::bus::{count_bytes, ENTRIES_LEN, STATE_LEN, STATE_USED, TASKS};
 use bus_tests::call::{compare, Call};
 use bus_tests::generate;
 use bus_tests::library::Library;
@@ -123,14 +123,16 @@ fn length(rng: &mut Random, usual: usize) -> usize {
 fn state(rng: &mut Random) -> Vec<u8> {
     let length = length(rng, STATE_LEN);
     let mut bytes = rng.bytes(length);
-    if length > 5 && rng.chance(95) {
+    if length > STATE_USED && rng.chance(95) {
         bytes[1] = rng.pick(&[0, 0, 0, 0, 1, 255]);
         bytes[2] = rng.pick(&[0, 1]);
         if rng.chance(70) {
             bytes[0] = rng.pick(&[0, 0, 0, 0, 1, 1, 2, 3, 9, 200]);
         }
-        if rng.chance(20) {
-            bytes[3..5].fill(255);
+        for task in 0..TASKS {
+            if rng.chance(20) {
+                bytes[count_bytes(task)].fill(255);
+            }
         }
     }
     bytes

@@ -1,5 +1,7 @@
 //! The dispatcher's state, next-frame and report.
 
+use crate::bus::TASKS;
+
 use super::request::Request;
 use super::table::{Entry, Table};
 
@@ -9,14 +11,15 @@ pub const MOST_OVERRUNS: i64 = 65_535;
 pub struct State {
     pub row: i64,
     pub first_cycle: bool,
-    pub overruns: i64,
+    /// For each task.
+    pub overruns: [i64; TASKS],
 }
 
 pub fn fresh() -> State {
     State {
         row: 0,
         first_cycle: true,
-        overruns: 0,
+        overruns: [0; TASKS],
     }
 }
 
@@ -39,10 +42,11 @@ pub fn next_frame(table: &Table, state: State) -> Result<(Vec<Entry>, State), i3
 
 /// The state after a report, or 16.
 pub fn report(request: &Request, task: u8, ticks: u32, state: State) -> Result<State, i32> {
-    let task = request.tasks.get(usize::from(task)).ok_or(16)?;
+    let number = usize::from(task);
+    let task = request.tasks.get(number).ok_or(16)?;
     let mut next = state;
     if i64::from(ticks) > task.c {
-        next.overruns = (state.overruns + 1).min(MOST_OVERRUNS);
+        next.overruns[number] = (state.overruns[number] + 1).min(MOST_OVERRUNS);
     }
     Ok(next)
 }

@@ -11,7 +11,7 @@ pub mod request;
 pub mod search;
 pub mod table;
 
-use crate::bus::{Bus, ENTRIES_LEN, NOT_A_STATE, STATE_LEN};
+use crate::bus::{count_bytes, counts, Bus, ENTRIES_LEN, NOT_A_STATE, STATE_LEN};
 use cycle::Cycle;
 use dispatch::State;
 use search::{Choice, Effort};
@@ -79,14 +79,16 @@ fn state_in(bytes: &[u8]) -> Option<State> {
     Some(State {
         row: i64::from(bytes[0]) + 256 * i64::from(bytes[1]),
         first_cycle: bytes[2] == 1,
-        overruns: i64::from(bytes[3]) + 256 * i64::from(bytes[4]),
+        overruns: counts(bytes).map(i64::from),
     })
 }
 
 fn put_state(state: State, bytes: &mut [u8]) {
     bytes[0..2].copy_from_slice(&(state.row as u16).to_le_bytes());
     bytes[2] = u8::from(state.first_cycle);
-    bytes[3..5].copy_from_slice(&(state.overruns as u16).to_le_bytes());
+    for (task, overruns) in state.overruns.iter().enumerate() {
+        bytes[count_bytes(task)].copy_from_slice(&(*overruns as u16).to_le_bytes());
+    }
 }
 
 fn put_entries(served: &[Entry], bytes: &mut [u8]) {

@@ -1,4 +1,4 @@
--- Two words and the mark, each from its bytes.
+-- A word, the mark and the counts, each from its bytes.
 use Rattle.bus.specs.State.{stateOf}
 use borrow.Author.Needs.{needs}
 use Rattle.bus.proofs.read_state.Statement.{statement}
@@ -6,10 +6,9 @@ use Rattle.bus.proofs.read_state.Tie as tie
 
 returns : tie.Need-returns
 unfolding stateOf
-returns c = rw (c .before .before .before .before .word .ensures, c .word2 .ensures)
+returns c = rw (c .before .before .before .before .read-counts .ensures, c .before .word .ensures)
 
 pub read-state-spec : {M : Type 1} → statement M
 read-state-spec =
     tie.close
-    (tie.spec (λ c. search needs) (λ c. search needs) (λ c κs. search needs) (λ c. search needs) (λ c. search needs) (λ c. search needs)
-    (λ c κs. search needs) returns)
+    (tie.spec (λ c κs. search needs) (λ c. search needs) (λ c. search needs) (λ c κs. search needs) (λ c. search needs) returns)

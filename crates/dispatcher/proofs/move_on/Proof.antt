@@ -12,18 +12,18 @@ sub-if1 c = search needs
 
 returns : tie.Need-returns
 returns c =
-    let s = c .before .before in
+    let s = c .before .before .before in
     let last : s .args .state .row + 1 ≡ s .args .height = omega (arith, s .pre, c .if1 .taken) in
     sym (moved-last _ _ last)
 
-add-t3 : tie.Need-add-t3
-add-t3 c = search needs
+add-t4 : tie.Need-add-t4
+add-t4 c = search needs
 
 returns-2 : tie.Need-returns-2
 returns-2 c =
-    let s = c .before .before .before in
+    let s = c .before .before .before .before in
     let next : s .args .state .row + 1 < s .args .height = omega (arith, s .pre, c .before .if1 .left) in
     sym (moved-next _ _ next)
 
 pub move-on-spec : {M : Type 1} → statement M
-move-on-spec = tie.close (tie.spec sub-if1 returns add-t3 returns-2)
+move-on-spec = tie.close (tie.spec sub-if1 returns add-t4 returns-2)

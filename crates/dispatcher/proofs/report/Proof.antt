@@ -24,18 +24,28 @@ returns-2 c =
 known : (c : tie.Else2) → let read = c .before .before .before .before in read .before .before .args .task < read .read .result .n
 known c = omega (arith, c .if2 .left)
 
+-- and so its place is one of 16
+placed : (c : tie.Else2) → c .before .before .before .before .before .before .args .task < 16
+placed c =
+    let a = c .before .before .before .before .before .before .args in
+    task-placed _ _ (a .ticks) (a .state) _ (there (c .before .before)) (known c)
+
 array-copy-out-x : tie.Need-array-copy-out-x
-array-copy-out-x c =
-    let e = c .before .before .before in
-    let a = e .before .before .before .before .args in
-    task-placed _ _ (a .ticks) (a .state) _ (there e) (known (c .before))
+array-copy-out-x c = placed (c .before)
+
+array-read-count-overrun : tie.Need-array-read-count-overrun
+array-read-count-overrun c = placed (c .before .before .before .before)
+
+array-write-counts : tie.Need-array-write-counts
+array-write-counts c = placed (c .before .before .before .before .before)
 
 returns-3 : tie.Need-returns-3
 returns-3 c =
-    let e = c .before .before .before .before in
+    let e = c .before .before .before .before .before in
     task-known _ _ _ _ _ (there (e .before .before)) (known e) _ (c .count-overrun .ensures)
 
 pub report-spec : {M : Type 1} → statement M
 report-spec =
     tie.close
-    (tie.spec (λ c κs. search needs) returns returns-2 (λ c. search needs) array-copy-out-x (λ c. search needs) (λ c κs. search needs) returns-3)
+    (tie.spec (λ c κs. search needs) returns returns-2 (λ c. search needs) array-copy-out-x (λ c. search needs) (λ c. search needs)
+    array-read-count-overrun (λ c κs. search needs) (λ c. search needs) array-write-counts returns-3)

@@ -6,21 +6,20 @@ use native.Mathlib.Nat.{sub-zero}
 use native.Mathlib.Omega.{arith}
 use lib.ListN.{length}
 use Rattle.table.specs.Table.{decode}
-use Rattle.dispatcher.specs.Dispatch.{stateAt}
 use Rattle.dispatcher.specs.FrameLaws.{fresh-at}
 use Rattle.flight.specs.Calls.{height}
 use Rattle.text.specs.Text.{filledTo, putAllOf}
 use Rattle.listing.specs.Answers.{tableIn}
 use Rattle.listing.specs.ListingLaws.{sizes-read}
 use Rattle.flight_listing.specs.Flown.{frameLines}
-use Rattle.flight_listing.specs.FlownLaws.{frames-turn, frames-end, frame-read}
+use Rattle.flight_listing.specs.FlownLaws.{stateAfter, frames-turn, frames-end, frame-read}
 use Rattle.flight_listing.proofs.put_frames.Statement.{statement}
 use Rattle.flight_listing.proofs.put_frames.Tie as tie
 
 abbrev Inv-loop : tie.InvT-loop
 Inv-loop out₀ table sizes frames state₀ end₀ m₀ out state end m =
     (m ≤ frames) × (frames ≡ 3 * height (tableIn (decode table))) × (length out ≡ length out₀)
-    × (0 < height (tableIn (decode table)) → state ≡ stateAt (height (tableIn (decode table))) m 0)
+    × (0 < height (tableIn (decode table)) → state ≡ stateAfter (tableIn (decode table)) m)
     × (putAllOf (filledTo end out) (frameLines (tableIn (decode table)) (3 * height (tableIn (decode table)) - m) m)
     ≡ putAllOf (filledTo 0 out₀) (frameLines (tableIn (decode table)) (3 * height (tableIn (decode table))) 0))
 
