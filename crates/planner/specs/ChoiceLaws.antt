@@ -19,9 +19,10 @@ use Rattle.model.specs.Chosen.{Choice, noPlan, noPlausible, isTried, foundOr, c
 use Rattle.model.specs.ChosenLaws.{choose-end, choose-skipped, choose-tried}
 use Rattle.problem.specs.Answers.{linksAnswer}
 use Rattle.problem.specs.declared.JobLinks.{JobLinks}
-use Rattle.planner.specs.Choices.{Planned, Searchable, foundAnswer, noneChosen, choiceAnswer}
+use Rattle.place.specs.Arrays.{placedAnswer}
+use Rattle.place.specs.declared.Placed.{Placed}
+use Rattle.planner.specs.Choices.{Planned, Searchable, noneChosen, choiceAnswer}
 use Rattle.planner.specs.declared.choose.ChosenPlan.{ChosenPlan}
-use Rattle.planner.specs.declared.choose.FoundPlan.{FoundPlan}
 
 both-false : (b : Bool) → both b false ≡ false
 both-false true = refl
@@ -56,17 +57,17 @@ module _ (x : Instance) (rows : ℕ) (few : rows ≤ 256) (some : Bool) where
   abbrev after : Choice
   after = chooseFrom x (257 - (rows + 1)) (rows + 1) true
 
-  module _ (tried : isTried x rows ≡ true) (r : FoundPlan) (is : r ≡ foundAnswer (plan (problemAt x f) [])) where
+  module _ (tried : isTried x rows ≡ true) (r : Placed) (is : r ≡ placedAnswer (plan (problemAt x f) [])) where
     turn : chooseFrom x (257 - rows) rows some ≡ foundOr f (plan (problemAt x f) []) after
     turn = rw left (choose-tried x (257 - (rows + 1)) rows some tried)
 
     -- a length without a plan
     pub none-with : r .found ≡ false → after ≡ chooseFrom x (257 - rows) rows some
-    unfolding foundAnswer foundOr
+    unfolding placedAnswer foundOr
     none-with e = go (plan (problemAt x f) []) is ∙ sym turn
       where
-        go : (o : Found) → r ≡ foundAnswer o → after ≡ foundOr f o after
-        go (at frames) q = absurd (never (no-bool (sym (ap (λ (p : FoundPlan). p .found) q) ∙ e)))
+        go : (o : Found) → r ≡ placedAnswer o → after ≡ foundOr f o after
+        go (at frames) q = absurd (never (no-bool (sym (ap (λ (p : Placed). p .found) q) ∙ e)))
           where
             no-bool : true ≡ false → _≡_ {A = ℕ} 0 1
             no-bool w = cc
@@ -75,13 +76,13 @@ module _ (x : Instance) (rows : ℕ) (few : rows ≤ 256) (some : Bool) where
     -- a length with one
     pub one-with : r .found ≡ true
         → _≡_ {A = ChosenPlan} (record { refusal = 0; f = f; frames = r .frames }) (choiceAnswer (chooseFrom x (257 - rows) rows some))
-    unfolding foundAnswer foundOr choiceAnswer
+    unfolding placedAnswer foundOr choiceAnswer
     one-with e = go (plan (problemAt x f) []) is ∙ ap choiceAnswer (sym turn)
       where
-        go : (o : Found) → r ≡ foundAnswer o
+        go : (o : Found) → r ≡ placedAnswer o
             → _≡_ {A = ChosenPlan} (record { refusal = 0; f = f; frames = r .frames }) (choiceAnswer (foundOr f o after))
         go (at frames) q = λ i. record { refusal = 0; f = f; frames = q i .frames }
-        go none q = absurd (never (no-bool (sym (ap (λ (p : FoundPlan). p .found) q) ∙ e)))
+        go none q = absurd (never (no-bool (sym (ap (λ (p : Placed). p .found) q) ∙ e)))
           where
             no-bool : false ≡ true → _≡_ {A = ℕ} 0 1
             no-bool w = cc

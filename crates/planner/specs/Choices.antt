@@ -1,12 +1,11 @@
 -- The answers of the functions that choose, and what they ask of their arguments.
 use Prim.Native.Nat.{ℕ, _≤_}
 use mathlib.Core.Path.{_≡_}
-use mathlib.Core.Bool.{true, false}
+use mathlib.Core.Bool.{true}
 use mathlib.Core.List.{List}
 use lib.ListN.{replicate}
 use Rattle.cursor.specs.Padded.{padded}
 use Rattle.cycle.specs.declared.Cycle.{Cycle}
-use Rattle.search.specs.Search.{Found, none, at}
 use Rattle.model.specs.Plan.{costs}
 use Rattle.model.specs.Good.{Good}
 use Rattle.model.specs.Answers.{instanceOf}
@@ -15,11 +14,6 @@ use Rattle.model.specs.Chosen.{Choice, chosen, noPlan, noPlausible}
 use Rattle.problem.specs.Answers.{linksAnswer}
 use Rattle.problem.specs.declared.JobLinks.{JobLinks}
 use Rattle.planner.specs.declared.choose.ChosenPlan.{ChosenPlan}
-use Rattle.planner.specs.declared.choose.FoundPlan.{FoundPlan}
-
-unfoldable pub foundAnswer : Found → FoundPlan
-foundAnswer (at frames) = record { found = true; frames = padded 128 0 frames }
-foundAnswer none = record { found = false; frames = replicate 128 0 }
 
 abbrev pub noneChosen : ℕ → ChosenPlan
 noneChosen number = record { refusal = number; f = 0; frames = replicate 128 0 }

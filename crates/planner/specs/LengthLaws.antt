@@ -1,18 +1,13 @@
--- One frame length: the numbers that are handed to the search are the problem of that length, and what the search finds is the
--- definition's plan.
-use Prim.Native.Nat.{ℕ, zero, suc, _+_, _*_, _-_, _/_, _≤_, _<_}
+-- One frame length: the numbers that are handed to the search are the problem of that length, which is one for the search.
+use Prim.Native.Nat.{ℕ, _*_, _/_, _≤_, _<_}
 use mathlib.Core.Path.{_≡_, sym, ap, subst⁻¹, _∙_}
-use mathlib.Core.Bool.{true, false}
-use mathlib.Core.List.{List, [], _++_, map}
+use mathlib.Core.List.{List, map}
 use native.Mathlib.Omega.{arith}
-use lib.ListN.{length, take, drop, replicate, length-map, length-replicate}
-use lib.Seq.{length-take-le}
-use Rattle.cursor.specs.Padded.{padded, padded-length, take-padded, getD-blanks}
+use lib.ListN.{length, take, length-map}
+use Rattle.cursor.specs.Padded.{padded, padded-length, take-padded}
 use Rattle.cycle.specs.declared.Cycle.{Cycle}
-use Rattle.search.specs.Search.{none, at}
-use Rattle.search.specs.Placing.{Problem, problem, plan, answer, Proper, Ready, TriedJob}
-use Rattle.search.specs.PlacingLaws.{ready-first}
-use Rattle.model.specs.Plan.{Instance, costs, rowsAt}
+use Rattle.search.specs.Placing.{Proper}
+use Rattle.model.specs.Plan.{Instance, costs}
 use Rattle.model.specs.Answers.{instanceOf, jobs-counted}
 use Rattle.model.specs.PlanLaws.{costs-length}
 use Rattle.model.specs.PlausibleLaws.{plausible-says}
@@ -22,23 +17,12 @@ use Rattle.model.specs.Chosen.{firstFrameOf, endFrameOf, problemAt}
 use Rattle.model.specs.ProblemLaws.{problem-proper}
 use Rattle.problem.specs.Answers.{linksAnswer}
 use Rattle.problem.specs.declared.JobLinks.{JobLinks}
-use Rattle.planner.specs.Choices.{Searchable, foundAnswer}
-use Rattle.planner.specs.declared.choose.FoundPlan.{FoundPlan}
+use Rattle.place.specs.Arrays.{problemOf, Placeable}
+use Rattle.planner.specs.Choices.{Searchable}
 
 -- a list of n numbers in an array
 exact : (size n : ℕ) (xs : List ℕ) → length xs ≡ n → take n (padded size 0 xs) ≡ xs
 exact size n xs e = ap (λ (k : ℕ). take k (padded size 0 xs)) (sym e) ∙ take-padded size 0 xs
-
-abbrev pub zeros : ℕ → List ℕ
-zeros k = replicate k 0
-
-zeros-length : (k : ℕ) → length (zeros k) ≡ k
-zeros-length k = length-replicate k _
-
-drop-zeros : (k n : ℕ) → drop n (zeros k) ≡ zeros (k - n)
-drop-zeros k zero = let z : k - 0 ≡ k = omega arith in rw z
-drop-zeros zero (suc n) = let z : 0 - suc n ≡ 0 = omega arith in rw z
-drop-zeros (suc k) (suc n) = let z : suc k - suc n ≡ k - n = omega arith in rw z (drop-zeros k n)
 
 module _ {c : Cycle} {cost : List ℕ} {links : JobLinks} {f : ℕ} (s : Searchable c cost links f) where
   abbrev x : Instance
@@ -47,7 +31,7 @@ module _ {c : Cycle} {cost : List ℕ} {links : JobLinks} {f : ℕ} (s : Searcha
   abbrev n : ℕ
   n = c .count
 
-  pub few : n ≤ 128
+  few : n ≤ 128
   few = s .planned .few
 
   jobs-count : length (x .jobs) ≡ n
@@ -55,9 +39,6 @@ module _ {c : Cycle} {cost : List ℕ} {links : JobLinks} {f : ℕ} (s : Searcha
 
   pub some : 0 < f
   some = plausible-says x f (s .plausible-is) .some
-
-  rows-few : rowsAt x f ≤ 256
-  rows-few = plausible-says x f (s .plausible-is) .few-rows
 
   cost-size : length (costs x) ≡ n
   cost-size = costs-length x ∙ jobs-count
@@ -76,16 +57,6 @@ module _ {c : Cycle} {cost : List ℕ} {links : JobLinks} {f : ℕ} (s : Searcha
   places-size : length (linkPlaces x) ≡ 16 * n
   places-size = places-of-links-length x (s .planned .good .readable .few-pairs) ∙ ap (λ (k : ℕ). 16 * k) jobs-count
 
-  -- the arrays have their lengths
-  pub cost-long : length cost ≡ 128
-  cost-long = ap length (s .cost-is) ∙ padded-length 128 0 (costs x) (omega (arith, cost-size, few))
-
-  pub counts-long : length (links .counts) ≡ 128
-  counts-long = ap length counts-are ∙ padded-length 128 0 (linkCounts x) (omega (arith, counts-size, few))
-
-  pub places-long : length (links .places) ≡ 2048
-  places-long = ap length places-are ∙ padded-length 2048 0 (linkPlaces x) (omega (arith, places-size, few))
-
   abbrev firsts : List ℕ
   firsts = map (firstFrameOf f) (x .jobs)
 
@@ -99,17 +70,8 @@ module _ {c : Cycle} {cost : List ℕ} {links : JobLinks} {f : ℕ} (s : Searcha
   ends-size = length-map (x .jobs) (endFrameOf f) ∙ jobs-count
 
   module _ {first end : List ℕ} (first-is : first ≡ padded 128 0 firsts) (end-is : end ≡ padded 128 0 ends) where
-    pub first-long : length first ≡ 128
-    first-long = ap length first-is ∙ padded-length 128 0 firsts (omega (arith, firsts-size, few))
-
-    pub end-long : length end ≡ 128
-    end-long = ap length end-is ∙ padded-length 128 0 ends (omega (arith, ends-size, few))
-
-    -- what is handed over
-    abbrev given : Problem
-    given = problem (take n cost) (take n first) (take n end) (take n (links .counts)) (take (16 * n) (links .places)) (c .h / f) f
-
-    problem-is : given ≡ problemAt x f
+    -- what is handed over is the problem of the length
+    pub problem-is : problemOf cost first end (links .counts) (links .places) n (c .h / f) f ≡ problemAt x f
     unfolding problemAt instanceOf
     problem-is =
         let a = ap (take n) (s .cost-is) ∙ exact 128 n (costs x) cost-size in
@@ -119,31 +81,11 @@ module _ {c : Cycle} {cost : List ℕ} {links : JobLinks} {f : ℕ} (s : Searcha
         let g = ap (take (16 * n)) places-are ∙ exact 2048 (16 * n) (linkPlaces x) places-size in
         λ i. record { cost = a i; first = b i; end = d i; counts = e i; links = g i; rows = c .h / f; f = f }
 
-    pub place-size : length (take n (zeros 128)) ≡ n
-    place-size = length-take-le n (zeros 128) (omega (arith, zeros-length 128, few))
-
-    pub ready : Ready given (take n (zeros 128)) (zeros 256) 0
+    pub placeable : Placeable cost first end (links .counts) (links .places) n (c .h / f) f
     unfolding instanceOf
-    ready =
-        ready-first
-        (subst⁻¹ Proper problem-is (problem-proper x (s .planned .good) f (s .plausible-is)))
-        (place-size ∙ sym (length-take-le n cost (omega (arith, cost-long, few))))
-        (omega (arith, rows-few, zeros-length 256))
-        (λ r h. getD-blanks {A = ℕ} 256 0 [] r)
-
-    -- what is found
-    module _ {load place′ load′ : List ℕ} (size : length place′ ≡ n) where
-      pub plan-found : TriedJob given (take n (zeros 128)) load 0 true place′ load′
-          → _≡_ {A = FoundPlan} (record { found = true; frames = place′ ++ drop n (zeros 128) }) (foundAnswer (plan (problemAt x f) []))
-      unfolding foundAnswer answer padded
-      plan-found d =
-          let is : plan (problemAt x f) [] ≡ at place′ = ap (λ (q : Problem). plan q []) (sym problem-is) ∙ d .found in
-          let rest : drop n (zeros 128) ≡ zeros (128 - length place′) = drop-zeros 128 n ∙ ap (λ (k : ℕ). zeros (128 - k)) (sym size) in
-          rw is (ap (λ (l : List ℕ). record { found = true; frames = place′ ++ l }) rest)
-
-      pub none-found : TriedJob given (take n (zeros 128)) load 0 false place′ load′
-          → _≡_ {A = FoundPlan} (record { found = false; frames = zeros 128 }) (foundAnswer (plan (problemAt x f) []))
-      unfolding foundAnswer answer
-      none-found d =
-          let is : plan (problemAt x f) [] ≡ none = ap (λ (q : Problem). plan q []) (sym problem-is) ∙ d .found in
-          rw is
+    placeable = record {
+      few = few;
+      costs = omega (arith, ap length (s .cost-is), padded-length 128 0 (costs x) (omega (arith, cost-size, few)), few);
+      few-rows = plausible-says x f (s .plausible-is) .few-rows;
+      proper = subst⁻¹ Proper problem-is (problem-proper x (s .planned .good) f (s .plausible-is));
+    }

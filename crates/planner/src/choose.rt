@@ -1,13 +1,14 @@
 // The choice of the frame length: plausible lengths are tried from the largest down, that is by 1, 2, .. 256 rows.
-use crate::place::place_job;
 use cycle::Cycle;
+use place::Placed;
 use problem::JobLinks;
 ghost use mathlib.Core.Path.{_≡_};
 ghost use mathlib.Core.List.{[]};
 ghost use Rattle.model.specs.Answers.{instanceOf};
 ghost use Rattle.model.specs.Chosen.{problemAt, choose, isTried};
 ghost use Rattle.search.specs.Placing.{plan};
-ghost use Rattle.planner.specs.Choices.{Planned, Searchable, foundAnswer, choiceAnswer, noneChosen};
+ghost use Rattle.place.specs.Arrays.{placedAnswer};
+ghost use Rattle.planner.specs.Choices.{Planned, Searchable, choiceAnswer, noneChosen};
 
 // The frame length and the frame of each job of the chosen plan; or 9 or 10.
 pub(super) struct ChosenPlan {
@@ -16,48 +17,25 @@ pub(super) struct ChosenPlan {
     pub frames: [u16; 128],
 }
 
-// Whether a plan was found, and the frame of each job.
-struct FoundPlan {
-    found: bool,
-    frames: [u16; 128],
-}
-
 // The first plan with frames of length f.
-fn plan_with(cycle: Cycle, cost: [u32; 128], links: JobLinks, f: u16) -> FoundPlan
+fn plan_with(cycle: Cycle, cost: [u32; 128], links: JobLinks, f: u16) -> Placed
     requires { ⌜ Searchable cycle cost links f ⌝ }
-    ensures { λ r. ⌜ r ≡ foundAnswer (plan (problemAt (instanceOf cycle) f) []) ⌝ }
+    ensures { λ r. ⌜ r ≡ placedAnswer (plan (problemAt (instanceOf cycle) f) []) ⌝ }
 {
-    let n = cycle.count;
-    let m = 16 * n;
-    let costs = cost;
     let first = problem::first_frames(cycle, f);
     let end = problem::end_frames(cycle, f);
     let counts = links.counts;
     let places = links.places;
-    let mut frames = [0u16; 128];
-    let mut load = [0u32; 256];
-    let found = place_job(
-        &costs[..n],
-        &first[..n],
-        &end[..n],
-        &counts[..n],
-        &places[..m],
+    place::place_all(
+        cost,
+        first,
+        end,
+        counts,
+        places,
+        cycle.count,
         cycle.h / f,
-        f as u32,
-        &mut frames[..n],
-        &mut load,
-        0,
-    );
-    if found {
-        return FoundPlan {
-            found: true,
-            frames,
-        };
-    }
-    FoundPlan {
-        found: false,
-        frames: [0; 128],
-    }
+        f,
+    )
 }
 
 // Whether H/rows is a plausible length.

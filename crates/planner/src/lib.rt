@@ -1,6 +1,5 @@
 // The planner: a request becomes the table of its chosen plan, or a number that says why there is none.
 mod choose;
-mod place;
 
 use table::Written;
 ghost use mathlib.Core.Path.{_≡_};

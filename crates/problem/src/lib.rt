@@ -16,7 +16,7 @@ ghost use Rattle.problem.specs.Answers.{linksAnswer, asList, Stored};
 
 // How many links each job has, and the links, 16 places for those of each job.
 pub struct JobLinks {
-    pub counts: [u8; 128],
+    pub counts: [u16; 128],
     pub places: [u8; 2048],
 }
 
@@ -157,11 +157,11 @@ fn store_links(
     pairs: [Pair; 16],
     m: usize,
     places: &mut [u8; 2048],
-) -> u8
+) -> u16
     requires { ⌜ (y < 128) × (m ≤ 16) ⌝ }
     ensures { λ r. ⌜ Stored y (linksBy jobs y (firsts m noPair pairs)) (now (places .entry)) (now (places .exit)) r ⌝ }
 {
-    let mut count: u8 = 0;
+    let mut count: u16 = 0;
     let mut u: usize = 0;
     while u < m {
         let pair = pairs[u];
@@ -185,7 +185,7 @@ pub fn links(cycle: Cycle) -> JobLinks
     let pairs = cycle.pairs;
     let m = arith::at_most(cycle.m, 16);
     let n = arith::at_most(cycle.count, 128);
-    let mut counts = [0u8; 128];
+    let mut counts = [0u16; 128];
     let mut places = [0u8; 2048];
     let mut y: usize = 0;
     while y < n {

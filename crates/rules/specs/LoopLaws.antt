@@ -16,7 +16,7 @@ use Rattle.request.specs.Request.{noPair}
 use Rattle.request.specs.declared.Pair.{Pair}
 use Rattle.cycle.specs.Planned.{noJob}
 use Rattle.cycle.specs.declared.Job.{Job}
-use Rattle.search.specs.Placing.{problem, row-sum, Loaded}
+use Rattle.search.specs.Placing.{problem, row-sum, LoadsKept}
 use Rattle.search.specs.PlacingLaws.{row-sum-nil, row-sum-take, put-loads}
 use Rattle.rules.specs.Every.{every}
 use Rattle.rules.specs.EveryLaws.{says-every, every-fails}
@@ -44,7 +44,7 @@ module _ (rows : ℕ) (places frames : List ℕ) (n f : ℕ) where
 
   -- the jobs before y are put into their rows
   pub record Kept (y : ℕ) (load : List ℕ) : Type 0 where
-    pub loads : Loaded (problem cost [] [] [] [] rows f) (firsts y 0 frames) load
+    pub loads : LoadsKept (problem cost [] [] [] [] rows f) (firsts y 0 frames) load
     pub small : (r : ℕ) → getD load r 0 ≤ f
     pub size : length load ≡ 256
 
@@ -72,7 +72,7 @@ module _ (rows : ℕ) (places frames : List ℕ) (n f : ℕ) where
     pub row-inside : row < 256
     row-inside = omega (arith, row-below)
 
-    put : (v : ℕ) → v ≡ here + getD places y 0 → Loaded (problem cost [] [] [] [] rows f) (firsts (y + 1) 0 frames) (set load row v)
+    put : (v : ℕ) → v ≡ here + getD places y 0 → LoadsKept (problem cost [] [] [] [] rows f) (firsts (y + 1) 0 frames) (set load row v)
     unfolding firsts
     put v e =
         rw (add-one y)

@@ -46,5 +46,5 @@ returns c =
 pub links-spec : {M : Type 1} → statement M
 links-spec =
     tie.close
-    (tie.spec Inv-loop μ-loop (λ c κs. search needs) (λ c κs. search needs) loop-holds store-links-requires array-write-counts (λ c. search needs)
-    (λ c. search needs) loop-again returns)
+    (tie.spec Inv-loop μ-loop (λ c κs. search needs) (λ c κs. search needs) loop-holds store-links-requires
+    (λ c. omega (arith, array-write-counts c)) array-write-counts (λ c. search needs) (λ c. search needs) loop-again returns)

@@ -1,0 +1,302 @@
+-- `place_job` and `try_frame`, by one falling number: the jobs left, and below that the frames left of the job's window. Each way through
+-- the code has its law in `Laws`; what is left here is where each fact stands.
+use mathlib.Core.Path.{_≡_, refl, sym, _∙_}
+use mathlib.Core.Bool.{true, _&&_}
+use Prim.Native.Nat.{ℕ, _<_, _+_, _-_, _*_, _%_}
+use native.Mathlib.Nat.{mod-lt}
+use native.Mathlib.Omega.{arith}
+use lib.ListN.{take, getD}
+use lib.Seq.{getD-take}
+use lib.Dec.{leb}
+use borrow.Author.Tests.{not-true, not-false, le-leb, lt-leb, leb-true}
+use borrow.Author.Needs.{needs}
+use Rattle.search.specs.Placing.{hasRoom}
+use Rattle.place.specs.Arrays.{partIn, countsIn, rowsIn, jobsIn, problemIn, LinksBack}
+use Rattle.place.proofs.Laws.{links-back, same-bounds, is-left, all-placed, Trying, none-tried, ready-again, kept-again}
+use Rattle.place.proofs.Laws.{none-left, pass-on, pass-found, Testing, refused, put-ready, put-kept, went, back}
+use borrow.Fn.Kinds.{In}
+use borrow.Fn.PlainCycle.{Measures, is, falls, and}
+use Rattle.place.proofs.place_job.Reads as place-job
+use Rattle.place.proofs.place_job.Kinds as place-job-kinds
+use Rattle.place.proofs.+place_job+try_frame.Lts-place_job as place-job-lts
+use Rattle.place.proofs.try_frame.Reads as try-frame
+use Rattle.place.proofs.try_frame.Kinds as try-frame-kinds
+use Rattle.place.proofs.+place_job+try_frame.Lts-try_frame as try-frame-lts
+use Rattle.place.proofs.entry.Reads as entry-reads
+use Rattle.place.proofs.has_room.Reads as has-room-reads
+use Rattle.place.proofs.lower_bound.Reads as lower-bound-reads
+use Rattle.place.proofs.next_row.Reads as next-row-reads
+use Rattle.place.proofs.upper_bound.Reads as upper-bound-reads
+use Rattle.place.proofs.+place_job+try_frame.{statement}
+use Rattle.place.proofs.+place_job+try_frame.Tie.{close}
+
+abbrev μ-place-job : Measures 4 place-job-kinds.ps ℕ
+μ-place-job κs a = (jobsIn (a .0 .now) - a .1 .1 .1 .1 .0) * 65537 + 65536
+
+abbrev μ-try-frame : Measures 4 try-frame-kinds.ps ℕ
+μ-try-frame κs a = (jobsIn (a .0 .now) - a .1 .1 .1 .1 .0) * 65537 + (getD (partIn (a .0 .now) 2) (a .1 .1 .1 .1 .0) 0 - a .1 .1 .1 .1 .1 .0)
+
+abbrev place-job-at : ℕ → In 4 place-job-kinds.ps
+place-job-at t = and 4 place-job-kinds.ps (is 4 place-job-kinds.ps μ-place-job t) place-job.Pre
+
+abbrev place-job-below : ℕ → In 4 place-job-kinds.ps
+place-job-below t = and 4 place-job-kinds.ps (falls 4 place-job-kinds.ps _<_ μ-place-job t) place-job.Pre
+
+abbrev try-frame-at : ℕ → In 4 try-frame-kinds.ps
+try-frame-at t = and 4 try-frame-kinds.ps (is 4 try-frame-kinds.ps μ-try-frame t) try-frame.Pre
+
+abbrev try-frame-below : ℕ → In 4 try-frame-kinds.ps
+try-frame-below t = and 4 try-frame-kinds.ps (falls 4 try-frame-kinds.ps _<_ μ-try-frame t) try-frame.Pre
+
+abbrev place-job-claims : ℕ → place-job-lts.Claims
+place-job-claims t = (
+  lower-bound-reads.Asked,
+  lower-bound-reads.Learnt,
+  upper-bound-reads.Asked,
+  upper-bound-reads.Learnt,
+  entry-reads.Asked,
+  entry-reads.Learnt,
+  try-frame-below t,
+  try-frame.Post,
+  next-row-reads.Asked,
+  next-row-reads.Learnt,
+)
+
+abbrev try-frame-claims : ℕ → try-frame-lts.Claims
+try-frame-claims t = (has-room-reads.Asked, has-room-reads.Learnt, place-job-below t, place-job.Post)
+
+abbrev place-job-Inv-loop : place-job-lts.InvT-loop
+place-job-Inv-loop given links place₀ load₀ i n low high rows e k₀ row₀ place load k row =
+    Trying (problemIn given links) (jobsIn given) place₀ load₀ i place load k row
+
+abbrev place-job-μ-loop : place-job-lts.MeasureT-loop
+place-job-μ-loop given links place₀ load₀ i n low high rows e k₀ row₀ place load k row = e - k
+
+module _ (t : ℕ) where
+  -- `place_job`: a job is left
+  abbrev Left : Type 0
+  Left = place-job-lts.Else1 (place-job-claims t) (place-job-at t) place-job.Post place-job-Inv-loop place-job-μ-loop
+
+  more : (c : Left) → let a = c .before .before .args in a .i < jobsIn (a .given .now)
+  more c = is-left (c .before .before .pre .1 .0) (c .if1 .left)
+
+  linked : (c : Left) → let a = c .before .before .args in LinksBack (countsIn (a .given .now)) (a .links .now) (a .i)
+  linked c =
+      let s = c .before .before in
+      let g = s .args .given .now in
+      let r = s .pre .1 .1 .0 in
+      links-back (countsIn g) (s .args .links .now) (jobsIn g) (s .args .i) (more c) (r .proper .linked) (r .few) (omega (arith, r .proper .counted, r .jobs))
+
+  small : (c : Left) → c .before .before .args .i < 128
+  small c = omega (arith, more c, c .before .before .pre .1 .1 .0 .few)
+
+  first-row : (c : Left) → let a = c .before .before .args in let rows = rowsIn (a .given .now) in (0 < rows) × (getD (partIn (a .given .now) 1) (a .i) 0 % rows < 256)
+  first-row c =
+      let s = c .before .before in
+      let r = s .pre .1 .1 .0 in
+      (r .proper .some-row, omega (arith, mod-lt (getD (partIn (s .args .given .now) 1) (s .args .i) 0) (r .proper .some-row), r .few-rows))
+
+  -- the loop over its frames
+  abbrev AtLoop : Type 0
+  AtLoop = place-job-lts.At-loop (place-job-claims t) (place-job-at t) place-job.Post place-job-Inv-loop place-job-μ-loop
+
+  abbrev left : AtLoop → Left
+  left c = c .before .before .before .before .before .before .before .before
+
+  end-is : (c : AtLoop) → let a = left c .before .before .args in
+      c .before .before .entry .result ≡ getD (take (jobsIn (a .given .now)) (partIn (a .given .now) 2)) (a .i) 0
+  end-is c =
+      let a = left c .before .before .args in
+      c .before .before .entry .ensures ∙ sym (getD-take (jobsIn (a .given .now)) (partIn (a .given .now) 2) (a .i) 0 (more (left c)))
+
+  row-in : (c : AtLoop) → c .loop .row < problemIn (left c .before .before .args .given .now) (left c .before .before .args .links .now) .rows
+  row-in c = omega (arith, c .loop .inv .at-row, mod-lt (c .loop .k) (left c .before .before .pre .1 .1 .0 .proper .some-row))
+
+  place-job-returns : place-job-lts.Need-returns (place-job-claims t) (place-job-at t) place-job.Post place-job-Inv-loop place-job-μ-loop
+  place-job-returns c = let s = c .before .before in all-placed (s .pre .1 .1 .0) (s .pre .1 .1 .1) (c .if1 .taken)
+
+  place-job-loop-holds : place-job-lts.Need-loop-holds (place-job-claims t) (place-job-at t) place-job.Post place-job-Inv-loop place-job-μ-loop
+  place-job-loop-holds c =
+      let e = c .before .before .before .before .before .before .before in
+      let s = e .before .before in
+      let g = s .args .given .now in
+      none-tried (more e) (s .pre .1 .1 .0) (s .pre .1 .1 .1) (sym (getD-take (jobsIn g) (partIn g 1) (s .args .i) 0 (more e)))
+
+  place-job-try-frame-requires : place-job-lts.Need-try-frame-requires (place-job-claims t) (place-job-at t) place-job.Post place-job-Inv-loop place-job-μ-loop
+  place-job-try-frame-requires c κs =
+      let l = c .before .before .before in
+      let e = left l in
+      let s = e .before .before in
+      let g = s .args .given .now in
+      let r = s .pre .1 .1 .0 in
+      let v = l .loop .inv in
+      let bounds = same-bounds (countsIn g) (s .args .links .now) (jobsIn g) (s .args .i) (more e) (r .proper .linked) (s .args .place .now) (l .loop .place) (v .kept)
+      (l .before .before .before .before .before .before .lower-bound .ensures) (l .before .before .before .before .upper-bound .ensures) in (
+        omega (arith, s .pre .0, more e, l .before .before .entry .ok, l .before .before .entry .ensures),
+        (more e, (ready-again (more e) r (s .pre .1 .1 .1) v, (kept-again (more e) r (s .pre .1 .1 .1) v, (v .at-row, bounds)))),
+      )
+
+  place-job-returns-2 : place-job-lts.Need-returns-2 (place-job-claims t) (place-job-at t) place-job.Post place-job-Inv-loop place-job-μ-loop
+  place-job-returns-2 c =
+      let in-loop = c .before .before .before .before in
+      let l = in-loop .before in
+      let s = left l .before .before in
+      pass-found (more (left l)) (s .pre .1 .1 .0) (s .pre .1 .1 .1) (l .loop .inv) (end-is l) (in-loop .loop-test .taken) (c .before .try-frame .ensures) (c .if2 .taken)
+
+  place-job-loop-again : place-job-lts.Need-loop-again (place-job-claims t) (place-job-at t) place-job.Post place-job-Inv-loop place-job-μ-loop
+  place-job-loop-again c =
+      let in-loop = c .before .before .before .before .before in
+      let l = in-loop .before in
+      let s = left l .before .before in
+      pass-on (more (left l)) (s .pre .1 .1 .0) (s .pre .1 .1 .1) (l .loop .inv) (end-is l) (in-loop .loop-test .taken) (c .before .before .try-frame .ensures)
+      (c .before .if2 .left) (c .next-row .ensures)
+
+  place-job-returns-3 : place-job-lts.Need-returns-3 (place-job-claims t) (place-job-at t) place-job.Post place-job-Inv-loop place-job-μ-loop
+  place-job-returns-3 c =
+      let l = c .before in
+      let s = left l .before .before in
+      none-left (more (left l)) (s .pre .1 .1 .0) (s .pre .1 .1 .1) (l .loop .inv) (end-is l) (c .loop-test .left)
+
+  -- `try_frame`: its row, and its cost
+  abbrev Tried : Type 0
+  Tried = try-frame-lts.Start (try-frame-claims t) (try-frame-at t) try-frame.Post
+
+  row-small : (c : Tried) → c .args .row < 256
+  row-small c = omega (arith, c .pre .1 .1 .1 .1 .0, mod-lt (c .args .k) (c .pre .1 .1 .0 .proper .some-row), c .pre .1 .1 .0 .few-rows)
+
+  job-small : (c : Tried) → c .args .i < 128
+  job-small c = omega (arith, c .pre .1 .0, c .pre .1 .1 .0 .few)
+
+  abbrev cost : Tried → ℕ
+  cost c = getD (partIn (c .args .given .now) 0) (c .args .i) 0
+
+  testing : (c : Tried) → let a = c .args in
+      Testing (problemIn (a .given .now) (a .links .now)) (jobsIn (a .given .now)) (a .place .now) (a .load .now) (a .i) (a .k) (a .row) (cost c) (a .low) (a .high)
+  testing c =
+      let q = c .pre .1 in
+      let g = c .args .given .now in
+      record {
+        more = q .0;
+        ready = q .1 .0;
+        loads = q .1 .1 .0;
+        at-row = q .1 .1 .1 .0;
+        cost-is = sym (getD-take (jobsIn g) (partIn g 0) (c .args .i) 0 (q .0));
+        small = omega (arith, c .fits .k);
+        bounds = q .1 .1 .1 .1;
+      }
+
+  try-frame-has-room-requires : try-frame-lts.Need-has-room-requires (try-frame-claims t) (try-frame-at t) try-frame.Post
+  try-frame-has-room-requires c κs =
+      let s = c .before .before .before in
+      rw (testing s .cost-is) (s .pre .1 .1 .0 .proper .costs (s .args .i))
+
+  try-frame-returns : try-frame-lts.Need-returns (try-frame-claims t) (try-frame-at t) try-frame.Post
+  try-frame-returns c =
+      let asked = c .before in
+      let full = sym (asked .has-room .ensures) ∙ not-true (asked .has-room .result) (c .if1 .taken) in
+      refused (testing (asked .before .before .before .before)) (rw full)
+
+  -- the row has room
+  abbrev Roomy : Type 0
+  Roomy = try-frame-lts.Else1 (try-frame-claims t) (try-frame-at t) try-frame.Post
+
+  roomy : (c : Roomy) → let s = c .before .before .before .before .before in
+      hasRoom (getD (s .args .load .now) (s .args .row) 0) (getD (partIn (s .args .given .now) 4) 1 0) (cost s) ≡ true
+  roomy c = let asked = c .before in sym (asked .has-room .ensures) ∙ not-false (asked .has-room .result) (c .if1 .left)
+
+  try-frame-returns-2 : try-frame-lts.Need-returns-2 (try-frame-claims t) (try-frame-at t) try-frame.Post
+  try-frame-returns-2 c =
+      let s = c .before .before .before .before .before .before in
+      refused (testing s) (rw (roomy (c .before), lt-leb (s .args .low) (s .args .k) (c .if2 .taken)))
+
+  try-frame-returns-3 : try-frame-lts.Need-returns-3 (try-frame-claims t) (try-frame-at t) try-frame.Post
+  try-frame-returns-3 c =
+      let s = c .before .before .before .before .before .before .before in
+      refused (testing s)
+      (rw (roomy (c .before .before), le-leb (s .args .low) (s .args .k) (c .before .if2 .left), lt-leb (s .args .k) (s .args .high) (c .if3 .taken)))
+
+  -- and its links leave it the frame
+  abbrev Passed : Type 0
+  Passed = try-frame-lts.Else3 (try-frame-claims t) (try-frame-at t) try-frame.Post
+
+  abbrev start : Passed → Tried
+  start c = c .before .before .before .before .before .before .before
+
+  passed : (c : Passed) → let a = start c .args in
+      (hasRoom (getD (a .load .now) (a .row) 0) (getD (partIn (a .given .now) 4) 1 0) (cost (start c)) && (leb (a .low) (a .k) && leb (a .k) (a .high))) ≡ true
+  passed c =
+      let a = start c .args in
+      rw (roomy (c .before .before), le-leb (a .low) (a .k) (c .before .if2 .left), le-leb (a .k) (a .high) (c .if3 .left))
+
+  try-frame-add-load : try-frame-lts.Need-add-load (try-frame-claims t) (try-frame-at t) try-frame.Post
+  try-frame-add-load c =
+      let s = start c in
+      let l = getD (s .args .load .now) (s .args .row) 0 in
+      omega (arith, leb-true (l + cost s) (getD (partIn (s .args .given .now) 4) 1 0) (roomy (c .before .before)), s .pre .1 .1 .0 .short)
+
+  try-frame-place-job-requires : try-frame-lts.Need-place-job-requires (try-frame-claims t) (try-frame-at t) try-frame.Post
+  try-frame-place-job-requires c κs =
+      let q = c .before .before in
+      let s = start q in (
+        omega (arith, s .pre .0, s .pre .1 .0),
+        (omega (arith, s .pre .1 .0), (put-ready (testing s) (passed q) refl, put-kept (testing s) (passed q) refl)),
+      )
+
+  try-frame-returns-4 : try-frame-lts.Need-returns-4 (try-frame-claims t) (try-frame-at t) try-frame.Post
+  try-frame-returns-4 c =
+      let q = c .before .before .before .before in
+      went (testing (start q)) (passed q) refl (c .before .place-job .ensures) (c .if4 .taken)
+
+  try-frame-returns-5 : try-frame-lts.Need-returns-5 (try-frame-claims t) (try-frame-at t) try-frame.Post
+  try-frame-returns-5 c =
+      let q = c .before .before .before .before in
+      back (testing (start q)) (passed q) refl (c .before .place-job .ensures) (c .if4 .left)
+
+pub +place-job+try-frame-spec : {M : Type 1} → statement M
++place-job+try-frame-spec = close μ-place-job μ-try-frame
+    (λ t. place-job-lts.spec (place-job-claims t) (place-job-at t) place-job.Post place-job-Inv-loop place-job-μ-loop
+    (λ c. search needs)
+    (λ c. search needs)
+    (λ c. omega (arith, c .before .pre .1 .1 .0 .few))
+    (place-job-returns t)
+    (λ c κs. linked t (c .before))
+    (λ c κs. linked t (c .before .before .before))
+    (λ c. search needs)
+    (λ c. search needs)
+    (λ c κs. (omega arith, small t (c .before .before .before .before .before)))
+    (λ c. omega (arith, small t (c .before .before .before .before .before .before)))
+    (λ c. search needs)
+    (λ c. small t (c .before .before .before .before .before .before))
+    (λ c. first-row t (c .before .before .before .before .before .before .before) .0)
+    (λ c. omega (arith, first-row t (c .before .before .before .before .before .before .before) .1))
+    (place-job-loop-holds t)
+    (place-job-try-frame-requires t)
+    (place-job-returns-2 t)
+    (λ c. omega (arith, c .before .before .before .before .loop-test .taken, c .before .before .before .before .before .before .before .entry .ok))
+    (λ c κs. row-in t (c .before .before .before .before .before))
+    (λ c. omega (arith, c .before .before .before .before .before .loop-test .taken))
+    (place-job-loop-again t)
+    (place-job-returns-3 t))
+    λ t. try-frame-lts.spec (try-frame-claims t) (try-frame-at t) try-frame.Post
+    (λ c. omega (arith, row-small t c))
+    (row-small t)
+    (λ c. omega (arith, job-small t (c .before)))
+    (λ c. search needs)
+    (λ c. job-small t (c .before))
+    (λ c. search needs)
+    (λ c. search needs)
+    (try-frame-has-room-requires t)
+    (try-frame-returns t)
+    (try-frame-returns-2 t)
+    (try-frame-returns-3 t)
+    (try-frame-add-load t)
+    (λ c. omega (arith, row-small t (start t c)))
+    (λ c. row-small t (start t c))
+    (λ c. omega (arith, job-small t (start t c)))
+    (λ c. job-small t (start t c))
+    (λ c. omega (arith, job-small t (start t (c .before .before))))
+    (try-frame-place-job-requires t)
+    (try-frame-returns-4 t)
+    (λ c. omega (arith, row-small t (start t (c .before .before .before .before))))
+    (λ c. row-small t (start t (c .before .before .before .before)))
+    (try-frame-returns-5 t)

@@ -1,0 +1,290 @@
+-- Laws of the search's functions, one for each way through their code, in terms of the arrays' lists: the loop over a job's links, the loop
+-- over the frames of its window, with the row as a running number, and the ways through one try. Assumes nothing.
+use mathlib.Core.Path.{_≡_, refl, sym, ap, subst, _∙_}
+use mathlib.Core.Bool.{Bool, true, false, _&&_, false≢true}
+use mathlib.Core.List.{List, [], _∷_, _++_, List·Memᴰ}
+use Prim.Native.Nat.{ℕ, _+_, _-_, _*_, _≤_, _<_, _%_}
+use native.Mathlib.Nat.{mod-add-mod}
+use native.Mathlib.Numerals.{add-one}
+use native.Mathlib.Omega.{arith}
+use lib.ListN.{length, take, drop, getD, set, length-set, length-take, length-drop}
+use lib.Seq.{length-take-le, take-suc, take-suc-set, take-take, take-set-le, drop-set-lt, set-set, set-getD, getD-take, getD-drop, ext-getD}
+use lib.Dec.{leb}
+use borrow.Author.Tests.{le-leb, lt-leb, leb-true, leb-false}
+use Rattle.cursor.specs.Padded.{padded, set-padded}
+use Rattle.search.specs.Placing.{Problem, linksAt, linksOf, partner, hasRoom, fits, plan, attempt, from, fold, earliest, latest, Bounds, Linked, LoadsKept}
+use Rattle.search.specs.PlacingLaws.{from-end, from-next, from-found, attempt-refused, attempt-made, plan-end, plan-more, put-loads, part, fold-end, fold-more, link-in, kept-between}
+use Rattle.search.specs.LoadLaws.{tested-by-load}
+use Rattle.place.specs.Arrays.{LinksBack, Ready, answer, TriedJob, TriedFrame}
+
+-- one number more in the first unused place
+pub one-stored : (xs : List ℕ) (j : ℕ) → j < length xs → j < 128 → set (padded 128 0 (take j xs)) j (getD xs j 0) ≡ padded 128 0 (take (j + 1) xs)
+one-stored xs j h room =
+    let e : length (take j xs) ≡ j = length-take-le j xs (omega arith) in
+    rw (add-one j, take-suc xs j 0 h)
+    (ap (λ (i : ℕ). set (padded 128 0 (take j xs)) i (getD xs j 0)) (sym e) ∙ set-padded 128 0 (take j xs) (getD xs j 0) (omega arith))
+
+-- a test of a difference is a test of a sum
+pub room-left : (l f c : ℕ) → c ≤ f → leb l (f - c) ≡ hasRoom l f c
+room-left l f c h = go (leb l (f - c)) refl
+  where
+    go : (b : Bool) → leb l (f - c) ≡ b → leb l (f - c) ≡ leb (l + c) f
+    go true e = e ∙ sym (le-leb (l + c) f (omega (arith, leb-true l (f - c) e)))
+    go false e = e ∙ sym (lt-leb (l + c) f (omega (arith, leb-false l (f - c) e)))
+
+-- the loop over the links of job i: v is the bound so far, and with the links from place `at` on it becomes the whole bound
+pub record Bound (next : ℕ → ℕ → ℕ) (start : ℕ) (counts links : List ℕ) (i end at v : ℕ) : Type 0 where
+  pub begun : 16 * i ≤ at
+  pub most : at ≤ end
+  pub stop : end ≡ 16 * i + getD counts i 0
+  pub room : end ≤ length links
+  pub short : end ≤ 2048
+  pub same : fold next v (part at end links) ≡ fold next start (linksAt counts links i)
+
+module _ {next : ℕ → ℕ → ℕ} {start : ℕ} {counts links : List ℕ} {i : ℕ} (g : LinksBack counts links i) where
+  pub bound-start : Bound next start counts links i (16 * i + getD counts i 0) (16 * i) start
+  bound-start =
+      let z : 16 * i + getD counts i 0 - 16 * i ≡ getD counts i 0 = omega arith in
+      record { begun = omega arith; most = omega arith; stop = refl; room = omega (arith, g .room, g .few); short = omega (arith, g .is-job, g .few); same = rw z }
+
+  module _ {end at v : ℕ} (b : Bound next start counts links i end at v) where
+    pub bound-turn : at < end → Bound next start counts links i end (at + 1) (next v (getD links at 0))
+    bound-turn h = record {
+      begun = omega (arith, b .begun);
+      most = omega arith;
+      stop = b .stop;
+      room = b .room;
+      short = b .short;
+      same = fold-more next links v at end h (b .room) ∙ b .same;
+    }
+
+    pub bound-stop : end ≤ at → v ≡ fold next start (linksAt counts links i)
+    bound-stop h = sym (fold-end next links v at end h) ∙ b .same
+
+    -- the job that the next link names comes before job i
+    pub partner-before : at < end → partner (getD links at 0) < i
+    partner-before t = g .back (getD links at 0) (link-in counts links i at (b .begun) (omega (arith, b .stop)) (omega (arith, b .room)))
+
+-- the first entries have the links that all have
+module _ (counts links : List ℕ) (n i : ℕ) (more : i < n) (g : Linked (take n counts) (take (16 * n) links)) where
+  few : getD counts i 0 ≤ 16
+  few = rw (getD-take n counts i 0 more) at (g .few i)
+
+  same-links : linksAt (take n counts) (take (16 * n) links) i ≡ linksAt counts links i
+  same-links =
+      let c : ℕ = getD counts i 0 in
+      let from : ℕ = 16 * i in
+      rw (getD-take n counts i 0 more)
+      (ext-getD 0 (take c (drop from (take (16 * n) links))) (take c (drop from links)) (simp (length-take, length-drop, length-take) (omega (arith, few)))
+      (λ j t. let u : j < c = omega (arith, simp length-take at t) in
+      rw (getD-take c (drop from (take (16 * n) links)) j 0 u, getD-take c (drop from links) j 0 u, getD-drop from (take (16 * n) links) j 0, getD-drop from links j 0)
+      (getD-take (16 * n) links (from + j) 0 (omega (arith, few)))))
+
+  -- so they name earlier jobs
+  pub links-back : n ≤ 128 → n ≤ length (take n counts) → LinksBack counts links i
+  links-back small long = record {
+    is-job = omega arith;
+    room = omega (arith, g .room, length-take (16 * n) links);
+    few = few;
+    back = λ l m. g .back i l (omega arith) (subst (λ (ls : List ℕ). List·Memᴰ l ls) (sym same-links) m);
+  }
+
+  -- and leave the job the same frames, also after others were tried
+  pub same-bounds : (place place′ : List ℕ) {low high : ℕ} → take i place′ ≡ take i place
+      → low ≡ earliest (take i place) (linksAt counts links i) → high ≡ latest (take i place) (linksAt counts links i)
+      → (low ≡ earliest (take i place′) (linksAt (take n counts) (take (16 * n) links) i)) × (high ≡ latest (take i place′) (linksAt (take n counts) (take (16 * n) links) i))
+  same-bounds place place′ kept a b = rw (kept, same-links) (a, b)
+
+-- a job is left
+pub is-left : {i n : ℕ} → i ≤ n → (i ≡ n → ⊥) → i < n
+is-left h e = omega arith
+
+placed-before : {x : Problem} {n : ℕ} {place load : List ℕ} {i : ℕ} → Ready x n place load → i < n → length (take i place) ≡ i
+placed-before {x} {n} {place} {load} {i} r more = length-take-le i place (omega (arith, r .places))
+
+-- no job is left
+pub all-placed : {x : Problem} {n : ℕ} {place load : List ℕ} {i : ℕ} → Ready x n place load → LoadsKept x (take i place) load → i ≡ n
+    → TriedJob x n place load i true place load
+unfolding answer
+all-placed {x} {n} {place} {load} {i} r loads h = rw h (record {
+  found = plan-end x (take n place) (length-take-le n place (r .places) ∙ sym (r .jobs));
+  kept = refl;
+  beyond = refl;
+  size = refl;
+  undone = λ _. refl;
+  loads = λ _. rw h at loads;
+})
+
+-- the loop over the frames of job i: those before k came to nothing, and left things as they were, so what the rest come to is the answer;
+-- `row` is the row of frame k
+pub record Trying (x : Problem) (n : ℕ) (place₀ load₀ : List ℕ) (i : ℕ) (place load : List ℕ) (k row : ℕ) : Type 0 where
+  pub kept : take i place ≡ take i place₀
+  pub beyond : drop n place ≡ drop n place₀
+  pub size : length place ≡ length place₀
+  pub undone : load ≡ load₀
+  pub left : plan x (take i place₀) ≡ from x (take i place₀) k
+  pub at-row : row ≡ k % x .rows
+
+module _ {x : Problem} {n : ℕ} {place load : List ℕ} {i : ℕ} (more : i < n) (r : Ready x n place load) (loads : LoadsKept x (take i place) load) where
+  abbrev p : List ℕ
+  p = take i place
+
+  len : length p ≡ i
+  len = placed-before r more
+
+  -- the loop begins
+  pub none-tried : {k : ℕ} → k ≡ getD (x .first) i 0 → Trying x n place load i place load k (k % x .rows)
+  none-tried e = record {
+    kept = refl;
+    beyond = refl;
+    size = refl;
+    undone = refl;
+    left = rw e (rw len at (plan-more x p (omega (arith, len, r .jobs))));
+    at-row = refl;
+  }
+
+  module _ {k row : ℕ} {place′ load′ : List ℕ} (v : Trying x n place load i place′ load′ k row) where
+    pub ready-again : Ready x n place′ load′
+    ready-again = record {
+      proper = r .proper;
+      jobs = r .jobs;
+      few = r .few;
+      few-rows = r .few-rows;
+      short = r .short;
+      places = rw (v .size) (r .places);
+      row-room = rw (v .undone) (r .row-room);
+    }
+
+    -- the loads are kept, also after jobs were taken back
+    pub kept-again : LoadsKept x (take i place′) load′
+    kept-again = rw (v .undone, v .kept) loads
+
+    -- the loop ends
+    pub none-left : {e : ℕ} → e ≡ getD (x .end) i 0 → e ≤ k → TriedJob x n place load i false place′ load′
+    unfolding answer
+    none-left is h = record {
+      found = v .left ∙ from-end x p k (rw (len, ← is) h);
+      kept = v .kept;
+      beyond = v .beyond;
+      size = v .size;
+      undone = λ _. v .undone;
+      loads = λ q. absurd (false≢true q);
+    }
+
+    module _ {e : ℕ} (is : e ≡ getD (x .end) i 0) (h : k < e) {b : Bool} {place₂ load₂ : List ℕ} (d : TriedFrame x n place′ load′ i k b place₂ load₂) where
+      here : attempt x p k ≡ answer b (take n place₂)
+      here = rw (v .kept) at (d .found)
+
+      -- the loop goes on
+      pub pass-on : b ≡ false → {row′ : ℕ} → row′ ≡ (row + 1) % x .rows → Trying x n place load i place₂ load₂ (k + 1) row′
+      unfolding answer
+      pass-on q w = record {
+        kept = d .kept ∙ v .kept;
+        beyond = d .beyond ∙ v .beyond;
+        size = d .size ∙ v .size;
+        undone = d .undone q ∙ v .undone;
+        left = v .left ∙ from-next x p k (rw (len, ← is) h) (rw q at here);
+        at-row = w ∙ rw (v .at-row) (mod-add-mod k (x .rows) 1);
+      }
+
+      -- the job and those after it are placed
+      pub pass-found : b ≡ true → TriedJob x n place load i true place₂ load₂
+      unfolding answer
+      pass-found q = record {
+        found = v .left ∙ from-found x p k (rw (len, ← is) h) (take n place₂) (rw q at here);
+        kept = d .kept ∙ v .kept;
+        beyond = d .beyond ∙ v .beyond;
+        size = d .size ∙ v .size;
+        undone = λ w. absurd (false≢true (sym w));
+        loads = λ _. d .loads q;
+      }
+
+-- job i, which takes c, is tested in frame k: its links leave it the frames from `low` to `high`
+pub record Testing (x : Problem) (n : ℕ) (place load : List ℕ) (i k row c low high : ℕ) : Type 0 where
+  pub more : i < n
+  pub ready : Ready x n place load
+  pub loads : LoadsKept x (take i place) load
+  pub at-row : row ≡ k % x .rows
+  pub cost-is : c ≡ getD (x .cost) i 0
+  pub small : k ≤ 65535
+  pub bounds : Bounds x (take i place) i low high
+
+module _ {x : Problem} {n : ℕ} {place load : List ℕ} {i k row c low high : ℕ} (s : Testing x n place load i k row c low high) where
+  abbrev before : List ℕ
+  before = take i place
+
+  size : length before ≡ i
+  size = placed-before (s .ready) (s .more)
+
+  abbrev Test : Bool
+  Test = hasRoom (getD load row 0) (x .f) c && (leb low k && leb k high)
+
+  tested : fits x before k ≡ Test
+  tested =
+      tested-by-load x before k load (s .ready .proper .some-row) (s .loads)
+      ∙ rw (kept-between before k (linksOf x (length before)) (s .small), size, s .at-row, s .cost-is, s .bounds .0, s .bounds .1)
+
+  -- it may not stand there
+  pub refused : Test ≡ false → TriedFrame x n place load i k false place load
+  unfolding answer
+  refused e = record {
+    found = attempt-refused x before k (tested ∙ e);
+    kept = refl;
+    beyond = refl;
+    size = refl;
+    undone = λ _. refl;
+    loads = λ w. absurd (false≢true w);
+  }
+
+  module _ (may : Test ≡ true) {v : ℕ} (v-is : v ≡ getD load row 0 + c) where
+    snoc : take (i + 1) (set place i k) ≡ before ++ (k ∷ [])
+    snoc = rw add-one (take-suc-set place i k (omega (arith, s .more, s .ready .places)))
+
+    -- it is put there
+    pub put-ready : Ready x n (set place i k) (set load row v)
+    put-ready = let r = s .ready in record {
+      proper = r .proper;
+      jobs = r .jobs;
+      few = r .few;
+      few-rows = r .few-rows;
+      short = r .short;
+      places = omega (arith, length-set place i k, r .places);
+      row-room = omega (arith, length-set load row v, r .row-room);
+    }
+
+    pub put-kept : LoadsKept x (take (i + 1) (set place i k)) (set load row v)
+    put-kept =
+        let w : v ≡ getD load (k % x .rows) 0 + getD (x .cost) (length before) 0 = v-is ∙ rw (s .at-row, s .cost-is, size) refl in
+        rw (snoc, s .at-row) (put-loads x before load k v (s .ready .proper .some-row) (s .ready .row-room) (s .loads) w)
+
+    module _ {b : Bool} {place′ load′ : List ℕ} (d : TriedJob x n (set place i k) (set load row v) (i + 1) b place′ load′) where
+      found-here : attempt x before k ≡ answer b (take n place′)
+      found-here = attempt-made x before k (tested ∙ may) ∙ rw (← snoc) (d .found)
+
+      kept-here : take i place′ ≡ take i place
+      kept-here =
+          sym (take-take i (i + 1) place′ (omega arith)) ∙ ap (take i) (d .kept)
+          ∙ take-take i (i + 1) (set place i k) (omega arith) ∙ take-set-le i place i k (omega arith)
+
+      -- the jobs after it were placed too
+      pub went : b ≡ true → TriedFrame x n place load i k true place′ load′
+      went q = record {
+        found = rw q at found-here;
+        kept = kept-here;
+        beyond = d .beyond ∙ drop-set-lt n place i k (s .more);
+        size = d .size ∙ length-set place i k;
+        undone = λ w. absurd (false≢true (sym w));
+        loads = λ _. d .loads q;
+      }
+
+      -- they were not: it is taken back, and its row has the load that it had
+      pub back : b ≡ false → TriedFrame x n place load i k false place′ (set load′ row (getD load row 0))
+      unfolding answer
+      back q = record {
+        found = rw q at found-here;
+        kept = kept-here;
+        beyond = d .beyond ∙ drop-set-lt n place i k (s .more);
+        size = d .size ∙ length-set place i k;
+        undone = λ _. ap (λ (l : List ℕ). set l row (getD load row 0)) (d .undone q) ∙ set-set load row v (getD load row 0) ∙ set-getD load row 0;
+        loads = λ w. absurd (false≢true w);
+      }

@@ -1,0 +1,91 @@
+-- What the search is given in arrays: the problem that they stand for, and what its functions require and ensure. A placing has the first n
+-- entries of the array of frames, one for each job. Assumes nothing.
+use mathlib.Core.Path.{_≡_}
+use mathlib.Core.Bool.{Bool, true, false}
+use mathlib.Core.List.{List, [], List·Memᴰ}
+use Prim.Native.Nat.{ℕ, _+_, _*_, _≤_, _<_}
+use lib.ListN.{length, getD, take, drop, replicate}
+use Rattle.cursor.specs.Padded.{padded}
+use Rattle.search.specs.Search.{Found, none, at}
+use Rattle.search.specs.Placing.{Problem, problem, linksAt, partner, plan, attempt, Proper, LoadsKept}
+use Rattle.place.specs.declared.Placed.{Placed}
+
+-- the problem of the first n entries of these arrays
+abbrev pub problemOf : List ℕ → List ℕ → List ℕ → List ℕ → List ℕ → ℕ → ℕ → ℕ → Problem
+problemOf cost first end counts links n rows f = problem (take n cost) (take n first) (take n end) (take n counts) (take (16 * n) links) rows f
+
+-- they have n entries, and the problem is one for the search
+pub record Placeable (cost first end counts links : List ℕ) (n rows f : ℕ) : Type 0 where
+  pub few : n ≤ 128
+  pub costs : n ≤ length cost
+  pub few-rows : rows ≤ 256
+  pub proper : Proper (problemOf cost first end counts links n rows f)
+
+-- n numbers that two bytes hold
+pub record Small (xs : List ℕ) (n : ℕ) : Type 0 where
+  pub few : n ≤ 128
+  pub all : n ≤ length xs
+  pub small : (j : ℕ) → j < n → getD xs j 0 ≤ 65535
+
+-- what is found, as it is answered
+unfoldable pub placedAnswer : Found → Placed
+placedAnswer (at frames) = record { found = true; frames = padded 128 0 frames }
+placedAnswer none = record { found = false; frames = replicate 128 0 }
+
+-- what is given in one array: its parts
+abbrev pub partIn : List (List ℕ) → ℕ → List ℕ
+partIn g j = getD g j []
+
+abbrev pub countsIn : List (List ℕ) → List ℕ
+countsIn g = partIn g 3
+
+-- the number of rows, and the number of jobs
+abbrev pub rowsIn : List (List ℕ) → ℕ
+rowsIn g = getD (partIn g 4) 0 0
+
+abbrev pub jobsIn : List (List ℕ) → ℕ
+jobsIn g = getD (partIn g 4) 2 0
+
+-- the problem that it gives, with the links
+abbrev pub problemIn : List (List ℕ) → List ℕ → Problem
+problemIn g links = problemOf (partIn g 0) (partIn g 1) (partIn g 2) (countsIn g) links (jobsIn g) (rowsIn g) (getD (partIn g 4) 1 0)
+
+-- the links of job i have their places, and each names an earlier job
+pub record LinksBack (counts links : List ℕ) (i : ℕ) : Type 0 where
+  pub is-job : i < 128
+  pub room : 16 * i + 16 ≤ length links
+  pub few : getD counts i 0 ≤ 16
+  pub back : (l : ℕ) → List·Memᴰ l (linksAt counts links i) → partner l < i
+
+-- there are n jobs, and the arrays have room for their frames and for the loads of all rows
+pub record Ready (x : Problem) (n : ℕ) (place load : List ℕ) : Type 0 where
+  pub proper : Proper x
+  pub jobs : length (x .cost) ≡ n
+  pub few : n ≤ 128
+  pub few-rows : x .rows ≤ 256
+  pub short : x .f ≤ 65535
+  pub places : n ≤ length place
+  pub row-room : x .rows ≤ length load
+
+-- the placing that an answer stands for
+unfoldable pub answer : Bool → List ℕ → Found
+answer true q = at q
+answer false q = none
+
+-- how things are left where the search came to o: true answers the placing that `place` then has, with its loads; false answers that there is
+-- none, and every load is as before; the jobs before i keep their frames, and what stands behind the n jobs is left alone
+pub record Tried (x : Problem) (o : Found) (n : ℕ) (place load : List ℕ) (i : ℕ) (r : Bool) (place′ load′ : List ℕ) : Type 0 where
+  pub found : o ≡ answer r (take n place′)
+  pub kept : take i place′ ≡ take i place
+  pub beyond : drop n place′ ≡ drop n place
+  pub size : length place′ ≡ length place
+  pub undone : r ≡ false → load′ ≡ load
+  pub loads : r ≡ true → LoadsKept x (take n place′) load′
+
+-- job i was tried in every frame of its window
+abbrev pub TriedJob : Problem → ℕ → List ℕ → List ℕ → ℕ → Bool → List ℕ → List ℕ → Type 0
+TriedJob x n place load i r place′ load′ = Tried x (plan x (take i place)) n place load i r place′ load′
+
+-- job i was tried in frame k
+abbrev pub TriedFrame : Problem → ℕ → List ℕ → List ℕ → ℕ → ℕ → Bool → List ℕ → List ℕ → Type 0
+TriedFrame x n place load i k r place′ load′ = Tried x (attempt x (take i place) k) n place load i r place′ load′
