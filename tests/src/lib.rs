@@ -1,6 +1,7 @@
 //! Tests of the bus library from outside: a second planner, a generator of requests, tables
 //! and call lists, and the comparison of any implementation with the reference.
 
+pub mod answers;
 pub mod bus;
 pub mod call;
 pub mod clock;

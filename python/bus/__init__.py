@@ -1,0 +1,46 @@
+"""Bus tables from a team's list of periodic transfers, thin over the proved library, which decides everything.
+
+    import bus
+    request = bus.read_request("examples/team.csv")
+    table = bus.plan(request)                  # or bus.Refused, with number, words and advice
+    print(bus.listing(request, table))
+    flight = bus.Dispatcher(table, request)
+    flight.next_frame(), flight.report(0, 9), flight.counts
+"""
+
+from .calls import check, plan, rewrite
+from .dispatcher import Dispatcher, Frame, Served
+from .files import FileFault
+from .library import NotBuilt
+from .lists import ListFaults
+from .picture import picture
+from .refusals import Refused
+from .request import Job, Request, Task
+from .search import SearchEnded
+from .sources import read_request
+from .table import Entry, Table
+from .text import c_array, flight, listing
+
+__all__ = [
+    "Dispatcher",
+    "Entry",
+    "FileFault",
+    "Frame",
+    "Job",
+    "ListFaults",
+    "NotBuilt",
+    "Refused",
+    "Request",
+    "SearchEnded",
+    "Served",
+    "Table",
+    "Task",
+    "c_array",
+    "check",
+    "flight",
+    "listing",
+    "picture",
+    "plan",
+    "read_request",
+    "rewrite",
+]

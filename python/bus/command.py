@@ -1,0 +1,219 @@
+"""The command `bus`: its subcommands, what they print, and the status that they end with."""
+
+import argparse
+import os
+import signal
+import sys
+import traceback
+
+from . import calls, files, library, lists
+from .picture import picture
+from .refusals import Refused
+from .search import SearchEnded
+from .sources import read_request
+from .text import c_array, flight, is_c_name, listing
+
+ANSWERED, REFUSED, FAILED = 0, 1, 2
+MOST_FAULTS = 30
+MOST_CYCLES = 1000
+
+DESCRIPTION = """\
+Plans a bus table from a team's list of periodic transfers. The proved library
+decides everything; the first time, it is built.
+
+Wherever a LIST is asked for, a CSV file or a request file will do, and '-' is
+standard input. docs/FORMATS.md has the formats."""
+
+STATUS = """\
+exit status: 0 answered; 1 refused; 2 wrong use, or a file that cannot be read
+or written. Why, and what to do, stands on standard error."""
+
+
+class WrongUse(Exception):
+    """Arguments that do not go together."""
+
+
+def _say(text):
+    """Lines to the person at the screen, the later ones indented."""
+    library.tell(text.replace("\n", "\n     "))
+
+
+def _searching():
+    _say("searching for a plan; Ctrl-C stops it, and nothing is written before it ends")
+
+
+def _look_ahead(source, *outputs):
+    """Faults of files that will be written are told before a search, which may be long."""
+    outputs = [path for path in outputs if path is not None]
+    real = [os.path.realpath(path) for path in (source, *outputs) if not path.startswith("/dev/")]
+    if len(set(real)) < len(real):
+        raise WrongUse("one file is named twice, and one of the two would be lost: name another")
+    for path in outputs:
+        files.probe(path)
+
+
+def _plan(arguments):
+    source = files.read(arguments.list)
+    _look_ahead(arguments.list, arguments.output, arguments.svg)
+    table = calls.plan(source, tell=_searching)
+    request = read_request(source)
+    if arguments.svg is not None:
+        title = "Bus table" if arguments.list == "-" else os.path.basename(arguments.list)
+        files.write(arguments.svg, picture(request, table, title).encode())
+    if arguments.output is not None:
+        files.write(arguments.output, bytes(table))
+    files.print_out(c_array(request, table, arguments.c) if arguments.c else listing(request, table))
+
+
+def _check(arguments):
+    calls.check(files.read(arguments.list), files.read(arguments.table))
+    files.print_out("accepted\n")
+
+
+def _fly(arguments):
+    source = files.read(arguments.list)
+    if arguments.table is None:
+        table = calls.plan(source, tell=_searching)
+    else:
+        table = calls.check(source, files.read(arguments.table))
+    files.print_out(flight(read_request(source), table, arguments.cycles))
+
+
+def _list(arguments):
+    source = files.read(arguments.list)
+    _look_ahead(arguments.list, arguments.output)
+    request = read_request(source)
+    if arguments.output is None:
+        files.print_out(lists.write(request))
+    elif lists.is_list(source):
+        read_request(bytes(request))
+        files.write(arguments.output, bytes(request))
+    else:
+        files.write(arguments.output, lists.write(request).encode())
+
+
+class _Parser(argparse.ArgumentParser):
+    def print_help(self, file=None):
+        files.print_out(self.format_help())
+
+    def error(self, message):
+        self.print_usage(sys.stderr)
+        _say(f"{message}\n`{self.prog} --help` has an example")
+        raise SystemExit(FAILED)
+
+
+def _c_name(text):
+    if not is_c_name(text):
+        raise argparse.ArgumentTypeError(f"{text!r} is no name for an array in C: letters, digits and _, no keyword")
+    return text
+
+
+def _cycles(text):
+    if not (text.isascii() and text.isdigit() and len(text) <= 9 and 1 <= int(text) <= MOST_CYCLES):
+        raise argparse.ArgumentTypeError(f"{text!r} is no number from 1 to {MOST_CYCLES}")
+    return int(text)
+
+
+def _subcommand(group, name, run, help, example):
+    epilog = f"example:\n{example}\n\n{STATUS}"
+    layout = argparse.RawDescriptionHelpFormatter
+    parser = group.add_parser(
+        name, help=help, description=help, epilog=epilog, formatter_class=layout, allow_abbrev=False
+    )
+    parser.set_defaults(run=run)
+    parser.add_argument("list", metavar="LIST", help="a list (CSV) or a request file")
+    return parser
+
+
+def _parser():
+    epilog = f"example:\n  bus plan examples/team.csv --svg team.svg\n\n{STATUS}"
+    layout = argparse.RawDescriptionHelpFormatter
+    parser = _Parser(
+        prog="bus", description=DESCRIPTION, epilog=epilog, formatter_class=layout, allow_abbrev=False
+    )
+    group = parser.add_subparsers(metavar="COMMAND", required=True, parser_class=_Parser)
+
+    plan = _subcommand(
+        group,
+        "plan",
+        _plan,
+        "plans a list and prints its table with names",
+        "  bus plan examples/team.csv -o team.table --svg team.svg\n"
+        "  bus plan examples/team.csv --c team_table > team.c",
+    )
+    plan.add_argument("-o", dest="output", metavar="TABLE", help="write the table file")
+    plan.add_argument("--c", metavar="NAME", type=_c_name, help="print the table as a C array in place of the listing")
+    plan.add_argument("--svg", metavar="FILE", help="write the picture")
+
+    check = _subcommand(
+        group,
+        "check",
+        _check,
+        "checks whether a table is a plan of a list",
+        "  bus check examples/team.csv team.table",
+    )
+    check.add_argument("table", metavar="TABLE", help="a table file")
+
+    fly = _subcommand(
+        group,
+        "fly",
+        _fly,
+        "prints what is served, frame by frame, each job with its cycle",
+        "  bus fly examples/team.csv\n  bus fly examples/team.csv team.table --cycles 2",
+    )
+    fly.add_argument("table", metavar="TABLE", nargs="?", help="a table file; without one the list is planned")
+    fly.add_argument("--cycles", metavar="N", type=_cycles, default=3, help="how many cycles (3)")
+
+    convert = _subcommand(
+        group,
+        "list",
+        _list,
+        "turns a list into a request file and back; without -o, prints the list",
+        "  bus list examples/team.csv -o team.req\n  bus list team.req",
+    )
+    to_write = "write the request file of a list, or the list of a request file"
+    convert.add_argument("-o", dest="output", metavar="FILE", help=to_write)
+    return parser
+
+
+def _tell_faults(path, faults):
+    for fault in faults[:MOST_FAULTS]:
+        print(f"{path}: {fault}", file=sys.stderr)
+    more = f", {len(faults) - MOST_FAULTS} of them not shown" if len(faults) > MOST_FAULTS else ""
+    count = "1 fault" if len(faults) == 1 else f"{len(faults)} faults"
+    _say(f"refused: the list has {count}{more}: mend what the lines say; docs/FORMATS.md has the format")
+
+
+def main(words=None):
+    """Runs the command with these words and answers its exit status."""
+    try:
+        arguments = _parser().parse_args(words)
+        arguments.run(arguments)
+        return ANSWERED
+    except SystemExit as end:
+        return end.code
+    except lists.ListFaults as found:
+        _tell_faults(arguments.list, found.faults)
+        return REFUSED
+    except Refused as refused:
+        about_table = refused.number in (12, 13, 14)
+        _say(f"{arguments.table if about_table else arguments.list}: {refused}")
+        return REFUSED
+    except (WrongUse, files.FileFault, library.NotBuilt, SearchEnded) as fault:
+        _say(str(fault))
+        return FAILED
+    except Exception:
+        traceback.print_exc()
+        _say("this is a fault of the command itself: please report it with the lines above")
+        return FAILED
+
+
+def run():
+    """The executable: Ctrl-C and a closed pipe end it as they end any other."""
+    signal.signal(signal.SIGPIPE, signal.SIG_DFL)
+    try:
+        sys.exit(main())
+    except KeyboardInterrupt:
+        _say("stopped")
+        signal.signal(signal.SIGINT, signal.SIG_DFL)
+        os.kill(os.getpid(), signal.SIGINT)

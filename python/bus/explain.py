@@ -1,0 +1,159 @@
+"""What a refusal speaks of, as far as it can be seen. The library has refused already: nothing is decided here."""
+
+import struct
+
+from .words import pair_faults, task_faults
+
+MOST_NAMED = 3
+
+
+def _where_it_ends(data):
+    count = data[0] if data else 0
+    pairs_at = 1 + 8 * count
+    if not data:
+        return "it is empty"
+    if len(data) < pairs_at:
+        return f"it ends inside task {(len(data) - 1) // 8}"
+    if len(data) == pairs_at:
+        return "it ends before the number of pairs"
+    if len(data) < pairs_at + 1 + 2 * data[pairs_at]:
+        return f"it ends inside pair {(len(data) - pairs_at - 1) // 2}"
+    return "it ends inside the third section"
+
+
+def _first_task_fault(data):
+    for number in range(data[0]):
+        length, period, deadline, phase = struct.unpack_from("<4H", data, 1 + 8 * number)
+        faults = task_faults(length, period, deadline, phase)
+        if faults:
+            return f"task {number}: {'; '.join(faults)}"
+    return ""
+
+
+def _first_pair_fault(data):
+    count = data[0]
+    names = [f"task {i}" for i in range(count)]
+    periods = [struct.unpack_from("<H", data, 3 + 8 * i)[0] for i in range(count)]
+    at = 2 + 8 * count
+    for number in range(data[at - 1]):
+        first, second = data[at + 2 * number], data[at + 2 * number + 1]
+        if max(first, second) >= count:
+            return f"pair {number} is {first}, {second}, and the tasks are 0 to {count - 1}"
+        faults = pair_faults(first, second, names, periods)
+        if faults:
+            return f"pair {number}: {'; '.join(faults)}"
+    return ""
+
+
+def _behind_the_pairs(number, data):
+    pairs_at = 1 + 8 * data[0]
+    third = data[pairs_at + 1 + 2 * data[pairs_at] :]
+    if number == 17:
+        return f"the count is {third[0]}" if third[0] > 1 else f"it asks for {third[1]} silent ticks"
+    return f"{len(third) - 1 - third[0] % 2} bytes too many"
+
+
+def of_bytes(number, data):
+    """About bytes that are no request: 1 to 6 and 17."""
+    if number == 1:
+        return f"the file has {len(data)} bytes: {_where_it_ends(data)}"
+    if number == 2:
+        return f"the file's first byte says {data[0]} tasks"
+    if number == 3:
+        return _first_task_fault(data)
+    if number == 4:
+        return f"the file says {data[1 + 8 * data[0]]} pairs"
+    if number == 5:
+        return _first_pair_fault(data)
+    return _behind_the_pairs(number, data) if number in (6, 17) else ""
+
+
+def _periods(request):
+    users = {}
+    for number, task in enumerate(request.tasks):
+        users.setdefault(task.period, []).append(request.place(number))
+    each = ", ".join(f"{period} ({', '.join(names)})" for period, names in sorted(users.items()))
+    return f"the periods are {each}; their least common multiple is {request.cycle}"
+
+
+def _job_counts(request):
+    counts = [request.cycle // task.period for task in request.tasks]
+    most = sorted(range(len(counts)), key=lambda number: -counts[number])[:MOST_NAMED]
+    named = ", ".join(f"{request.place(number)} {counts[number]}" for number in most)
+    return f"a cycle of {request.cycle} ticks has {sum(counts)} jobs; the most: {named}"
+
+
+def _longest_and_shortest(request):
+    numbers = range(len(request.tasks))
+    longest = max(numbers, key=lambda i: request.tasks[i].length)
+    shortest = min(numbers, key=lambda i: request.tasks[i].deadline)
+    silent = f" and {request.silent} silent ones" if request.silent else ""
+    return (
+        f"the longest transfer is {request.place(longest)} with {request.tasks[longest].length} ticks{silent},"
+        f" the shortest deadline that of {request.place(shortest)} with {request.tasks[shortest].deadline}"
+    )
+
+
+def _asked_for(request):
+    more = ": more than there is" if request.load > 1 else ""
+    return f"the transfers ask for {100 * request.load:.0f} % of the time{more}"
+
+
+def of_request(number, request):
+    """About a request that has no table: 7 to 10."""
+    about = {7: _periods, 8: _job_counts, 9: _longest_and_shortest, 10: _asked_for}
+    return about[number](request) if number in about else ""
+
+
+def _entry_breach(request, table, jobs, seen, number, entry):
+    """What is wrong with one entry of a row, or nothing."""
+    key = (entry.task, entry.job)
+    if key not in jobs:
+        return f"row {number} names job {entry.job} of task {entry.task}, which the request does not have"
+    label = f"job {entry.job} of {request.place(entry.task)}"
+    if key in seen:
+        return f"{label} stands twice"
+    begin = (number + len(table.rows) * entry.carry) * table.frame
+    release, due = jobs[key]
+    if begin < release:
+        return f"{label} stands in row {number}, from tick {begin}, before its release at {release}"
+    if begin + table.frame > due:
+        return f"{label} stands in row {number}, until tick {begin + table.frame}, after its due time {due}"
+    return ""
+
+
+def _row_breach(request, table, number):
+    row = table.rows[number]
+    used = sum(request.tasks[entry.task].length + request.silent for entry in row if entry.task < len(request.tasks))
+    return f"row {number} needs {used} ticks, and a frame has {table.frame}" if used > table.frame else ""
+
+
+def _order_breaches(request, table):
+    frames = table.frames()
+    for first, second in request.pairs:
+        for j in range(request.cycle // request.tasks[first].period):
+            if frames.get((first, j), 0) > frames.get((second, j), 2 * len(table.rows)):
+                yield f"job {j} of {request.place(first)} runs after job {j} of {request.place(second)}"
+
+
+def _plan_breaches(request, table):
+    jobs = {(job.task, job.number): (job.release, job.due) for job in request.jobs()}
+    seen = set()
+    for number, row in enumerate(table.rows):
+        for entry in row:
+            yield _entry_breach(request, table, jobs, seen, number, entry)
+            seen.add((entry.task, entry.job))
+        yield _row_breach(request, table, number)
+    for task, j in sorted(set(jobs) - seen):
+        yield f"job {j} of {request.place(task)} is missing"
+    yield from _order_breaches(request, table)
+
+
+def of_table(number, request, table):
+    """About a table that is not one of the request: 13 and 14."""
+    if number == 13:
+        sizes = f"the table has the frame {table.frame} and the cycle {table.cycle}"
+        return f"{sizes}; the request's cycle is {request.cycle}"
+    found = [breach for breach in _plan_breaches(request, table) if breach]
+    more = f"; and {len(found) - MOST_NAMED} more" if len(found) > MOST_NAMED else ""
+    return "; ".join(found[:MOST_NAMED]) + more

@@ -1,0 +1,92 @@
+"""What each refusal number says, in the words of docs/FORMATS.md, and the exception that carries it."""
+
+# number: (when it is given, what a team can do)
+REFUSALS = {
+    1: (
+        "the request's bytes end inside a section or before its count",
+        "the file was cut: write it again, whole",
+    ),
+    2: (
+        "no task, or more than 16",
+        "leave the list to 16 tasks, or split it over two buses",
+    ),
+    3: (
+        "a task breaks 1 ≤ C ≤ D ≤ T or P < T",
+        "correct that task: a transfer fits its deadline, the deadline its period, and the phase is below the period",
+    ),
+    4: (
+        "more than 16 pairs",
+        "drop pairs that follow from others",
+    ),
+    5: (
+        "a pair breaks a < b < n or its tasks have different periods",
+        "number the tasks so that the earlier one has the lower number; give both the same period",
+    ),
+    6: (
+        "bytes follow the last section",
+        "the counts are too small, or the file has something appended",
+    ),
+    7: (
+        "H is above 10,000",
+        "choose periods that share factors: 20 and 40 instead of 20 and 41",
+    ),
+    8: (
+        "more than 128 jobs in a cycle",
+        "longer periods, or periods that share factors",
+    ),
+    9: (
+        "no frame length is plausible: none divides H into at most 256 rows, holds the longest transfer with its"
+        " silent ticks and leaves every window a whole frame",
+        "the longest transfer is long against the shortest deadline: shorten or cut it, relax the deadline, or ask"
+        " for fewer silent ticks",
+    ),
+    10: (
+        "some length is plausible and yet no placing keeps windows, capacity and order: all were searched",
+        "less load, fewer silent ticks, later deadlines, other phases or fewer pairs; no other placing would do",
+    ),
+    11: (
+        "the buffer is shorter than the table",
+        "lend 7 + F + 2·(number of jobs) bytes; 519 are always enough",
+    ),
+    12: (
+        "bytes that are not a table",
+        "the file was cut or is something else",
+    ),
+    13: (
+        "the table's H is not the request's, or its f is not plausible",
+        "the table belongs to another request",
+    ),
+    14: (
+        "the table does not describe a plan of the request",
+        "plan again; the table was edited or belongs to another request",
+    ),
+    15: (
+        "the state's row is not below F",
+        "the state belongs to another table: begin with a fresh one",
+    ),
+    16: (
+        "the report's task number is not below n",
+        "the report names a task that the request does not have",
+    ),
+    17: (
+        "the request's third section has a count above 1, or g is above 15; judged after 5 and before 6",
+        "write `01` and a g from 0 to 15, or leave the section out; what the line needs beyond 15 ticks can be added"
+        " to every C",
+    ),
+}
+
+UNKNOWN = ("a number that this command has no words for", "look it up in docs/FORMATS.md")
+
+
+class Refused(Exception):
+    """The library refused: its number, the number's words, what can be done, and what in the list it speaks of."""
+
+    def __init__(self, number, about=""):
+        self.number = number
+        self.words, self.advice = REFUSALS.get(number, UNKNOWN)
+        self.about = about
+        super().__init__(number, about)
+
+    def __str__(self):
+        about = f"\n{self.about}" if self.about else ""
+        return f"refused {self.number}: {self.words}{about}\nwhat to do: {self.advice}"

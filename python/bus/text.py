@@ -1,0 +1,81 @@
+"""What the command prints: a table's listing, its flight and its bytes in C, all with the names of the list."""
+
+import re
+
+from .dispatcher import Dispatcher
+
+PLAIN_NAME = re.compile(r"[^\s\"+@]+")
+KEYWORDS = frozenset(
+    "auto break case char const continue default do double else enum extern float for goto if inline int long register"
+    " restrict return short signed sizeof static struct switch typedef union unsigned void volatile while".split()
+)
+
+
+def quoted(name):
+    """A name as one word: with blanks, quotes, + or @ in it, it stands in quotes as in CSV."""
+    return name if PLAIN_NAME.fullmatch(name) else '"' + name.replace('"', '""') + '"'
+
+
+def entry_label(request, entry):
+    """A transfer as the listing has it: its name, its job and + if it is carried."""
+    return f"{quoted(request.tasks[entry.task].name)}.{entry.job}{'+' if entry.carry else ''}"
+
+
+def busy(request, row):
+    """The ticks of a row's transfers, silent ones not counted."""
+    return sum(request.tasks[entry.task].length for entry in row)
+
+
+def sizes(table):
+    return f"frame {table.frame} cycle {table.cycle} rows {len(table.rows)}"
+
+
+def listing(request, table):
+    """The lines of the program `plan`, with names: the sizes, then for each row its number, busy ticks and entries."""
+    lines = [sizes(table)]
+    for number, row in enumerate(table.rows):
+        lines.append(" ".join([str(number), str(busy(request, row)), *(entry_label(request, entry) for entry in row)]))
+    return "\n".join(lines) + "\n"
+
+
+def flight(request, table, cycles):
+    """The lines of the program `fly`, with names: what the dispatcher serves in so many cycles."""
+    dispatcher = Dispatcher(table)
+    lines = []
+    for _ in range(cycles * len(table.rows)):
+        frame = dispatcher.next_frame()
+        names = (f"{quoted(request.tasks[entry.task].name)}.{entry.job}@{entry.cycle}" for entry in frame.entries)
+        lines.append(" ".join([f"frame {frame.number} start {frame.start}", *names]))
+    return "\n".join(lines) + "\n"
+
+
+def is_c_name(name):
+    return bool(re.fullmatch(r"[A-Za-z_][A-Za-z0-9_]*", name)) and name not in KEYWORDS
+
+
+def printable(text):
+    """Text without control characters, also those that turn the direction of writing."""
+    return "".join(letter if letter.isprintable() else "?" for letter in text)
+
+
+def _comment(text):
+    """Text that neither ends a C comment nor begins another."""
+    return "/* " + printable(text).replace("*/", "* /").replace("/*", "/ *") + " */"
+
+
+def _in_hex(data):
+    return " ".join(f"0x{byte:02X}," for byte in data)
+
+
+def c_array(request, table, name):
+    """The table's bytes as a C array, a line for each row with its entries beside it."""
+    data = bytes(table)
+    lines = ["#include <stdint.h>", "", _comment(f"Bus table: {sizes(table)}")]
+    lines += [f"const uint8_t {name}[{len(data)}] = {{", f"    {_in_hex(data[:7])}"]
+    at = 7
+    for number, row in enumerate(table.rows):
+        end = at + 1 + 2 * len(row)
+        labels = " ".join([f"row {number}:", *(entry_label(request, entry) for entry in row)])
+        lines.append(f"    {_in_hex(data[at:end])} {_comment(labels)}")
+        at = end
+    return "\n".join([*lines, "};", ""])

@@ -1,0 +1,118 @@
+"""What several test files share."""
+
+import os
+import random
+import subprocess
+import sys
+import tempfile
+import unittest
+from pathlib import Path
+
+import bus
+
+ROOT = Path(__file__).resolve().parents[2]
+EXAMPLES = ROOT / "examples"
+ANSWERS = Path(__file__).resolve().parent / "answers"
+COMMAND = [sys.executable, str(ROOT / "bus")]
+
+
+def example(name):
+    return (EXAMPLES / name).read_bytes()
+
+
+def request(*tasks, pairs=(), silent=0):
+    """A request of tasks given as (C, T, D, P), named as those of a request file are."""
+    return bus.Request(tuple(bus.Task(f"task{i}", *task) for i, task in enumerate(tasks)), tuple(pairs), silent)
+
+
+def pigeons(count):
+    """So many jobs that fill a frame each, and a frame too few: the search is long from 13 on, without end from 16."""
+    return request(*[(13, 13 * (count - 1), 13 * (count - 1), 0)] * count)
+
+
+def seeded_request(draw, silent=False):
+    """Some request that can be read; nothing is said about its plans."""
+    periods = [draw.randint(1, draw.choice((12, 400, 10_000, 65_535))) for _ in range(draw.randint(1, 3))]
+    tasks = []
+    for _ in range(draw.randint(1, 16)):
+        period = draw.choice(periods)
+        length = draw.randint(1, period)
+        tasks.append((length, period, draw.randint(length, period), draw.randrange(period)))
+    equal = [(a, b) for b in range(len(tasks)) for a in range(b) if tasks[a][1] == tasks[b][1]]
+    pairs = [draw.choice(equal) for _ in range(draw.randint(0, 16))] if equal else []
+    return request(*tasks, pairs=pairs, silent=draw.randint(1, 15) if silent else 0)
+
+
+def damaged(draw, data):
+    """The bytes with one to three changes anywhere."""
+    data = bytearray(data)
+    for _ in range(draw.randint(1, 3)):
+        at = draw.randrange(len(data)) if data else 0
+        kind = draw.randrange(4)
+        if kind == 0 and data:
+            data[at] = draw.randrange(256)
+        elif kind == 1:
+            data.insert(at, draw.randrange(256))
+        elif kind == 2 and data:
+            del data[at]
+        else:
+            del data[at:]
+    return bytes(data)
+
+
+def stored(name):
+    """The stored answers: for each request its line's words and those of the lines that follow."""
+    groups = []
+    for line in (ANSWERS / name).read_text(encoding="ascii").splitlines():
+        words = line.split(" ")
+        if words[0] == "request":
+            groups.append((words, []))
+        else:
+            groups[-1][1].append(words)
+    return groups
+
+
+def unhex(word):
+    return b"" if word == "-" else bytes.fromhex(word)
+
+
+class Case(unittest.TestCase):
+    """A test with a folder of its own."""
+
+    def setUp(self):
+        folder = tempfile.TemporaryDirectory()
+        self.addCleanup(folder.cleanup)
+        self.folder = Path(folder.name)
+        self.draw = random.Random(15)
+
+    def file(self, name, content):
+        path = self.folder / name
+        path.write_bytes(content if isinstance(content, bytes) else content.encode())
+        return str(path)
+
+    def run_bus(self, *words, stdin=b"", **more):
+        """Status, standard output and standard error of the command."""
+        done = subprocess.run([*COMMAND, *map(str, words)], input=stdin, capture_output=True, timeout=60, **more)
+        return done.returncode, done.stdout.decode(), done.stderr.decode()
+
+    def answered(self, *words, **more):
+        status, out, err = self.run_bus(*words, **more)
+        self.assertEqual((status, err), (0, ""))
+        return out
+
+    def failed(self, status, *words, says=(), **more):
+        """The command ends with the status, prints no answer, and standard error has these words."""
+        ended, out, err = self.run_bus(*words, **more)
+        self.assertEqual((ended, out), (status, ""), err)
+        for text in says:
+            self.assertIn(text, err)
+        return err
+
+    def refused(self, number, call, *arguments):
+        with self.assertRaises(bus.Refused) as caught:
+            call(*arguments)
+        self.assertEqual(caught.exception.number, number)
+        return caught.exception
+
+    def names_in_folder(self):
+        return sorted(os.listdir(self.folder))

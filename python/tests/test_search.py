@@ -1,0 +1,87 @@
+"""A long search: Ctrl-C, or the end of the command, ends it at once and leaves nothing behind."""
+
+import os
+import signal
+import subprocess
+import time
+
+import bus
+from tests.helper import COMMAND, Case, pigeons
+
+
+def running(pid):
+    """Whether the process is there and not just a remainder."""
+    try:
+        with open(f"/proc/{pid}/stat", encoding="ascii", errors="replace") as file:
+            return file.read().rsplit(")", 1)[1].split()[0] != "Z"
+    except OSError:
+        return False
+
+
+def as_from_a_terminal():
+    """A process that a shell starts in the background ignores Ctrl-C, and what it starts does too."""
+    signal.signal(signal.SIGINT, signal.SIG_DFL)
+
+
+def children(pid):
+    with open(f"/proc/{pid}/task/{pid}/children", encoding="ascii") as file:
+        return [int(word) for word in file.read().split()]
+
+
+class Searches(Case):
+    def start(self):
+        """A search without end, begun; the process and that of its search."""
+        source = self.file("long.req", bytes(pigeons(16)))
+        words = ["plan", source, "-o", str(self.folder / "table"), "--svg", str(self.folder / "svg")]
+        started = subprocess.Popen(
+            [*COMMAND, *words], stdout=subprocess.PIPE, stderr=subprocess.PIPE, preexec_fn=as_from_a_terminal
+        )
+        self.addCleanup(started.kill)
+        line = started.stderr.readline().decode()
+        self.assertEqual(line, "bus: searching for a plan; Ctrl-C stops it, and nothing is written before it ends\n")
+        (child,) = children(started.pid)
+        return started, child
+
+    def ends(self, started, child, number):
+        begin = time.monotonic()
+        out, err = started.communicate(timeout=10)
+        self.assertLess(time.monotonic() - begin, 5)
+        self.assertEqual((started.returncode, out), (-number, b""))
+        while running(child):
+            self.assertLess(time.monotonic() - begin, 5)
+            time.sleep(0.01)
+        self.assertEqual(self.names_in_folder(), ["long.req"])
+        return err.decode()
+
+    def test_ctrl_c(self):
+        started, child = self.start()
+        started.send_signal(signal.SIGINT)
+        self.assertEqual(self.ends(started, child, signal.SIGINT), "bus: stopped\n")
+
+    def test_ended_from_outside(self):
+        started, child = self.start()
+        started.kill()
+        self.ends(started, child, signal.SIGKILL)
+
+    def test_search_ended_from_outside(self):
+        """The search alone is ended: the command says so and has no answer."""
+        started, child = self.start()
+        os.kill(child, signal.SIGKILL)
+        out, err = started.communicate(timeout=10)
+        self.assertEqual((started.returncode, out), (2, b""))
+        self.assertIn("before it had an answer", err.decode())
+
+    def test_in_a_notebook(self):
+        """The call raises KeyboardInterrupt, and no process is left."""
+        old = signal.signal(signal.SIGALRM, lambda *_: (_ for _ in ()).throw(KeyboardInterrupt))
+        self.addCleanup(signal.signal, signal.SIGALRM, old)
+        signal.setitimer(signal.ITIMER_REAL, 0.3)
+        with self.assertRaises(KeyboardInterrupt):
+            bus.plan(pigeons(16))
+        self.assertEqual(children(os.getpid()), [])
+
+    def test_told_once_if_long(self):
+        told = []
+        with self.assertRaises(bus.Refused):
+            bus.plan(pigeons(4), tell=lambda: told.append(1))
+        self.assertEqual(told, [])
