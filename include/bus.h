@@ -1,5 +1,6 @@
 /*
- * The bus table library: planning, checking and dispatching a table for the bus controller.
+ * The bus table library: joining requests, and planning, checking and dispatching a table for the
+ * bus controller.
  *
  * All times are whole ticks. A u16 in a file or a state is two bytes, low byte first.
  *
@@ -31,6 +32,9 @@ extern "C" {
 
 /* The longest table: 7 + 256 rows + 2 for each of 128 jobs. */
 #define BUS_TABLE_BYTES 519
+
+/* The longest request: 16 tasks, 16 pairs and the silent ticks. */
+#define BUS_REQUEST_BYTES 164
 
 /* A state or entries buffer that is too short, or a state whose mark is neither 0 nor 1. */
 #define BUS_BAD_BUFFER 99
@@ -120,6 +124,21 @@ int32_t bus_report(const uint8_t *request, size_t request_len, uint8_t task, uin
                    uint8_t *state, size_t state_len);
 
 /*
+ * Joins two requests and writes one to the front of `out`: the tasks of the first and then those
+ * of the second, the pairs of the first and then those of the second with both numbers raised by
+ * the first's number of tasks, and the silent ticks, which must be the same in both. No silent
+ * ticks are written by leaving the third section out. The bytes behind the request are left as
+ * they are. The two requests may be the same bytes. The cycle of the joined request is judged
+ * when it is planned.
+ *
+ * Answers the request's length, or refuses with 1 to 5, 17 or 6 for the first request, then for
+ * the second, then with 18, 19, 20, or 11. A buffer of BUS_REQUEST_BYTES is never too short. Which
+ * of the two was refused is told by joining the first with itself.
+ */
+int32_t bus_join(const uint8_t *first, size_t first_len, const uint8_t *second, size_t second_len,
+                 uint8_t *out, size_t out_len);
+
+/*
  * The refusal numbers:
  *
  *    1  the request's bytes end inside a section or before its count
@@ -132,13 +151,16 @@ int32_t bus_report(const uint8_t *request, size_t request_len, uint8_t task, uin
  *    8  more than 128 jobs
  *    9  no frame length is plausible
  *   10  some frame length is plausible, but there is no plan
- *   11  the buffer is shorter than the table
+ *   11  the buffer is shorter than the table, or than the joined request
  *   12  the bytes are no table
  *   13  the table's cycle is not the request's, or its frame length is not plausible
  *   14  the table does not describe a plan
  *   15  the state's row is not below the table's number of rows
  *   16  the request has no such task
  *   17  the request's third section has a count above 1, or more than 15 silent ticks
+ *   18  the two requests have more than 16 tasks together
+ *   19  the two requests have more than 16 pairs together
+ *   20  the two requests differ in their silent ticks
  *   99  a state or entries buffer is too short, or the state's mark is neither 0 nor 1
  */
 

@@ -378,6 +378,8 @@ static int32_t answer_of(const call *x, uint8_t *a, uint8_t *b, uint8_t *c)
         return bus_fresh(b, x->b.len);
     case 4:
         return bus_next_frame(a, x->a.len, b, x->b.len, c, x->c.len);
+    case 6:
+        return bus_join(a, x->a.len, b, x->b.len, c, x->c.len);
     default:
         return bus_report(a, x->a.len, x->task, x->ticks, b, x->b.len);
     }
@@ -430,7 +432,8 @@ static int32_t both(call *x)
         fault("two runs differ", &before);
     if (answer < 0 && !all_same(x, &before))
         fault("a refusal changed a buffer", &before);
-    if (!same(&x->a, &before.a))
+    int second_is_read = x->which == 1 || x->which == 2 || x->which == 6;
+    if (!same(&x->a, &before.a) || (second_is_read && !same(&x->b, &before.b)))
         fault("an input was changed", &before);
     return answer;
 }
@@ -463,6 +466,29 @@ static void report(call *x)
     memcpy(before.at + 3 + 2 * x->task, x->b.at + 3 + 2 * x->task, 2);
     if (!same(&x->b, &before))
         fault("a report changed another byte than those of its task's count", x);
+}
+
+/* The request and another one, or it twice, joined in buffers of any length, of the exact one and of one too few. */
+static void join(const bytes *request)
+{
+    static call x;
+    x.which = 6;
+    x.a = *request;
+    make_request(&x.b);
+    while (chance(15))
+        damage(&x.b);
+    if (chance(20))
+        x.b = *request;
+    random_bytes(&x.c, below(4) ? BUS_REQUEST_BYTES : below(400));
+    int32_t length = both(&x);
+    if (length > 0) {
+        random_bytes(&x.c, (size_t)length);
+        if (both(&x) != length)
+            fault("the exact room does not do", &x);
+        random_bytes(&x.c, (size_t)length - 1);
+        if (both(&x) != -11)
+            fault("one byte too few does", &x);
+    }
 }
 
 /* One request, its table if it has one, and calls about both. */
@@ -505,6 +531,7 @@ static void turn(void)
         random_bytes(&x.c, chance(70) ? x.b.len : below(300));
         both(&x);
     }
+    join(&request);
     x.which = 3;
     make_state(&x.b, 0);
     x.a.len = x.c.len = 0;

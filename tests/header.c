@@ -59,5 +59,12 @@ int main(void)
     expect("bus_check", bus_check(bad, sizeof bad, table, used), -17);
     expect("bus_rewrite", bus_rewrite(bad, sizeof bad, table, used, again, used), -17);
     expect("bus_report", bus_report(bad, sizeof bad, 2, 11, state, sizeof state), -17);
+    uint8_t file[BUS_REQUEST_BYTES];
+    expect("bus_join", bus_join(request, sizeof request, request, sizeof request, file, sizeof file), 50);
+    expect("bus_join", file[0], 6);
+    expect("bus_plan", bus_plan(file, 50, again, sizeof again), -10);
+    expect("bus_join", bus_join(request, sizeof request, silent, sizeof silent, file, sizeof file), -20);
+    expect("bus_join", bus_join(request, sizeof request, bad, sizeof bad, file, sizeof file), -17);
+    expect("bus_join", bus_join(request, sizeof request, request, sizeof request, file, 49), -11);
     return faults != 0;
 }

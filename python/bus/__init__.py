@@ -6,11 +6,13 @@
     print(bus.listing(request, table))
     flight = bus.Dispatcher(table, request)
     flight.next_frame(), flight.report(0, 9), flight.counts
+    both = bus.join("examples/battery-1.csv", "examples/battery-2.csv")
 """
 
 from .calls import check, plan, rewrite
 from .dispatcher import Dispatcher, Frame, Served
 from .files import FileFault
+from .join import join
 from .library import NotBuilt
 from .lists import ListFaults
 from .picture import picture
@@ -38,6 +40,7 @@ __all__ = [
     "c_array",
     "check",
     "flight",
+    "join",
     "listing",
     "picture",
     "plan",

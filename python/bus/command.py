@@ -7,6 +7,7 @@ import sys
 import traceback
 
 from . import calls, files, library, lists
+from .join import join
 from .picture import picture
 from .refusals import Refused
 from .search import SearchEnded
@@ -42,10 +43,14 @@ def _searching():
     _say("searching for a plan; Ctrl-C stops it, and nothing is written before it ends")
 
 
-def _look_ahead(source, *outputs):
+def _real(paths):
+    return [os.path.realpath(path) for path in paths if not path.startswith("/dev/")]
+
+
+def _look_ahead(sources, *outputs):
     """Faults of files that will be written are told before a search, which may be long."""
     outputs = [path for path in outputs if path is not None]
-    real = [os.path.realpath(path) for path in (source, *outputs) if not path.startswith("/dev/")]
+    real = [*set(_real(sources)), *_real(outputs)]
     if len(set(real)) < len(real):
         raise WrongUse("one file is named twice, and one of the two would be lost: name another")
     for path in outputs:
@@ -54,7 +59,7 @@ def _look_ahead(source, *outputs):
 
 def _plan(arguments):
     source = files.read(arguments.list)
-    _look_ahead(arguments.list, arguments.output, arguments.svg)
+    _look_ahead([arguments.list], arguments.output, arguments.svg)
     table = calls.plan(source, tell=_searching)
     request = read_request(source)
     if arguments.svg is not None:
@@ -81,7 +86,7 @@ def _fly(arguments):
 
 def _list(arguments):
     source = files.read(arguments.list)
-    _look_ahead(arguments.list, arguments.output)
+    _look_ahead([arguments.list], arguments.output)
     request = read_request(source)
     if arguments.output is None:
         files.print_out(lists.write(request))
@@ -90,6 +95,18 @@ def _list(arguments):
         files.write(arguments.output, bytes(request))
     else:
         files.write(arguments.output, lists.write(request).encode())
+
+
+def _join(arguments):
+    if arguments.list == arguments.second == "-":
+        raise WrongUse("standard input cannot be both lists: name a file for one of them")
+    _look_ahead([arguments.list, arguments.second], arguments.output)
+    as_list = arguments.output is None or arguments.output.lower().endswith(".csv")
+    joined = join(arguments.list, arguments.second, tell=_say if as_list else None)
+    if arguments.output is None:
+        files.print_out(lists.write(joined))
+    else:
+        files.write(arguments.output, lists.write(joined).encode() if as_list else bytes(joined))
 
 
 class _Parser(argparse.ArgumentParser):
@@ -114,14 +131,14 @@ def _cycles(text):
     return int(text)
 
 
-def _subcommand(group, name, run, help, example):
+def _subcommand(group, name, run, help, example, metavar="LIST"):
     epilog = f"example:\n{example}\n\n{STATUS}"
     layout = argparse.RawDescriptionHelpFormatter
     parser = group.add_parser(
         name, help=help, description=help, epilog=epilog, formatter_class=layout, allow_abbrev=False
     )
     parser.set_defaults(run=run)
-    parser.add_argument("list", metavar="LIST", help="a list (CSV) or a request file")
+    parser.add_argument("list", metavar=metavar, help="a list (CSV) or a request file")
     return parser
 
 
@@ -173,6 +190,18 @@ def _parser():
     )
     to_write = "write the request file of a list, or the list of a request file"
     convert.add_argument("-o", dest="output", metavar="FILE", help=to_write)
+
+    both = _subcommand(
+        group,
+        "join",
+        _join,
+        "joins two lists, the second behind the first; without -o, prints the list",
+        "  bus join examples/battery-1.csv examples/battery-2.csv -o batteries.csv\n"
+        "  bus join examples/battery-1.csv examples/battery-2.csv | bus plan -",
+        metavar="FIRST",
+    )
+    both.add_argument("second", metavar="SECOND", help="a list (CSV) or a request file")
+    both.add_argument("-o", dest="output", metavar="OUT", help="write a list if OUT ends in .csv, else a request file")
     return parser
 
 
@@ -193,11 +222,12 @@ def main(words=None):
     except SystemExit as end:
         return end.code
     except lists.ListFaults as found:
-        _tell_faults(arguments.list, found.faults)
+        _tell_faults(found.source or arguments.list, found.faults)
         return REFUSED
     except Refused as refused:
-        about_table = refused.number in (12, 13, 14)
-        _say(f"{arguments.table if about_table else arguments.list}: {refused}")
+        if not refused.source:
+            refused.source = arguments.table if refused.number in (12, 13, 14) else arguments.list
+        _say(str(refused))
         return REFUSED
     except (WrongUse, files.FileFault, library.NotBuilt, SearchEnded) as fault:
         _say(str(fault))

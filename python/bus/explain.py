@@ -105,6 +105,16 @@ def of_request(number, request):
     return about[number](request) if number in about else ""
 
 
+def of_two(number, first, second):
+    """About two requests that cannot be joined: 18 to 20."""
+    counts = {
+        18: ("tasks", len(first.tasks), len(second.tasks)),
+        19: ("pairs", len(first.pairs), len(second.pairs)),
+        20: ("silent ticks after every transfer", first.silent, second.silent),
+    }
+    return "{}: {} in the first, {} in the second".format(*counts[number]) if number in counts else ""
+
+
 def _entry_breach(request, table, jobs, seen, number, entry):
     """What is wrong with one entry of a row, or nothing."""
     key = (entry.task, entry.job)

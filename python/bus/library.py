@@ -23,6 +23,9 @@ STATE_BYTES = 64
 ENTRIES_BYTES = 32
 TABLE_BYTES = 519
 
+# The longest request: 16 tasks, 16 pairs and silent ticks.
+REQUEST_BYTES = 164
+
 # No request has so many tasks, so a report on this one tells whether the bytes can be read, and nothing else.
 NO_TASK = 255
 SECONDS_BETWEEN_SIGNS = 30
@@ -110,7 +113,8 @@ def load():
             build()
         loaded = ctypes.CDLL(path or str(SHARED))
         pointer, size = ctypes.c_char_p, ctypes.c_size_t
-        for name, buffers in (("plan", 2), ("check", 2), ("rewrite", 3), ("fresh", 1), ("next_frame", 3)):
+        counts = {"plan": 2, "check": 2, "rewrite": 3, "join": 3, "fresh": 1, "next_frame": 3}
+        for name, buffers in counts.items():
             call = getattr(loaded, f"bus_{name}")
             call.argtypes, call.restype = [pointer, size] * buffers, ctypes.c_int32
         report = loaded.bus_report
@@ -141,6 +145,13 @@ def rewrite(request, table):
     """The answer and the written table's bytes."""
     out = _lent(b"", TABLE_BYTES)
     answer = load().bus_rewrite(request, len(request), table, len(table), out, TABLE_BYTES)
+    return answer, out.raw[: max(answer, 0)]
+
+
+def join(first, second):
+    """The answer and the joined request's bytes."""
+    out = _lent(b"", REQUEST_BYTES)
+    answer = load().bus_join(first, len(first), second, len(second), out, REQUEST_BYTES)
     return answer, out.raw[: max(answer, 0)]
 
 

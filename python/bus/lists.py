@@ -31,14 +31,16 @@ class Fault(NamedTuple):
 
 
 class ListFaults(Exception):
-    """All faults of a list, by line."""
+    """All faults of a list, by line. `source` names the list where there are two."""
 
-    def __init__(self, faults):
+    def __init__(self, faults, source=""):
         self.faults = sorted(faults, key=lambda fault: fault.line)
-        super().__init__(self.faults)
+        self.source = source
+        super().__init__(self.faults, source)
 
     def __str__(self):
-        return "\n".join(map(str, self.faults))
+        source = f"{self.source}: " if self.source else ""
+        return "\n".join(f"{source}{fault}" for fault in self.faults)
 
 
 def is_list(data):

@@ -45,8 +45,8 @@ REFUSALS = {
         "less load, fewer silent ticks, later deadlines, other phases or fewer pairs; no other placing would do",
     ),
     11: (
-        "the buffer is shorter than the table",
-        "lend 7 + F + 2·(number of jobs) bytes; 519 are always enough",
+        "the buffer is shorter than the table, or than the joined request",
+        "lend 7 + F + 2·(number of jobs) bytes for a table; 519 are always enough, and 164 for a request",
     ),
     12: (
         "bytes that are not a table",
@@ -73,20 +73,37 @@ REFUSALS = {
         "write `01` and a g from 0 to 15, or leave the section out; what the line needs beyond 15 ticks can be added"
         " to every C",
     ),
+    18: (
+        "two requests that are joined have more than 16 tasks together",
+        "leave the two to 16 tasks together, or give the second board a bus of its own",
+    ),
+    19: (
+        "two requests that are joined have more than 16 pairs together",
+        "drop pairs that follow from others",
+    ),
+    20: (
+        "two requests that are joined have different g",
+        "the boards share one line: give both the g that the line needs, in a list by a line `silent,TICKS`",
+    ),
 }
 
 UNKNOWN = ("a number that this command has no words for", "look it up in docs/FORMATS.md")
 
 
 class Refused(Exception):
-    """The library refused: its number, the number's words, what can be done, and what in the list it speaks of."""
+    """The library refused: its number, the number's words, what can be done, and what in the list it speaks of.
 
-    def __init__(self, number, about=""):
+    `source` names the list or table where there are two.
+    """
+
+    def __init__(self, number, about="", source=""):
         self.number = number
         self.words, self.advice = REFUSALS.get(number, UNKNOWN)
         self.about = about
-        super().__init__(number, about)
+        self.source = source
+        super().__init__(number, about, source)
 
     def __str__(self):
+        source = f"{self.source}: " if self.source else ""
         about = f"\n{self.about}" if self.about else ""
-        return f"refused {self.number}: {self.words}{about}\nwhat to do: {self.advice}"
+        return f"{source}refused {self.number}: {self.words}{about}\nwhat to do: {self.advice}"

@@ -79,10 +79,15 @@ class Request:
         return f"{self.tasks[number].name}{line}"
 
 
+def numbered(number):
+    """The name of a task that has none but its number."""
+    return f"task{number}"
+
+
 def decode(data):
     """The request in bytes that the library can read. Its tasks are named task0, task1 and so on."""
     count = data[0]
-    tasks = tuple(Task(f"task{i}", *struct.unpack_from("<4H", data, 1 + 8 * i)) for i in range(count))
+    tasks = tuple(Task(numbered(i), *struct.unpack_from("<4H", data, 1 + 8 * i)) for i in range(count))
     at = 1 + 8 * count
     pairs = tuple((data[k], data[k + 1]) for k in range(at + 1, at + 1 + 2 * data[at], 2))
     third = data[at + 1 + 2 * data[at] :]

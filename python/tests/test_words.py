@@ -21,8 +21,8 @@ class Words(Case):
     def test_sizes_are_those_of_the_header(self):
         text = (ROOT / "include" / "bus.h").read_text(encoding="utf-8")
         sizes = {name: int(value) for name, value in re.findall(r"#define BUS_(\w+)_BYTES (\d+)", text)}
-        here = {"STATE": library.STATE_BYTES, "ENTRIES": library.ENTRIES_BYTES, "TABLE": library.TABLE_BYTES}
-        self.assertEqual(sizes, here)
+        self.assertLessEqual({"STATE", "ENTRIES", "TABLE"}, set(sizes))
+        self.assertEqual(sizes, {name: getattr(library, f"{name}_BYTES") for name in sizes})
 
     def test_task_faults_are_the_library_s(self):
         """For every task with small numbers: there are words exactly if the library says 3."""

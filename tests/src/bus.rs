@@ -1,4 +1,4 @@
-//! The six calls of the library, as every implementation here offers them.
+//! The seven calls of the library, as every implementation here offers them.
 
 use std::ops::Range;
 
@@ -40,4 +40,6 @@ pub trait Bus {
     fn next_frame(&self, table: &[u8], state: &mut [u8], entries: &mut [u8]) -> i32;
     /// 0, with the task's overrun counted in the state.
     fn report(&self, request: &[u8], task: u8, ticks: u32, state: &mut [u8]) -> i32;
+    /// The length of the request, of the two joined, written to the front of `out`.
+    fn join(&self, first: &[u8], second: &[u8], out: &mut [u8]) -> i32;
 }

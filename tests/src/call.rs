@@ -35,6 +35,11 @@ pub enum Call {
         ticks: u32,
         state: Vec<u8>,
     },
+    Join {
+        first: Vec<u8>,
+        second: Vec<u8>,
+        out: Vec<u8>,
+    },
 }
 
 /// The answer, and the content of the buffers that the call may write.
@@ -53,6 +58,7 @@ impl Call {
             Call::Fresh { .. } => "fresh",
             Call::NextFrame { .. } => "next_frame",
             Call::Report { .. } => "report",
+            Call::Join { .. } => "join",
         }
     }
 
@@ -60,7 +66,9 @@ impl Call {
     fn writable(&self) -> Vec<&Vec<u8>> {
         match self {
             Call::Check { .. } => vec![],
-            Call::Plan { out, .. } | Call::Rewrite { out, .. } => vec![out],
+            Call::Plan { out, .. } | Call::Rewrite { out, .. } | Call::Join { out, .. } => {
+                vec![out]
+            }
             Call::Fresh { state } | Call::Report { state, .. } => vec![state],
             Call::NextFrame { state, entries, .. } => vec![state, entries],
         }
@@ -105,6 +113,12 @@ impl Call {
                 "report request [{}] task {task} ticks {ticks} state [{}]",
                 hex(request),
                 hex(state)
+            ),
+            Call::Join { first, second, out } => format!(
+                "join first [{}] second [{}] room {}",
+                hex(first),
+                hex(second),
+                out.len()
             ),
         }
     }
@@ -219,6 +233,12 @@ pub fn run(bus: &dyn Bus, call: &Call) -> Result<Outcome, String> {
             let answer = bus.report(input.bytes(), *task, *ticks, buffer.bytes_mut());
             outcome(answer, &[(&input, request)], &[&buffer])
         }
+        Call::Join { first, second, out } => {
+            let (one, two) = (Lent::of(first), Lent::of(second));
+            let mut buffer = Lent::of(out);
+            let answer = bus.join(one.bytes(), two.bytes(), buffer.bytes_mut());
+            outcome(answer, &[(&one, first), (&two, second)], &[&buffer])
+        }
     }
 }
 
@@ -226,7 +246,9 @@ pub fn run(bus: &dyn Bus, call: &Call) -> Result<Outcome, String> {
 /// none but its own task's.
 fn may_write(call: &Call, answer: i32) -> Vec<Range<usize>> {
     match call {
-        Call::Plan { .. } | Call::Rewrite { .. } => vec![0..answer as usize],
+        Call::Plan { .. } | Call::Rewrite { .. } | Call::Join { .. } => {
+            vec![0..answer as usize]
+        }
         Call::Check { .. } => vec![],
         Call::Fresh { .. } => vec![0..STATE_LEN],
         Call::NextFrame { .. } => vec![0..3, 0..ENTRIES_LEN],

@@ -198,7 +198,7 @@ fn at_a_limit(rng: &mut Random) -> Request {
 }
 
 /// The bytes of a request. A g of 0 is written in each way that there is.
-fn written(rng: &mut Random, request: &Request) -> Vec<u8> {
+pub fn written(rng: &mut Random, request: &Request) -> Vec<u8> {
     let mut bytes = request::write(request);
     if request.g == 0 {
         match rng.below(6) {

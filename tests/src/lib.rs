@@ -7,6 +7,7 @@ pub mod call;
 pub mod clock;
 pub mod generate;
 pub mod hard;
+pub mod joining;
 #[cfg(feature = "linked")]
 pub mod library;
 pub mod plain;

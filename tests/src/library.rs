@@ -41,10 +41,18 @@ mod exports {
             state: *mut u8,
             state_len: usize,
         ) -> i32;
+        pub fn bus_join(
+            first: *const u8,
+            first_len: usize,
+            second: *const u8,
+            second_len: usize,
+            out: *mut u8,
+            out_len: usize,
+        ) -> i32;
     }
 }
 
-/// The linked library behind the six calls.
+/// The linked library behind the seven calls.
 pub struct Library;
 
 // Every pointer below comes with the length of the slice it was taken from, and the library
@@ -97,6 +105,19 @@ impl Bus for Library {
                 ticks,
                 state.as_mut_ptr(),
                 state.len(),
+            )
+        }
+    }
+
+    fn join(&self, first: &[u8], second: &[u8], out: &mut [u8]) -> i32 {
+        unsafe {
+            exports::bus_join(
+                first.as_ptr(),
+                first.len(),
+                second.as_ptr(),
+                second.len(),
+                out.as_mut_ptr(),
+                out.len(),
             )
         }
     }

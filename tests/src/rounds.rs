@@ -12,6 +12,16 @@ use crate::reference::{planned, tries_within};
 /// Requests that need more tries than this are left out: both sides would take too long.
 pub const MOST_TRIES: u64 = 30_000;
 
+const NAMES: [&str; 7] = [
+    "plan",
+    "check",
+    "rewrite",
+    "fresh",
+    "next_frame",
+    "report",
+    "join",
+];
+
 /// How often each call gave each answer (answers from 0 up count as 0).
 #[derive(Clone, Debug, Default)]
 pub struct Tally {
@@ -38,7 +48,7 @@ impl Tally {
             "{} requests, {} more left out as too long, {} calls\n",
             self.requests, self.left_out, self.calls
         );
-        for name in ["plan", "check", "rewrite", "fresh", "next_frame", "report"] {
+        for name in NAMES {
             text.push_str(&format!("{name:10}"));
             for ((called, answer), count) in self.counts.iter().rev() {
                 if *called == name {
@@ -67,7 +77,7 @@ impl<'a> Comparison<'a> {
         }
     }
 
-    fn same(&mut self, call: &Call) -> Result<Outcome, String> {
+    pub(crate) fn same(&mut self, call: &Call) -> Result<Outcome, String> {
         let outcome = compare(self.subject, call)?;
         self.tally.note(call, &outcome);
         Ok(outcome)
@@ -95,12 +105,12 @@ impl<'a> Comparison<'a> {
         self.call_list(&request, &pool)
     }
 
-    fn buffer(&mut self, length: usize) -> Vec<u8> {
+    pub(crate) fn buffer(&mut self, length: usize) -> Vec<u8> {
         self.rng.bytes(length)
     }
 
-    /// Lengths about the length of a table: short by one, exact, longer, and any.
-    fn rooms(&mut self, length: usize) -> Vec<usize> {
+    /// Lengths about the length of what is written: short by one, exact, longer, and any.
+    pub(crate) fn rooms(&mut self, length: usize) -> Vec<usize> {
         let longer = length + 1 + self.rng.below(60);
         let any = self.rng.below(600);
         vec![length.saturating_sub(1), length, longer, any]

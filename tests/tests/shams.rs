@@ -523,6 +523,10 @@ impl Bus for Sham {
         }
         answer
     }
+
+    fn join(&self, first: &[u8], second: &[u8], out: &mut [u8]) -> i32 {
+        Reference.join(first, second, out)
+    }
 }
 
 /// One more in the count of a task, up to 65,535.
@@ -609,6 +613,10 @@ impl Bus for Careless {
 
     fn report(&self, request: &[u8], task: u8, ticks: u32, state: &mut [u8]) -> i32 {
         Reference.report(request, task, ticks, state)
+    }
+
+    fn join(&self, first: &[u8], second: &[u8], out: &mut [u8]) -> i32 {
+        Reference.join(first, second, out)
     }
 }
 

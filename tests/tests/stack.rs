@@ -3,6 +3,7 @@
 
 use bus_tests::bus::Bus;
 use bus_tests::library::Library;
+use bus_tests::reference::Reference;
 use bus_tests::sheet::{self, request, silent_request};
 
 const STACK: usize = 256 * 1024;
@@ -40,6 +41,12 @@ fn all_calls(request: &[u8]) {
     for _ in 0..300 {
         assert!(Library.next_frame(&table, &mut state, &mut entries) >= 0);
         assert_eq!(Library.report(request, 0, 1_000, &mut state), 0);
+    }
+    let (mut file, mut expected) = ([0; 164], [0; 164]);
+    for other in [request, &sheet::p1()] {
+        let answer = Reference.join(request, other, &mut expected);
+        assert_eq!(Library.join(request, other, &mut file), answer);
+        assert_eq!(file, expected);
     }
 }
 

@@ -6,3 +6,4 @@ pub mod Calls
 pub mod CallLaws
 pub mod Rewrite
 pub mod RoundTrip
+pub mod Join

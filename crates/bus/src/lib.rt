@@ -9,6 +9,7 @@ ghost use lib.IntN.{pos};
 ghost use Rattle.bus.specs.Reply.{refused};
 ghost use Rattle.bus.specs.State.{isState, wordOf, countsFrom, countBytes, stateOf, stateBytes, pairBytes, zeros};
 ghost use Rattle.bus.specs.Rewrite.{rewriteReply, rewriteBuffer};
+ghost use Rattle.bus.specs.Join.{joinReply, joinBuffer};
 ghost use Rattle.bus.specs.Calls.{planReply, planBuffer, checkReply, freshReply, freshBytes, frameReply, frameState, frameEntries, reportReply, reportState};
 
 // A number of the paper, or 99, as C gets it.
@@ -220,4 +221,17 @@ pub extern "C" fn bus_report(request: &[u8], task: u8, ticks: u32, state: &mut [
     }
     write_state(state, reported.state);
     0
+}
+
+// The request of the two joined, written into `out`: its length, or 1 to 6, 17 to 20 or 11 negated.
+#[no_mangle]
+pub extern "C" fn bus_join(first: &[u8], second: &[u8], out: &mut [u8]) -> i32
+    ensures { λ r. ⌜ (r ≡ joinReply (now (first .entry)) (now (second .entry)) (now (out .entry)))
+        × (now (out .exit) ≡ joinBuffer (now (first .entry)) (now (second .entry)) (now (out .entry))) ⌝ }
+{
+    let written = join::join(first, second, out);
+    if written.refusal != 0 {
+        return refusal(written.refusal);
+    }
+    value(written.length)
 }

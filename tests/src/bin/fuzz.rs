@@ -11,6 +11,7 @@ use std::time::{Duration, Instant};
 use bus_tests::bus::{count_bytes, ENTRIES_LEN, STATE_LEN, STATE_USED, TASKS};
 use bus_tests::call::{compare, Call};
 use bus_tests::generate;
+use bus_tests::joining;
 use bus_tests::library::Library;
 use bus_tests::random::Random;
 use bus_tests::reference::table::encode;
@@ -148,7 +149,7 @@ fn room(rng: &mut Random) -> Vec<u8> {
 }
 
 fn some_call(rng: &mut Random, corpus: &Corpus) -> Call {
-    match rng.below(12) {
+    match rng.below(14) {
         0..=2 => Call::Plan {
             request: mutated(rng, &corpus.requests),
             out: room(rng),
@@ -184,6 +185,16 @@ fn some_call(rng: &mut Random, corpus: &Corpus) -> Call {
                 entries: rng.bytes(length),
             }
         }
+        11 => {
+            let (first, second) = joining::two_requests(rng);
+            let out = room(rng);
+            Call::Join { first, second, out }
+        }
+        12 => Call::Join {
+            first: mutated(rng, &corpus.requests),
+            second: mutated(rng, &corpus.requests),
+            out: room(rng),
+        },
         _ => Call::Report {
             request: mutated(rng, &corpus.requests),
             task: rng.pick(&[0, 1, 2, 3, 15, 16, 255]),

@@ -4,6 +4,7 @@
 pub mod check;
 pub mod cycle;
 pub mod dispatch;
+pub mod join;
 pub mod listing;
 pub mod model;
 pub mod printed;
@@ -106,7 +107,7 @@ fn answer(result: Result<i32, i32>) -> i32 {
     }
 }
 
-/// The reference behind the six calls of the library.
+/// The reference behind the seven calls of the library.
 pub struct Reference;
 
 impl Reference {
@@ -158,5 +159,11 @@ impl Bus for Reference {
 
     fn report(&self, request: &[u8], task: u8, ticks: u32, state: &mut [u8]) -> i32 {
         answer(Reference::try_report(request, task, ticks, state))
+    }
+
+    fn join(&self, first: &[u8], second: &[u8], out: &mut [u8]) -> i32 {
+        answer(
+            join::joined(first, second).and_then(|whole| write_out(&request::write(&whole), out)),
+        )
     }
 }

@@ -1,0 +1,6 @@
+pub mod Joined
+pub mod Promises
+pub mod JoinLaws
+pub mod Parts
+pub mod Valid
+pub mod Associative

@@ -1,0 +1,43 @@
+-- Eight stores one behind the other are the eight bytes.
+use borrow.Author.Needs.{needs}
+use native.Mathlib.Omega.{arith}
+use lib.ListN.{length-set}
+use Rattle.cursor.specs.Fields.{wordBytes}
+use Rattle.request.specs.Encode.{taskBytes}
+use Rattle.request_writer.specs.WriteLaws.{task-stored}
+use Rattle.request_writer.proofs.write_task.Statement.{statement}
+use Rattle.request_writer.proofs.write_task.Tie as tie
+
+slice-write-out-2 : tie.Need-slice-write-out-2
+slice-write-out-2 c = simp length-set (omega arith)
+
+slice-write-out-3 : tie.Need-slice-write-out-3
+slice-write-out-3 c = simp length-set (omega arith)
+
+slice-write-out-4 : tie.Need-slice-write-out-4
+slice-write-out-4 c = simp length-set (omega arith)
+
+slice-write-out-5 : tie.Need-slice-write-out-5
+slice-write-out-5 c = simp length-set (omega arith)
+
+slice-write-out-6 : tie.Need-slice-write-out-6
+slice-write-out-6 c = simp length-set (omega arith)
+
+slice-write-out-7 : tie.Need-slice-write-out-7
+slice-write-out-7 c = simp length-set (omega arith)
+
+slice-write-out-8 : tie.Need-slice-write-out-8
+slice-write-out-8 c = simp length-set (omega arith)
+
+returns : tie.Need-returns
+unfolding taskBytes wordBytes
+returns c =
+    let s = c .before .before .before .before .before .before .before .before in
+    task-stored (s .args .out .now) (s .args .x) (s .pre)
+
+pub write-task-spec : {M : Type 1} → statement M
+write-task-spec =
+    tie.close
+    (tie.spec (λ c. omega arith) (λ c. omega arith) (λ c. omega arith) slice-write-out-2 (λ c. omega arith) slice-write-out-3 (λ c. omega arith)
+    slice-write-out-4 (λ c. omega arith) slice-write-out-5 (λ c. omega arith) slice-write-out-6 (λ c. omega arith) slice-write-out-7
+    (λ c. omega arith) slice-write-out-8 (λ c. search needs) returns)

@@ -1,0 +1,70 @@
+-- What stands in the buffer after a call that writes a request or refuses: the file and behind it the old bytes, or the old bytes alone.
+use Prim.Native.Nat.{ℕ, _≤_}
+use mathlib.Core.Path.{_≡_, refl}
+use mathlib.Core.Bool.{Bool, true, false}
+use mathlib.Core.List.{List, _++_}
+use native.Mathlib.Omega.{arith}
+use lib.ListN.{length, take, drop}
+use lib.Seq.{take-append-seam, drop-append-seam}
+use Rattle.cursor.specs.Choice.{pick}
+use Rattle.request.specs.Request.{Reading, readable, unreadable}
+use Rattle.request.specs.Encode.{requestBytes}
+use Rattle.request.specs.declared.Task.{Task}
+use Rattle.request.specs.declared.Pair.{Pair}
+use Rattle.request_writer.specs.Written.{tooShort, written, buffer, requestAnswer, requestBuffer}
+use Rattle.request_writer.specs.WriteLaws.{bytes-short}
+use Rattle.request_writer.specs.declared.Written.{Written}
+
+pub refusal-answered : (number : ℕ) (out : List ℕ)
+    → (requestAnswer (unreadable number) out ≡ record { refusal = number; length = 0 }) × (requestBuffer (unreadable number) out ≡ out)
+unfolding requestAnswer requestBuffer
+refusal-answered number out = (refl, refl)
+
+pub request-answered : (tasks : List Task) (pairs : List Pair) (g : ℕ) (out : List ℕ)
+    → (requestAnswer (readable tasks pairs g) out ≡ written (requestBytes tasks pairs g) out)
+    × (requestBuffer (readable tasks pairs g) out ≡ buffer (requestBytes tasks pairs g) out)
+unfolding requestAnswer requestBuffer
+request-answered tasks pairs g out = (refl, refl)
+
+-- The file at the front of the buffer, as long as the answer says, and what is behind it.
+abbrev pub fileOf : Reading → List ℕ → List ℕ
+fileOf r out = take (requestAnswer r out .length) (requestBuffer r out)
+
+-- it is the file of a request, and the bytes behind it keep their content
+pub record HasFile (r : Reading) (out : List ℕ) : Type 0 where
+  pub tasks : List Task
+  pub pairs : List Pair
+  pub g : ℕ
+  pub is : r ≡ readable tasks pairs g
+  pub file : fileOf r out ≡ requestBytes tasks pairs g
+  pub behind : drop (requestAnswer r out .length) (requestBuffer r out) ≡ drop (requestAnswer r out .length) out
+
+module _ (out : List ℕ) where
+  pub has-file : (r : Reading) → ((number : ℕ) → r ≡ unreadable number → number ≡ 0 → ⊥) → requestAnswer r out .refusal ≡ 0 → HasFile r out
+  unfolding requestAnswer requestBuffer written buffer
+  has-file (unreadable number) some z = absurd (some number refl z)
+  has-file (readable tasks pairs g) some z =
+      let bytes = requestBytes tasks pairs g in
+      let h = fits bytes (tooShort bytes out) z in
+      record { tasks = tasks; pairs = pairs; g = g; is = refl; file = h .0; behind = h .1 }
+    where
+      fits : (bytes : List ℕ) (short : Bool)
+          → let answer = pick {A = Written} short (record { refusal = 11; length = 0 }) (record { refusal = 0; length = length bytes }) in
+          let after = pick short out (bytes ++ drop (length bytes) out) in
+          answer .refusal ≡ 0 → (take (answer .length) after ≡ bytes) × (drop (answer .length) after ≡ drop (answer .length) out)
+      fits bytes true e = absurd (omega arith)
+      fits bytes false e = (take-append-seam bytes (drop (length bytes) out), drop-append-seam bytes (drop (length bytes) out))
+
+  -- a request of at most 16 tasks and 16 pairs has at most 164 bytes
+  pub answer-short : (r : Reading) → ((tasks : List Task) (pairs : List Pair) (g : ℕ) → r ≡ readable tasks pairs g → (length tasks ≤ 16) × (length pairs ≤ 16))
+      → requestAnswer r out .length ≤ 164
+  unfolding requestAnswer written
+  answer-short (unreadable number) few = omega arith
+  answer-short (readable tasks pairs g) few =
+      let h = few tasks pairs g refl in
+      fits (requestBytes tasks pairs g) (bytes-short tasks pairs g (h .0) (h .1)) (tooShort (requestBytes tasks pairs g) out)
+    where
+      fits : (bytes : List ℕ) → length bytes ≤ 164 → (short : Bool)
+          → pick {A = Written} short (record { refusal = 11; length = 0 }) (record { refusal = 0; length = length bytes }) .length ≤ 164
+      fits bytes h true = omega arith
+      fits bytes h false = h

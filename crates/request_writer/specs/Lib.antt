@@ -1,0 +1,4 @@
+pub mod Written
+pub mod WriteLaws
+pub mod FileLaws
+pub mod Places
