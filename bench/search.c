@@ -110,11 +110,18 @@ static void make_cycle(void)
         }
 }
 
+/* Whether each window of the task holds a whole frame, by the phase. */
+static bool windows_hold(const struct task *task, unsigned f)
+{
+    unsigned common = gcd(f, task->t), p = task->p % common;
+    return 2 * f - (p == 0 ? common : p) <= task->d;
+}
+
 static bool plausible(unsigned f)
 {
     for (unsigned i = 0; i < cycle.n; i++) {
         const struct task *task = &cycle.task[i];
-        if (f < slot(task) || 2 * f - gcd(f, task->t) > task->d)
+        if (f < slot(task) || !windows_hold(task, f))
             return false;
     }
     return true;

@@ -36,12 +36,13 @@ REFUSALS = {
     ),
     9: (
         "no frame length is plausible: none divides H into at most 256 rows, holds the longest transfer with its"
-        " silent ticks and leaves every window a whole frame",
-        "the longest transfer is long against the shortest deadline: shorten or cut it, relax the deadline, or ask"
-        " for fewer silent ticks",
+        " silent ticks and lies whole in each window of every task",
+        "the longest transfer is long against the shortest deadline: shorten or cut it, relax the deadline, ask for"
+        " fewer silent ticks, or move a phase: a window that opens where a frame begins has room for the longest one",
     ),
     10: (
-        "some length is plausible and yet no placing keeps windows, capacity and order: all were searched",
+        "some length is plausible, so each window by itself holds a frame, and yet no placing keeps windows, capacity"
+        " and order: all were searched",
         "less load, fewer silent ticks, later deadlines, other phases or fewer pairs; no other placing would do",
     ),
     11: (
@@ -53,8 +54,9 @@ REFUSALS = {
         "the file was cut or is something else",
     ),
     13: (
-        "the table's H is not the request's, or its f is not plausible",
-        "the table belongs to another request",
+        "the table's H is not the request's, or its f is not plausible: too short for a transfer, or some window holds"
+        " no whole frame of that length",
+        "the table belongs to another request, or the request was changed: plan again",
     ),
     14: (
         "the table does not describe a plan of the request",

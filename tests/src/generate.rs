@@ -2,7 +2,7 @@
 
 use crate::random::Random;
 use crate::reference::cycle::{self, Cycle};
-use crate::reference::model::{gcd, plausible_lengths};
+use crate::reference::model::plausible_lengths;
 use crate::reference::read_cycle;
 use crate::reference::request::{self, Request, Task};
 use crate::reference::search::{plan_of_length, Direction, Effort, Found};
@@ -21,6 +21,14 @@ fn divisors(h: i64) -> Vec<i64> {
     (1..=h).filter(|d| h % d == 0).collect()
 }
 
+/// The largest number that divides both.
+fn gcd(a: i64, b: i64) -> i64 {
+    (1..=a.min(b))
+        .rev()
+        .find(|g| a % g == 0 && b % g == 0)
+        .expect("both numbers are at least 1")
+}
+
 /// A few periods that divide h and let a frame of length f be plausible.
 fn periods(rng: &mut Random, h: i64, f: i64) -> Vec<i64> {
     let fitting: Vec<i64> = divisors(h)
@@ -31,12 +39,18 @@ fn periods(rng: &mut Random, h: i64, f: i64) -> Vec<i64> {
     (0..count).map(|_| rng.pick(&fitting)).collect()
 }
 
-fn deadline(rng: &mut Random, c: i64, t: i64, f: i64) -> i64 {
-    let least = (2 * f - gcd(f, t)).max(c).min(t);
-    match rng.below(8) {
+/// Often the least deadline with which every window of a task of phase p holds a frame of f ticks,
+/// or with phase 0 would, and now and then one tick less.
+fn deadline(rng: &mut Random, c: i64, t: i64, p: i64, f: i64) -> i64 {
+    let common = gcd(f, t);
+    let after = if p % common == 0 { common } else { p % common };
+    let least = (2 * f - after).max(c).min(t);
+    match rng.below(9) {
         0..=2 => t,
-        3 | 4 => least,
-        5 | 6 => rng.between(least, t),
+        3 => least,
+        4 => (least - 1).max(c),
+        5 => (2 * f - common).max(c).min(t),
+        6 | 7 => rng.between(least, t),
         _ => rng.between(c, t),
     }
 }
@@ -106,8 +120,8 @@ fn framed(rng: &mut Random, h: i64) -> Request {
         if jobs > 128 && !tasks.is_empty() && !rng.chance(3) {
             break;
         }
-        let d = deadline(rng, c, t, f);
         let p = phase(rng, t, f);
+        let d = deadline(rng, c, t, p, f);
         tasks.push(Task { c, t, d, p });
     }
     let pairs = pairs(rng, &tasks);

@@ -197,10 +197,20 @@ fn plausible(cycle: &Cycle, f: u16) -> bool {
         return false;
     }
     let request = &cycle.request;
-    request.tasks().iter().all(|task| {
-        let (t, d) = (u32::from(task.t), u32::from(task.d));
-        f >= request.slot(task) && 2 * u32::from(f) - gcd(u32::from(f), t) <= d
-    })
+    request
+        .tasks()
+        .iter()
+        .all(|task| f >= request.slot(task) && windows_hold(task, f))
+}
+
+/// Whether each window of the task holds a whole frame, by the phase.
+fn windows_hold(task: &Task, f: u16) -> bool {
+    let common = gcd(u32::from(f), u32::from(task.t));
+    let after = match u32::from(task.p) % common {
+        0 => common,
+        p => p,
+    };
+    2 * u32::from(f) - after <= u32::from(task.d)
 }
 
 /// A job placed earlier in a pair with a later one, and whether it must come first.

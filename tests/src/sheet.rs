@@ -63,6 +63,11 @@ pub fn p8() -> Vec<u8> {
     request(&[(1, 10, 5, 2)], &[])
 }
 
+/// P8 with C 3, for which no frame is long enough and short enough.
+pub fn p8_long() -> Vec<u8> {
+    request(&[(3, 10, 5, 2)], &[])
+}
+
 pub fn p9() -> Vec<u8> {
     request(&[(1, 256, 1, 0)], &[])
 }

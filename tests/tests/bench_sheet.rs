@@ -21,6 +21,7 @@ fn the_sheet_s_files_have_its_requests() {
         ("p6.req", sheet::p6()),
         ("p7.req", sheet::p7()),
         ("p8.req", sheet::p8()),
+        ("p8-long.req", sheet::p8_long()),
         ("p9.req", sheet::p9()),
         ("p10.req", sheet::p10()),
         ("p11.req", sheet::p11()),
@@ -106,9 +107,12 @@ fn p7_carries_and_leaves_the_first_cycle_out() {
 }
 
 #[test]
-fn p8_a_plausible_length_whose_window_holds_no_frame() {
-    assert_eq!(lengths(&sheet::p8()), [5, 2, 1]);
+fn p8_a_length_whose_window_holds_no_frame() {
+    assert_eq!(lengths(&sheet::p8()), [2, 1]);
     plans_as(&sheet::p8(), 2, 10, " / 0.0 / / / ");
+    checks_as(&sheet::p8(), &table(5, 10, "0.0 / "), -13);
+    checks_as(&sheet::p8(), &table(2, 10, "0.0 / / / / "), -14);
+    refused(&sheet::p8_long(), 9);
 }
 
 #[test]

@@ -5,7 +5,9 @@ mod common;
 
 use bus_tests::bus::{ENTRIES_LEN, STATE_LEN};
 use bus_tests::call::{compare, Call};
-use bus_tests::reference::{planned, table::encode, tries_within};
+use bus_tests::reference::cycle::Cycle;
+use bus_tests::reference::table::{encode, of_plan};
+use bus_tests::reference::{planned, read_cycle, tries_within};
 use bus_tests::rounds::MOST_TRIES;
 use bus_tests::sheet::{self, request, silent_request, Short};
 use common::{subject, tell_left_out};
@@ -108,6 +110,43 @@ fn every_request_of_two_short_tasks() {
     }
     counts.tell("every request of two short tasks");
     assert!(counts.planned > 10_000, "{}", counts.planned);
+}
+
+/// A table with frames of f ticks that puts each job into the first frame from its release on.
+fn early_table(cycle: &Cycle, f: i64) -> Vec<u8> {
+    let frames: Vec<i64> = cycle
+        .jobs
+        .iter()
+        .map(|job| (job.release + f - 1) / f)
+        .collect();
+    let mut table = of_plan(cycle, f, &frames);
+    for row in &mut table.rows {
+        row.dedup_by_key(|entry| entry.task);
+    }
+    encode(&table)
+}
+
+/// Every deadline and phase of a short task, beside a second task that makes the cycle longer, with
+/// every length that divides the cycle: 13 is given exactly where a window holds no frame.
+#[test]
+fn every_length_of_every_short_task() {
+    let mut refused = 0;
+    for t in 1..=9 {
+        for (_, _, d, p) in tasks_of_period(t).into_iter().filter(|task| task.0 == 1) {
+            for other in 1..=9 {
+                let request = request(&[(1, t, d, p), (1, other, other, 0)], &[]);
+                let cycle = read_cycle(&request).expect("within the limits");
+                for f in (1..=cycle.h).filter(|f| cycle.h % f == 0) {
+                    let call = Call::Check {
+                        request: request.clone(),
+                        table: early_table(&cycle, f),
+                    };
+                    refused += i32::from(same(&call) == -13);
+                }
+            }
+        }
+    }
+    assert!(refused > 1_000, "{refused}");
 }
 
 /// The bytes with every value at every place.

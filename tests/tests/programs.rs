@@ -24,7 +24,7 @@ use bus_tests::sheet;
 use common::tell_left_out;
 
 const SEED: u64 = 51;
-const REQUESTS: u64 = 400;
+const REQUESTS: u64 = 600;
 /// Every kind of output must come at least this often.
 const LEAST: u64 = 3;
 

@@ -32,7 +32,7 @@ fn random_cycles(seed: u64, count: usize) -> Vec<Cycle> {
 #[test]
 fn backtracking_finds_the_first_of_all_plans() {
     let (mut with, mut without) = (0, 0);
-    for cycle in random_cycles(11, 1_500) {
+    for cycle in random_cycles(11, 3_000) {
         for f in plausible_lengths(&cycle) {
             if placings_within(&cycle, f, 3_000).is_none() {
                 continue;

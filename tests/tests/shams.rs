@@ -6,7 +6,7 @@ use bus_tests::bus::{count_bytes, Bus, STATE_USED, TASKS};
 use bus_tests::random::Random;
 use bus_tests::reference::cycle::{self, Cycle, Job};
 use bus_tests::reference::model::{plausible_lengths, window};
-use bus_tests::reference::request;
+use bus_tests::reference::request::{self, Task};
 use bus_tests::reference::search::{plan_of_length, Direction, Effort, Found};
 use bus_tests::reference::table::{decode, encode, of_plan};
 use bus_tests::reference::{planned, read_cycle, Reference};
@@ -67,9 +67,13 @@ enum Lie {
     TakesAnyG,
     ZeroIsNoSection,
     ReportAllowsSilence,
+    PlansWithoutThePhase,
+    ChecksWithoutThePhase,
+    PhaseModuloTheFrame,
+    TwoFramesAtPhaseZero,
 }
 
-const LIES: [Lie; 51] = [
+const LIES: [Lie; 55] = [
     Lie::TenForAll,
     Lie::NineForTen,
     Lie::TenBeforeElevenFirst,
@@ -121,6 +125,10 @@ const LIES: [Lie; 51] = [
     Lie::TakesAnyG,
     Lie::ZeroIsNoSection,
     Lie::ReportAllowsSilence,
+    Lie::PlansWithoutThePhase,
+    Lie::ChecksWithoutThePhase,
+    Lie::PhaseModuloTheFrame,
+    Lie::TwoFramesAtPhaseZero,
 ];
 
 /// The reference with one lie.
@@ -273,6 +281,60 @@ fn plausible_without_silence(bytes: &[u8]) -> bool {
     !plausible_lengths(&cycle).is_empty()
 }
 
+/// The largest number that divides both.
+fn gcd(a: i64, b: i64) -> i64 {
+    if b == 0 {
+        a
+    } else {
+        gcd(b, a % b)
+    }
+}
+
+/// Whether f is plausible with a wrong rule on the windows of a task.
+fn plausible_by(lie: Lie, cycle: &Cycle, f: i64) -> bool {
+    let rule = |task: &Task| {
+        let common = gcd(f, task.t);
+        let after = match lie {
+            Lie::PhaseModuloTheFrame if task.p % f != 0 => task.p % f,
+            Lie::TwoFramesAtPhaseZero => task.p % common,
+            _ => common,
+        };
+        f >= cycle.request.slot(task) && 2 * f - after <= task.d
+    };
+    f >= 1 && cycle.h % f == 0 && cycle.h / f <= 256 && cycle.request.tasks.iter().all(rule)
+}
+
+/// Plans with a wrong rule on the windows.
+fn plan_by(lie: Lie, request: &[u8], out: &mut [u8]) -> i32 {
+    let Ok(cycle) = read_cycle(request) else {
+        return Reference.plan(request, out);
+    };
+    let lengths: Vec<i64> = (1..=cycle.h)
+        .rev()
+        .filter(|f| plausible_by(lie, &cycle, *f))
+        .collect();
+    match first_plan(&cycle, &lengths, Direction::EarliestFirst) {
+        Some(bytes) => put(&bytes, out),
+        None if lengths.is_empty() => -9,
+        None => -10,
+    }
+}
+
+/// Checks with a wrong rule on the windows.
+fn check_by(lie: Lie, request: &[u8], table: &[u8]) -> i32 {
+    let answer = Reference.check(request, table);
+    match (read_cycle(request), decode(table)) {
+        (Ok(cycle), Some(read)) if read.h == cycle.h => {
+            match (plausible_by(lie, &cycle, read.f), answer) {
+                (true, -13) => -14,
+                (false, _) => -13,
+                _ => answer,
+            }
+        }
+        _ => answer,
+    }
+}
+
 impl Sham {
     fn plan_from(&self, cycle: &Cycle, out: &mut [u8]) -> Option<i32> {
         if matches!(
@@ -340,6 +402,9 @@ impl Bus for Sham {
             | Lie::ForgetsCarriedLoad
             | Lie::SilenceInLengthsOnly
             | Lie::NoSilenceAfterTheLast => self.plan_otherwise(request, out),
+            Lie::PlansWithoutThePhase | Lie::PhaseModuloTheFrame | Lie::TwoFramesAtPhaseZero => {
+                plan_by(self.0, request, out)
+            }
             Lie::ForgetsPairs => plan_changed(request, out, |read| read.pairs.clear()),
             Lie::ForgetsSilentTicks => plan_changed(request, out, |read| read.g = 0),
             Lie::SilenceInCapacityOnly => match Reference.plan(request, out) {
@@ -410,6 +475,10 @@ impl Bus for Sham {
                 Reference.check(request, &encode(&read))
             }
             (Lie::FourteenBeforeThirteen, -13) => -14,
+            (
+                Lie::ChecksWithoutThePhase | Lie::PhaseModuloTheFrame | Lie::TwoFramesAtPhaseZero,
+                _,
+            ) => check_by(self.0, request, table),
             (Lie::CheckForgetsSilentTicks, -14) => {
                 let mut read = request::read(request).expect("14 comes after the request");
                 read.g = 0;

@@ -1,7 +1,9 @@
--- The bench sheet of 01, P1 to P12, as one table with one theorem over the definitions: computed, from the bytes of each request.
+-- The bench sheet of 01, P1 to P12, with what R-5 says of P8 and of its like, as one table with one theorem over the definitions: computed, from the bytes
+-- of each request.
 use Prim.Native.Nat.{ℕ}
 use mathlib.Core.Path.{_≡_, refl}
 use mathlib.Core.Bool.{true, false}
+use mathlib.Core.Logic.{inl}
 use mathlib.Core.List.{List, [], _∷_, map, flatMap}
 use native.Mathlib.Omega.{arith}
 use lib.ListN.{replicate}
@@ -37,13 +39,16 @@ use Rattle.search.specs.Search.{orElse, when, firstOf, search}
 use Rattle.search.specs.Placing.{row-sum, all-kept, fits, plan}
 use Rattle.model.specs.Window.{firstFrom}
 use Rattle.model.specs.Plan.{Instance, slot, costOf, costs, IsPlan}
-use Rattle.model.specs.Plausible.{frameRule, frameRules, plausible}
+use Rattle.model.specs.Plausible.{commonRule, phaseRule, frameRule, frameRules, plausibleBy, plausible}
 use Rattle.model.specs.Named.{isJob}
 use Rattle.model.specs.Links.{placeFrom, placeBefore, linkIf, linkBy, linksBy, linksOfJob, linksFrom, allLinks, inPlaces, linkCounts, linkPlaces}
-use Rattle.model.specs.Chosen.{firstFrameOf, endFrameOf, problemAt, isTried, foundOr, chooseFrom, choose}
+use Rattle.model.specs.Chosen.{noPlan, firstFrameOf, endFrameOf, problemAt, isTried, foundOr, chooseFrom, choose, RightBy}
+use Rattle.model.specs.ChosenLaws.{choose-right}
+use Rattle.model.specs.Within.{within-good}
 use Rattle.model.specs.Described.{rowFor, entryFor, placesOf, placesFrom, placesByTask, placesIn, planRows, planTable}
 use Rattle.planned_table.specs.Outcome.{Outcome, handed, refusal}
 use Rattle.planner.specs.Outcome.{outcome}
+use Rattle.planner.specs.Moved.{OutcomeBy}
 use Rattle.rules.specs.Every as every
 use Rattle.rules.specs.Rules as rules
 use Rattle.checker.specs.Checked as checker
@@ -115,6 +120,10 @@ P7 = line (task 2 10 9 6 ∷ []) [] (handed P7-table)
 abbrev P8 : Line
 P8 = line (task 1 10 5 2 ∷ []) [] (tabled 2 10 ([] ∷ (_·_ 0 0 ∷ []) ∷ [] ∷ [] ∷ [] ∷ []))
 
+-- R-5: "(3,10,5,2) moves from 10 to 9"
+abbrev P8-longer : Line
+P8-longer = line (task 3 10 5 2 ∷ []) [] (refusal 9)
+
 abbrev P9 : Line
 P9 = line (task 1 256 1 0 ∷ []) [] (tabled 1 256 ((_·_ 0 0 ∷ []) ∷ replicate 255 []))
 
@@ -133,7 +142,7 @@ P12-longer = line (task 1 10001 10000 0 ∷ []) [] (refusal 7)
 
 -- P4 is a table for P3's request, and stands below.
 abbrev pub sheet : List Line
-sheet = P1 ∷ P2 ∷ P3 ∷ P5 ∷ P6 ∷ P7 ∷ P8 ∷ P9 ∷ P10 ∷ P11 ∷ P12 ∷ P12-longer ∷ []
+sheet = P1 ∷ P2 ∷ P3 ∷ P5 ∷ P6 ∷ P7 ∷ P8 ∷ P8-longer ∷ P9 ∷ P10 ∷ P11 ∷ P12 ∷ P12-longer ∷ []
 
 -- P1's request and table, as 01 prints them
 abbrev pub P1-printed : List ℕ
@@ -160,9 +169,16 @@ P4-table = record {
 abbrev frame : State → Frame
 frame s = nextFrame (decode (encode P7-table)) s
 
--- P8: what is planned; its one job is released at 2 and due at 7
+-- P8 and its like: what is planned; the one job is released at 2 and due at 7
+abbrev like-P8 : Line → Instance
+like-P8 p = record { tasks = p .tasks; pairs = p .pairs; g = 0; h = 10; jobs = record { task = 0; number = 0; release = 2; due = 7 } ∷ [] }
+
 abbrev P8-instance : Instance
-P8-instance = record { tasks = P8 .tasks; pairs = P8 .pairs; g = 0; h = 10; jobs = record { task = 0; number = 0; release = 2; due = 7 } ∷ [] }
+P8-instance = like-P8 P8
+
+-- P8's job in a frame of 5 ticks
+abbrev P8-five : Table
+P8-five = record { f = 5; h = 10; rows = (_·_ 0 0 ∷ []) ∷ [] ∷ [] }
 
 pub record SheetHolds : Type 0 where
   -- what planning each request comes to: f, H and the rows, or the number
@@ -176,21 +192,27 @@ pub record SheetHolds : Type 0 where
   pub P7-frame-0 : entriesOf (frame freshState) ≡ []
   pub P7-frame-1 : entriesOf (frame (frame freshState .state)) ≡ []
   pub P7-frame-2 : entriesOf (frame (frame (frame freshState .state) .state)) ≡ carried 0 0 ∷ []
-  -- "5 is plausible and has no plan"
+  -- "5 is plausible and has no plan": by 01's rule; R-5: "In P8, 5 is no longer plausible."
   pub P8-cycle : cycleOf (bytesOf P8) ≡ cycle (P8-instance .tasks) (P8-instance .pairs) (P8-instance .g) (P8-instance .h) (P8-instance .jobs)
-  pub P8-plausible : plausible P8-instance 5 ≡ true
+  pub P8-by-01 : plausibleBy commonRule P8-instance 5 ≡ true
+  pub P8-plausible : plausible P8-instance 5 ≡ false
   pub P8-no-plan : (frames : List ℕ) → IsPlan P8-instance 5 frames → ⊥
+  -- so a table with frames of 5 ticks gets 13, by 01's rule 14
+  pub P8-five-refused : checker.checkNumber (bytesOf P8) (encode P8-five) ≡ 13
+  pub P8-five-by-01 : checker.checkedBy (plausibleBy commonRule) (cycleOf (bytesOf P8)) (decode (encode P8-five)) ≡ checker.refusal 14
+  -- "(3,10,5,2) moves from 10 to 9"
+  pub P8-longer-by-01 : OutcomeBy (plausibleBy commonRule) (bytesOf P8-longer) (refusal 10)
 
 pub sheet-holds : SheetHolds
 unfolding outcome cycleOf reading tasksOf taskOf judgedTask taskRule pairsOf pairOf judgedPair pairRule silentOf records byteOf wordOf
     requestBytes sectionBytes taskBytes pairBytes silentBytes wordBytes flatMap
-    choose chooseFrom isTried foundOr problemAt firstFrameOf endFrameOf firstFrom costs costOf slot plausible frameRules frameRule
+    RightBy choose chooseFrom isTried foundOr problemAt firstFrameOf endFrameOf firstFrom costs costOf slot plausibleBy frameRules frameRule phaseRule commonRule
     linkCounts linkPlaces inPlaces allLinks linksFrom linksOfJob linksBy linkBy linkIf placeBefore placeFrom isJob padded
     plan search firstOf when orElse fits all-kept row-sum
     planned inOrder insert before allJobs jobsOf jobsFrom jobOf jobsIn hyperperiod lcmWith lcmOf gcdOf gcdSteps
     planTable planRows placesIn placesByTask placesFrom placesOf entryFor rowFor
     encode headBytes rowBytes entriesBytes jobByte decode rowsFrom heightFits sizesFrom rowFrom entriesFrom entryFrom entryOf
-    checker.checked checker.judged checker.planOf rules.rulesRight rules.heightRight rules.orderRight rules.capacityRight rules.windowsRight checker.entriesRight
+    checker.checkedBy checker.judgedBy checker.planOf rules.rulesRight rules.heightRight rules.orderRight rules.capacityRight rules.windowsRight checker.entriesRight
     rules.capacityKept checker.rowsKept checker.rowKept checker.entryKept rules.pairKept rules.oneKept rules.otherKept rules.windowKept
     checker.isThere rules.inWindow checker.isPlaced checker.framesIn checker.frameIn checker.frameFor checker.placeIn checker.placeInRow
     every.someFrom every.allFrom
@@ -204,6 +226,12 @@ sheet-holds = record {
   P7-frame-1 = refl;
   P7-frame-2 = refl;
   P8-cycle = refl;
+  P8-by-01 = refl;
   P8-plausible = refl;
   P8-no-plan = λ frames v. omega (arith, v .not-early 0 (omega arith), v .not-late 0 (omega arith));
+  P8-five-refused = refl;
+  P8-five-by-01 = refl;
+  P8-longer-by-01 =
+      let x = like-P8 P8-longer in
+      inl (x, refl, noPlan, (choose-right x (within-good (bytesOf P8-longer) x refl) .0, (5, refl)), refl);
 }

@@ -15,7 +15,7 @@ use Rattle.search.specs.Search.{orElse, when, firstOf, search}
 use Rattle.search.specs.Placing.{row-sum, all-kept, fits, plan}
 use Rattle.model.specs.Window.{firstFrom}
 use Rattle.model.specs.Plan.{slot, costOf, costs}
-use Rattle.model.specs.Plausible.{frameRule, frameRules, plausible}
+use Rattle.model.specs.Plausible.{commonRule, phaseRule, frameRule, frameRules, plausibleBy}
 use Rattle.model.specs.Named.{isJob}
 use Rattle.model.specs.Links.{placeFrom, placeBefore, linkIf, linkBy, linksBy, linksOfJob, linksFrom, allLinks, inPlaces, linkCounts, linkPlaces}
 use Rattle.model.specs.Chosen.{firstFrameOf, endFrameOf, problemAt, isTried, foundOr, chooseFrom, choose}
@@ -71,7 +71,7 @@ silent-sheet =
 pub silent-sheet-holds : map (λ (l : SilentLine). outcome (l .bytes)) silent-sheet ≡ map (λ (l : SilentLine). l .comes-to) silent-sheet
 unfolding outcome cycleOf reading tasksOf taskOf judgedTask taskRule pairsOf pairOf judgedPair pairRule silentOf records byteOf wordOf
     requestBytes sectionBytes taskBytes pairBytes silentBytes wordBytes flatMap
-    choose chooseFrom isTried foundOr problemAt firstFrameOf endFrameOf firstFrom costs costOf slot plausible frameRules frameRule
+    choose chooseFrom isTried foundOr problemAt firstFrameOf endFrameOf firstFrom costs costOf slot plausibleBy frameRules frameRule phaseRule commonRule
     linkCounts linkPlaces inPlaces allLinks linksFrom linksOfJob linksBy linkBy linkIf placeBefore placeFrom isJob padded
     plan search firstOf when orElse fits all-kept row-sum
     planned inOrder insert before allJobs jobsOf jobsFrom jobOf jobsIn hyperperiod lcmWith lcmOf gcdOf gcdSteps

@@ -14,6 +14,7 @@ use lib.Dec.{leb, eqb}
 use borrow.Author.Tests.{le-leb, lt-leb, leb-true, leb-false, eq-eqb, eqb-true}
 use Rattle.cursor.specs.Choice.{pick, both}
 use Rattle.cursor.specs.ParsedLaws.{never, both-true}
+use Rattle.request.specs.declared.Task.{Task}
 use Rattle.cycle.specs.Cycle.{cycleOf}
 use Rattle.cycle.specs.Planned.{noJob}
 use Rattle.cycle.specs.declared.Job.{Job}
@@ -22,11 +23,11 @@ use Rattle.table.specs.WellFormed.{WellFormed}
 use Rattle.table.specs.Inverse.{decode-wellformed}
 use Rattle.model.specs.Plan.{Instance, jobAt, rowsAt, frameAt, IsPlan}
 use Rattle.model.specs.Named.{isJob, Named, job-says, says-job}
-use Rattle.model.specs.Plausible.{plausible}
+use Rattle.model.specs.Plausible.{phaseRule, plausibleBy}
 use Rattle.model.specs.Good.{Good, same-place}
 use Rattle.model.specs.Within.{Within, within-good}
 use Rattle.cursor.specs.Padded.{map-at}
-use Rattle.model.specs.PlausibleLaws.{IsPlausible, plausible-says, plausible-needed}
+use Rattle.model.specs.PlausibleLaws.{PlausibleBy, plausible-says, plausible-needed}
 use Rattle.model.specs.RowLaws.{frame-small}
 use Rattle.model.specs.Described.{Among, rowFor, entryFor, StandsIn, Describes}
 use Rattle.model.specs.PlanTable.{described-height}
@@ -35,7 +36,7 @@ use Rattle.rules.specs.EveryLaws.{every-says, says-every, some-says, says-some}
 use Rattle.rules.specs.Rules.{rulesRight}
 use Rattle.rules.specs.RulesSay.{rules-say, say-rules}
 use Rattle.checker.specs.Checked.{placeIn, frameFor, isFound, frameAtPlace, frameIn, framesIn, isPlaced, isThere}
-use Rattle.checker.specs.Checked.{entryKept, rowsKept, entriesRight, Verdict, accepted, refusal, planOf, judged, checked}
+use Rattle.checker.specs.Checked.{entryKept, rowsKept, entriesRight, Verdict, accepted, refusal, planOf, judgedBy, judged, checkedBy, checked}
 use Rattle.checker.specs.PlaceLaws.{entryWith, RightIn, place-right, rows-say, say-rows}
 use Rattle.checker.specs.declared.walk.Place.{Place}
 use Rattle.checker.specs.declared.walk.Place.the-variants.{At, Nowhere}
@@ -86,7 +87,7 @@ picked true v number f frames e = (refl, e)
 picked false v number f frames e = absurd (never (cc))
 
 -- An accepted table describes the plan read from it.
-module _ (x : Instance) (t : Table) (form : WellFormed t) (same-h : t .h ≡ x .h) (can : IsPlausible x (t .f)) where
+module _ {rule : ℕ → Task → Bool} (x : Instance) (t : Table) (form : WellFormed t) (same-h : t .h ≡ x .h) (can : PlausibleBy rule x (t .f)) where
   height : length (t .rows) ≡ rowsAt x (t .f)
   height =
       eq-of-mul-eq-mul-right (t .f) (can .some) (length (t .rows)) (rowsAt x (t .f))
@@ -167,19 +168,19 @@ module _ (x : Instance) (t : Table) (form : WellFormed t) (same-h : t .h ≡ x .
         order = k .order;
       }
 
-judged-plan : (x : Instance) (t : Table) → WellFormed t → (f : ℕ) (frames : List ℕ) → judged x t ≡ accepted f frames
-    → IsPlan x f frames × Describes x f frames t
-unfolding judged planOf
-judged-plan x t form f frames e =
-    let one = picked (both (eqb (t .h) (x .h)) (plausible x (t .f))) (planOf x (t .f) (t .rows)) 13 f frames e in
-    let tests = both-true (eqb (t .h) (x .h)) (plausible x (t .f)) (one .0) in
+pub judged-plan : (rule : ℕ → Task → Bool) (x : Instance) (t : Table) → WellFormed t → (f : ℕ) (frames : List ℕ)
+    → judgedBy (plausibleBy rule) x t ≡ accepted f frames → IsPlan x f frames × Describes x f frames t
+unfolding judgedBy planOf
+judged-plan rule x t form f frames e =
+    let one = picked (both (eqb (t .h) (x .h)) (plausibleBy rule x (t .f))) (planOf x (t .f) (t .rows)) 13 f frames e in
+    let tests = both-true (eqb (t .h) (x .h)) (plausibleBy rule x (t .f)) (one .0) in
     let read = framesIn (t .rows) (x .jobs) in
     let two = picked (both (entriesRight x (t .rows) read) (rulesRight x (length (t .rows)) (t .f) read)) (accepted (t .f) read) 14 f frames (one .1) in
     let rules = both-true (entriesRight x (t .rows) read) (rulesRight x (length (t .rows)) (t .f) read) (two .0) in
     let same-f : t .f ≡ f = cc in
     let same-frames : read ≡ frames = cc in
     let same-h : t .h ≡ x .h = eqb-true (t .h) (x .h) (tests .0) in
-    let can : IsPlausible x (t .f) = plausible-says x (t .f) (tests .1) in
+    let can : PlausibleBy rule x (t .f) = plausible-says x (t .f) (tests .1) in
     rw (← same-f, ← same-frames) (is-plan x t form same-h can (rules .1), describes x t form same-h can (rules .0))
 
 -- A table that describes a plan is accepted, and the plan is read from it.
@@ -248,13 +249,13 @@ module _ (x : Instance) (g : Good x) (t : Table) (frames : List ℕ) (v : IsPlan
   })
 
   plan-judged : judged x t ≡ accepted (t .f) frames
-  unfolding judged planOf
+  unfolding judgedBy planOf
   plan-judged =
       rw (eq-eqb (t .h) (x .h) (d .same-h), plausible-needed x g (t .f) frames v, frames-read, entries-right, rules-right)
 
 module _ (request bytes : List ℕ) (x : Instance) (t : Table) (within : Within request x) (read : decode bytes ≡ table t) where
   checked-is : checked (cycleOf request) (decode bytes) ≡ judged x t
-  unfolding checked
+  unfolding checkedBy
   checked-is = rw (within, read)
 
   plan-accepted : (f : ℕ) (frames : List ℕ) → IsPlan x f frames → Describes x f frames t → judged x t ≡ accepted f frames
@@ -268,6 +269,6 @@ module _ (request bytes : List ℕ) (x : Instance) (t : Table) (within : Within 
   pub accepts-described : (f : ℕ) (frames : List ℕ)
       → (checked (cycleOf request) (decode bytes) ≡ accepted f frames) ↔ (IsPlan x f frames × Describes x f frames t)
   accepts-described f frames = (
-    λ e. judged-plan x t (decode-wellformed bytes t read) f frames (sym checked-is ∙ e),
+    λ e. judged-plan phaseRule x t (decode-wellformed bytes t read) f frames (sym checked-is ∙ e),
     λ p. checked-is ∙ plan-accepted f frames (p .0) (p .1),
   )

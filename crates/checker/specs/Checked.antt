@@ -91,15 +91,21 @@ planOf x f rows =
     let frames = framesIn rows (x .jobs) in
     pick (both (entriesRight x rows frames) (rulesRight x (length rows) f frames)) (accepted f frames) (refusal 14)
 
--- 13: "H not the request's, or f not plausible"
-unfoldable pub judged : Instance → Table → Verdict
-judged x t = pick (both (eqb (t .h) (x .h)) (plausible x (t .f))) (planOf x (t .f) (t .rows)) (refusal 13)
+-- 13: "H not the request's, or f not plausible", where `test` tells which f are
+unfoldable pub judgedBy : (Instance → ℕ → Bool) → Instance → Table → Verdict
+judgedBy test x t = pick (both (eqb (t .h) (x .h)) (test x (t .f))) (planOf x (t .f) (t .rows)) (refusal 13)
+
+abbrev pub judged : Instance → Table → Verdict
+judged = judgedBy plausible
 
 -- "the check 1 to 8 then 12 to 14": 12 for a table that has not the form
-unfoldable pub checked : Cycle → Decoded → Verdict
-checked (noCycle number) d = refusal number
-checked (cycle tasks pairs g h jobs) malformed = refusal 12
-checked (cycle tasks pairs g h jobs) (table t) = judged (instance tasks pairs g h jobs) t
+unfoldable pub checkedBy : (Instance → ℕ → Bool) → Cycle → Decoded → Verdict
+checkedBy test (noCycle number) d = refusal number
+checkedBy test (cycle tasks pairs g h jobs) malformed = refusal 12
+checkedBy test (cycle tasks pairs g h jobs) (table t) = judgedBy test (instance tasks pairs g h jobs) t
+
+abbrev pub checked : Cycle → Decoded → Verdict
+checked = checkedBy plausible
 
 -- 0 where it accepts
 abbrev pub numberOf : Verdict → ℕ

@@ -22,7 +22,7 @@ use Rattle.model.specs.Plausible.{plausible}
 use Rattle.model.specs.Within.{Within, within-or-not}
 use Rattle.model.specs.Described.{Accepted}
 use Rattle.rules.specs.Rules.{rulesRight}
-use Rattle.checker.specs.Checked.{entriesRight, framesIn, accepted, refusal, numberOf, planOf, judged, checked, checkNumber}
+use Rattle.checker.specs.Checked.{entriesRight, framesIn, accepted, refusal, numberOf, planOf, judgedBy, judged, checkedBy, checkNumber}
 use Rattle.checker.specs.Accepts.{accepts-described}
 
 -- the table has the request's H, and an f that is plausible
@@ -50,14 +50,14 @@ pub record CheckExact (request bytes : List ℕ) : Type 0 where
   pub accepts : (checkNumber request bytes ≡ 0) ↔ OfBoth request bytes Accepted
 
 -- the tests of the rows
-abbrev right : Instance → Table → Bool
+abbrev pub right : Instance → Table → Bool
 right x t = let frames = framesIn (t .rows) (x .jobs) in both (entriesRight x (t .rows) frames) (rulesRight x (length (t .rows)) (t .f) frames)
 
 module _ (request bytes : List ℕ) where
   -- Each condition gives its number.
 
   own-number : (number : ℕ) → cycleOf request ≡ noCycle number → checkNumber request bytes ≡ number
-  unfolding checked
+  unfolding checkedBy
   own-number number e = rw e
 
   -- and is none of the check's
@@ -67,12 +67,12 @@ module _ (request bytes : List ℕ) where
 
   module _ (x : Instance) (within : Within request x) where
     malformed-number : decode bytes ≡ malformed → checkNumber request bytes ≡ 12
-    unfolding checked
+    unfolding checkedBy
     malformed-number e = rw (within, e)
 
     module _ (t : Table) (read : decode bytes ≡ table t) where
       judged-is : checkNumber request bytes ≡ numberOf (judged x t)
-      unfolding checked
+      unfolding checkedBy
       judged-is = rw (within, read)
 
       accepted-number : Accepted x t → checkNumber request bytes ≡ 0
@@ -80,7 +80,7 @@ module _ (request bytes : List ℕ) where
           ap numberOf (accepts-described request bytes x t within read (a .f) (a .frames) .1 (a .is-plan, a .describes))
 
       read-accepted : (f : ℕ) (frames : List ℕ) → judged x t ≡ accepted f frames → Accepted x t
-      unfolding checked
+      unfolding checkedBy
       read-accepted f frames e =
           let right = accepts-described request bytes x t within read f frames .0 (rw (within, read) e) in
           record { f = f; frames = frames; is-plan = right .0; describes = right .1 }
@@ -89,7 +89,7 @@ module _ (request bytes : List ℕ) where
       sizes-fit fit = rw (eq-eqb (t .h) (x .h) (fit .0), fit .1)
 
       not-fit-number : (SizesFit x t → ⊥) → checkNumber request bytes ≡ 13
-      unfolding judged
+      unfolding judgedBy
       not-fit-number other = judged-is ∙ go (both (eqb (t .h) (x .h)) (plausible x (t .f))) refl
         where
           go : (b : Bool) → both (eqb (t .h) (x .h)) (plausible x (t .f)) ≡ b → numberOf (pick b (planOf x (t .f) (t .rows)) (refusal 13)) ≡ 13
@@ -97,7 +97,7 @@ module _ (request bytes : List ℕ) where
           go false e = refl
 
       not-plan-number : SizesFit x t → (Accepted x t → ⊥) → checkNumber request bytes ≡ 14
-      unfolding judged planOf
+      unfolding judgedBy planOf
       not-plan-number fit none = judged-is ∙ rw (sizes-fit fit) (go (right x t) refl)
         where
           frames : List ℕ
@@ -132,7 +132,7 @@ module _ (request bytes : List ℕ) where
         → (OfBoth request bytes (λ x t. SizesFit x t × (Accepted x t → ⊥)) → Goal)
         → (OfBoth request bytes Accepted → Goal)
         → Goal
-    unfolding judged planOf
+    unfolding judgedBy planOf
     cases Goal refused none other unplanned planned =
         ⊎-elim (λ w. read (w .0) (w .1) (decode bytes) refl) (λ w. refused (w .0) (w .1)) (within-or-not request)
       where

@@ -8,3 +8,4 @@ pub mod LoopLaws
 pub mod ReadLaws
 pub mod Exactly
 pub mod Verdicts
+pub mod Moved

@@ -23,7 +23,7 @@ use Rattle.model.specs.Answers.{instanceOf}
 use Rattle.model.specs.Within.{Taken}
 use Rattle.rules.specs.Every.{every}
 use Rattle.rules.specs.Rules.{rulesRight}
-use Rattle.checker.specs.Checked.{framesIn, frameIn, isPlaced, rowsKept, entriesRight, Verdict, accepted, refusal, planOf, judged, checked, numberOf}
+use Rattle.checker.specs.Checked.{framesIn, frameIn, isPlaced, rowsKept, entriesRight, Verdict, accepted, refusal, planOf, judgedBy, judged, checkedBy, checked, numberOf}
 use Rattle.checker.specs.Answers.{framesAnswer, readAnswer, rowsOf}
 use Rattle.checker.specs.WalkLaws.{rows-count, rows-in-bytes}
 use Rattle.checker.specs.declared.walk.Frames.{Frames}
@@ -110,7 +110,7 @@ pub record Formed (bytes : List ℕ) (z : Sizes) : Type 0 where
 -- the request is refused
 pub request-refused : (request : List ℕ) (number : ℕ) (d : Decoded) → cycleOf request ≡ noCycle number
     → readAnswer (refusal number) ≡ readAnswer (checked (cycleOf request) d)
-unfolding checked
+unfolding checkedBy
 request-refused request number d e = rw e
 
 module _ (bytes : List ℕ) (z : Sizes) (read : z ≡ sizesOf (decode bytes)) where
@@ -133,7 +133,7 @@ module _ (bytes : List ℕ) (z : Sizes) (read : z ≡ sizesOf (decode bytes)) wh
 -- it is within the limits, and the bytes are no table
 pub table-unread : (request bytes : List ℕ) (c : Cycle) → Taken request c → decode bytes ≡ malformed
     → checked (cycleOf request) (decode bytes) ≡ refusal 12
-unfolding checked
+unfolding checkedBy
 table-unread request bytes c w e = rw (w .within, e)
 
 -- or they are one
@@ -142,11 +142,11 @@ module _ (request bytes : List ℕ) (c : Cycle) (z : Sizes) (w : Taken request c
   height-few = omega (arith, o .height-is, decode-wellformed bytes (o .t) (o .is) .few-rows)
 
   judged-is : checked (cycleOf request) (decode bytes) ≡ judged (instanceOf c) (o .t)
-  unfolding checked
+  unfolding checkedBy
   judged-is = rw (w .within, o .is)
 
   pub other-cycle : (z .h ≡ c .h → ⊥) → checked (cycleOf request) (decode bytes) ≡ refusal 13
-  unfolding judged instanceOf
+  unfolding judgedBy instanceOf
   other-cycle ne = judged-is ∙ rw (ne-eqb (o .t .h) (c .h) (λ q. ne (o .h-is ∙ q)))
 
   module _ (same : z .h ≡ c .h) where
@@ -155,12 +155,12 @@ module _ (request bytes : List ℕ) (c : Cycle) (z : Sizes) (w : Taken request c
     same-h = eq-eqb (o .t .h) (c .h) (sym (o .h-is) ∙ same)
 
     pub not-plausible : plausible (instanceOf c) (z .f) ≡ false → checked (cycleOf request) (decode bytes) ≡ refusal 13
-    unfolding judged
+    unfolding judgedBy
     not-plausible e = judged-is ∙ rw (same-h, rw (o .f-is) at e)
 
     pub rows-judged : Bytes bytes → plausible (instanceOf c) (z .f) ≡ true
         → checked (cycleOf request) (decode bytes) ≡ planOf (instanceOf c) (z .f) (rowsOf bytes (z .height))
-    unfolding judged
+    unfolding judgedBy
     rows-judged k e = judged-is ∙ rw (same-h, rw (o .f-is) at e, o .f-is, o .height-is, rows-in-bytes bytes (o .t) k (o .is))
 
 pub answer-number : (v : Verdict) → readAnswer v .refusal ≡ numberOf v

@@ -17,7 +17,7 @@ use Rattle.model.specs.Answers.{instance}
 use Rattle.model.specs.Within.{Within}
 use Rattle.model.specs.Described.{Describes}
 use Rattle.rules.specs.Rules.{rulesRight}
-use Rattle.checker.specs.Checked.{framesIn, entriesRight, accepted, refusal, planOf, judged, checked}
+use Rattle.checker.specs.Checked.{framesIn, entriesRight, accepted, refusal, planOf, judgedBy, checkedBy, checked}
 use Rattle.checker.specs.Accepts.{accepts-described}
 
 pub record PlanRead (request bytes : List ℕ) (f : ℕ) (frames : List ℕ) : Type 0 where
@@ -30,7 +30,7 @@ pub record PlanRead (request bytes : List ℕ) (f : ℕ) (frames : List ℕ) : T
 
 module _ (request bytes : List ℕ) where
   pub plan-read : (f : ℕ) (frames : List ℕ) → checked (cycleOf request) (decode bytes) ≡ accepted f frames → PlanRead request bytes f frames
-  unfolding checked
+  unfolding checkedBy
   plan-read f frames e = go (cycleOf request) refl (decode bytes) refl e
     where
       go : (c : Cycle) → cycleOf request ≡ c → (d : Decoded) → decode bytes ≡ d → checked c d ≡ accepted f frames → PlanRead request bytes f frames
@@ -43,7 +43,7 @@ module _ (request bytes : List ℕ) where
       go (noCycle k) within malformed read q = absurd (never (cc))
 
   pub refusal-number : (n : ℕ) → checked (cycleOf request) (decode bytes) ≡ refusal n → 0 < n
-  unfolding checked judged planOf
+  unfolding checkedBy judgedBy planOf
   refusal-number n e = go (cycleOf request) refl (decode bytes) e
     where
       rules : (f : ℕ) (frames : List ℕ) (a b : Bool) → pick a (pick b (accepted f frames) (refusal 14)) (refusal 13) ≡ refusal n → 0 < n

@@ -72,8 +72,11 @@ pub record IsChosen (x : Instance) (f : ℕ) (frames : List ℕ) : Type 0 where
 abbrev pub NoPlan : Instance → Type 0
 NoPlan x = (f : ℕ) (frames : List ℕ) → IsPlan x f frames → ⊥
 
--- what each choice says
-unfoldable pub RightChoice : Instance → Choice → Type 0
-RightChoice x (chosen f frames) = IsChosen x f frames
-RightChoice x noPlan = NoPlan x × ((f : ℕ) × (plausible x f ≡ true))
-RightChoice x noPlausible = NoPlan x × ((f : ℕ) → plausible x f ≡ true → ⊥)
+-- what each choice says, where `test` tells which lengths are plausible
+unfoldable pub RightBy : (ℕ → Bool) → Instance → Choice → Type 0
+RightBy test x (chosen f frames) = IsChosen x f frames
+RightBy test x noPlan = NoPlan x × ((f : ℕ) × (test f ≡ true))
+RightBy test x noPlausible = NoPlan x × ((f : ℕ) → test f ≡ true → ⊥)
+
+abbrev pub RightChoice : Instance → Choice → Type 0
+RightChoice x = RightBy (plausible x) x

@@ -2,7 +2,7 @@
 -- Lengths are tried by rising F, so as long as none has been chosen, no plan has fewer than F rows. The search at F rows finds the first plan
 -- with that length, or shows that there is none; and a length that is not tried has none, since plausible is necessary.
 use mathlib.Core.Path.{_≡_, refl, sym, ap, subst, _∙_}
-use mathlib.Core.Bool.{Bool, true, false}
+use mathlib.Core.Bool.{Bool, true, false, false≢true}
 use mathlib.Core.Logic.{_⊎_, inl, inr, ⊎-elim, _↔_}
 use mathlib.Core.List.{List, []}
 use Prim.Native.Nat.{ℕ, zero, suc, _+_, _/_, _%_, _≤_, _<_, _∣_}
@@ -22,7 +22,7 @@ use Rattle.search.specs.Placing.{plan}
 use Rattle.search.specs.Plans.{IsPlacing, Right, right}
 use Rattle.model.specs.Plan.{Instance, rowsAt, IsPlan}
 use Rattle.model.specs.Plausible.{plausible}
-use Rattle.model.specs.Chosen.{problemAt, Choice, chosen, noPlan, noPlausible, isTried, foundOr, chooseFrom, choose, IsChosen, NoPlan, RightChoice}
+use Rattle.model.specs.Chosen.{problemAt, Choice, chosen, noPlan, noPlausible, isTried, foundOr, chooseFrom, choose, IsChosen, NoPlan, RightBy, RightChoice}
 use Rattle.model.specs.Good.{Good}
 use Rattle.model.specs.PlausibleLaws.{IsPlausible, plausible-says, plausible-needed}
 use Rattle.model.specs.ProblemLaws.{placing-is-plan, plan-is-placing, problem-proper}
@@ -71,7 +71,7 @@ module _ (x : Instance) (g : Good x) where
     known : some ≡ true → (f : ℕ) × (plausible x f ≡ true)
 
   choice-ends : (rows : ℕ) (some : Bool) → 256 < rows → Passed rows some → RightChoice x (pick some noPlan noPlausible)
-  unfolding RightChoice
+  unfolding RightBy
   choice-ends rows some h v = go some refl
     where
       no-plan : NoPlan x
@@ -137,7 +137,7 @@ module _ (x : Instance) (g : Good x) where
         not-here f' frames p q = never-placed frames (plan-is-placing x g f frames (subst (λ k. IsPlan x k frames) (same f' frames p q) p))
 
   choice-right : (n rows : ℕ) (some : Bool) → rows + n ≡ 257 → Passed rows some → RightChoice x (chooseFrom x n rows some)
-  unfolding foundOr Right RightChoice
+  unfolding foundOr Right RightBy
   choice-right zero rows some size v = rw (choose-end x rows some) (choice-ends rows some (omega arith) v)
   choice-right (suc n) rows some size v = go (isTried x rows) refl (choice-right n (rows + 1))
     where
@@ -194,10 +194,53 @@ chosen-once x f f' frames frames' c c' = go (c .first f' frames' (c' .is-plan)) 
     go (inr (e, inr r)) (inr (d, inl s)) = (d, sym s)
     go (inr (e, inr r)) (inr (d, inr s)) = absurd (not-both-earlier frames frames' r s)
 
+-- A test that fewer lengths pass chooses the same plan; it may turn 10 into 9, and nothing else.
+pub choice-moves : (x : Instance) (test less : ℕ → Bool) → ((f : ℕ) → less f ≡ true → test f ≡ true) → (c d : Choice) → RightBy test x c → RightBy less x d
+    → (c ≡ d) ⊎ ((c ≡ noPlan) × (d ≡ noPlausible))
+unfolding RightBy
+choice-moves x test less passes (chosen f frames) (chosen f' frames') r r' = inl (let (s, t) = chosen-once x f f' frames frames' r r' in rw (s, t))
+choice-moves x test less passes (chosen f frames) noPlan r r' = absurd (r' .0 f frames (r .is-plan))
+choice-moves x test less passes (chosen f frames) noPlausible r r' = absurd (r' .0 f frames (r .is-plan))
+choice-moves x test less passes noPlan (chosen f frames) r r' = absurd (r .0 f frames (r' .is-plan))
+choice-moves x test less passes noPlan noPlan r r' = inl refl
+choice-moves x test less passes noPlan noPlausible r r' = inr (refl, refl)
+choice-moves x test less passes noPlausible (chosen f frames) r r' = absurd (r .0 f frames (r' .is-plan))
+choice-moves x test less passes noPlausible noPlan r r' = absurd (r .1 (r' .1 .0) (passes (r' .1 .0) (r' .1 .1)))
+choice-moves x test less passes noPlausible noPlausible r r' = inl refl
+
+-- whether a length below n passes
+passes-below : (test : ℕ → Bool) (n : ℕ) → ((f : ℕ) × (test f ≡ true)) ⊎ ((f : ℕ) → f < n → test f ≡ true → ⊥)
+passes-below test zero = inr (λ f h e. omega arith)
+passes-below test (suc n) = go (test n) refl (passes-below test n)
+  where
+    go : (b : Bool) → test n ≡ b → ((f : ℕ) × (test f ≡ true)) ⊎ ((f : ℕ) → f < n → test f ≡ true → ⊥)
+        → ((f : ℕ) × (test f ≡ true)) ⊎ ((f : ℕ) → f < suc n → test f ≡ true → ⊥)
+    go true e w = inl (n, e)
+    go false e (inl w) = inl w
+    go false e (inr fails) = inr (λ f h p. ⊎-elim (λ k. fails f k p) (λ k. last f h k p) (lt-or-ge f n))
+      where
+        last : (f : ℕ) → f < suc n → n ≤ f → test f ≡ true → ⊥
+        last f h k p = let same : f ≡ n = omega arith in false≢true (sym e ∙ rw same at p)
+
 module _ (x : Instance) (g : Good x) where
+  -- Some choice is right by a test that no length above H passes.
+  pub some-right : (test : ℕ → Bool) → ((f : ℕ) → test f ≡ true → f ≤ x .h) → (c : Choice) × RightBy test x c
+  unfolding RightBy
+  some-right test within = go (choose x) (choose-right x g)
+    where
+      refused : NoPlan x → (c : Choice) × RightBy test x c
+      refused no-plan =
+          ⊎-elim (λ w. (noPlan, (no-plan, w))) (λ fails. (noPlausible, (no-plan, λ f p. fails f (omega (arith, within f p)) p)))
+          (passes-below test (suc (x .h)))
+
+      go : (c : Choice) → RightChoice x c → (c : Choice) × RightBy test x c
+      go (chosen f frames) r = (chosen f frames, r)
+      go noPlan r = refused (r .0)
+      go noPlausible r = refused (r .0)
+
   -- A plan is the choice exactly if it is the first of all plans.
   pub chosen-exactly : (f : ℕ) (frames : List ℕ) → (choose x ≡ chosen f frames) ↔ IsChosen x f frames
-  unfolding RightChoice
+  unfolding RightBy
   chosen-exactly f frames = (λ e. subst (RightChoice x) e (choose-right x g), λ c. go c (choose x) refl (choose-right x g))
     where
       go : IsChosen x f frames → (c : Choice) → choose x ≡ c → RightChoice x c → choose x ≡ chosen f frames
@@ -207,7 +250,7 @@ module _ (x : Instance) (g : Good x) where
 
   -- There is a choice exactly if there is a plan.
   pub some-chosen-exactly : ((f : ℕ) × (frames : List ℕ) × (choose x ≡ chosen f frames)) ↔ ((f : ℕ) × (frames : List ℕ) × IsPlan x f frames)
-  unfolding RightChoice
+  unfolding RightBy
   some-chosen-exactly =
       (λ c. (c .0, c .1, chosen-exactly (c .0) (c .1) .0 (c .2) .is-plan), λ p. go (p .0) (p .1) (p .2) (choose x) refl (choose-right x g))
     where

@@ -7,6 +7,7 @@ pub mod Disjoint
 pub mod Good
 pub mod Named
 pub mod Answers
+pub mod PhaseExact
 pub mod PlanLaws
 pub mod PlausibleLaws
 pub mod RuleLaws

@@ -1,14 +1,14 @@
 -- All windows of a task in a cycle: when does each hold a whole frame?
 -- A window that opens at r holds one exactly if 2·f ≤ D + since f r. Over the releases, since f r is never below since g P, g = gcd f T,
 -- for g divides f and T; and by the residue law one release has exactly that. Hence the rule 2·f ≤ D + since g P.
-use mathlib.Core.Path.{_≡_, refl, sym, ap, _∙_}
+use mathlib.Core.Path.{_≡_, sym, ap, _∙_}
 use mathlib.Core.Logic.{_↔_}
 use Prim.Native.Nat.{ℕ, _+_, _*_, _-_, _/_, _%_, _≤_, _<_, _∣_}
-use native.Mathlib.Nat.{mod-lt, mod-le, mod-mod, mod-mod-of-dvd, dvd-of-mod-eq-zero, div-mul-cancel, le-of-dvd, pos-of-dvd-of-pos}
+use native.Mathlib.Nat.{mod-lt, mod-le, mod-mod, mod-mod-of-dvd, div-mul-cancel, le-of-dvd, pos-of-dvd-of-pos}
 use native.Mathlib.Omega.{arith}
-use Rattle.arith.specs.Gcd.{gcdOf, gcdSteps, gcd-dvd}
+use Rattle.arith.specs.Gcd.{gcdOf, gcd-dvd}
 use Rattle.arith.specs.Residue.{congruent, residues-reached}
-use Rattle.model.specs.Window.{InWindow, since, since-is, since-le, window-holds}
+use Rattle.model.specs.Window.{InWindow, since, since-is, window-holds}
 
 -- every job of the task has a whole frame in its window
 abbrev pub EveryWindowHolds : ℕ → ℕ → ℕ → ℕ → ℕ → Type 0
@@ -54,15 +54,3 @@ module _ (H f T D P : ℕ) (pos : 0 < H) (fh : f ∣ H) (th : T ∣ H) where
             let r = P + j * T in
             window-holds f r D f-pos .1 (omega (arith, since-coarser g f r f-pos (gcd-dvd f T .0), since-later g T P j (gcd-dvd f T .1))),
       )
-
-  -- Plausible is necessary: 2·f − gcd f T ≤ D.
-  pub plausible-necessary : EveryWindowHolds H f T D P → 2 * f ≤ D + gcdOf f T
-  plausible-necessary all = omega (arith, windows-hold .0 all, since-le (gcdOf f T) P g-pos)
-
--- "and not enough for one, even by windows alone, once phases count": for the task (1,10,5,2) of P8 the length 5 is plausible, and yet a window holds no frame.
-pub plausible-not-enough : (2 * 5 ≤ 5 + gcdOf 5 10) × (¬ EveryWindowHolds 10 5 10 5 2)
-unfolding gcdOf gcdSteps since
-plausible-not-enough = (
-  omega arith,
-  λ all. let rule = windows-hold 10 5 10 5 2 (omega arith) (dvd-of-mod-eq-zero 5 refl) (dvd-of-mod-eq-zero 10 refl) .0 all in omega arith,
-)

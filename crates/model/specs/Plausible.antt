@@ -1,22 +1,34 @@
--- Plausible frame lengths, in the words of 01's 'Choosing'.
+-- Plausible frame lengths, in the words of 01's 'Choosing' and of R-5.
 use mathlib.Core.Bool.{Bool, true}
 use mathlib.Core.List.{List, [], _∷_}
 use Prim.Native.Nat.{ℕ, _+_, _*_, _%_}
 use lib.Dec.{leb, ltb, eqb}
-use Rattle.cursor.specs.Choice.{both}
+use Rattle.cursor.specs.Choice.{pick, both}
 use Rattle.arith.specs.Gcd.{gcdOf}
 use Rattle.request.specs.declared.Task.{Task}
 use Rattle.model.specs.Plan.{Instance, rowsAt, slot}
 
--- "f ≥ every C, and 2f − gcd(f, T) ≤ D for every task", C counting as C + g: for one task
-unfoldable pub frameRule : ℕ → ℕ → Task → Bool
-frameRule g f task = both (leb (slot g task) f) (leb (2 * f) (task .d + gcdOf f (task .t)))
+-- 01's rule on the windows of a task: "2f − gcd(f, T) ≤ D"
+unfoldable pub commonRule : ℕ → Task → Bool
+commonRule f task = leb (2 * f) (task .d + gcdOf f (task .t))
+
+-- R-5's rule: "let p be P mod gcd(f, T); if p is 0 the rule is as before, else 2f − p ≤ D"
+unfoldable pub phaseRule : ℕ → Task → Bool
+phaseRule f task = let p = task .p % gcdOf f (task .t) in pick (eqb p 0) (commonRule f task) (leb (2 * f) (task .d + p))
+
+-- "f ≥ every C", C counting as C + g, and the rule on the windows: for one task
+unfoldable pub frameRule : (ℕ → Task → Bool) → ℕ → ℕ → Task → Bool
+frameRule rule g f task = both (leb (slot g task) f) (rule f task)
 
 -- for all of them
-unfoldable pub frameRules : ℕ → ℕ → List Task → Bool
-frameRules g f [] = true
-frameRules g f (task ∷ tasks) = both (frameRule g f task) (frameRules g f tasks)
+unfoldable pub frameRules : (ℕ → Task → Bool) → ℕ → ℕ → List Task → Bool
+frameRules rule g f [] = true
+frameRules rule g f (task ∷ tasks) = both (frameRule rule g f task) (frameRules rule g f tasks)
 
--- "f is plausible if it divides H, H/f ≤ 256, f ≥ every C, and 2f − gcd(f, T) ≤ D for every task"
-unfoldable pub plausible : Instance → ℕ → Bool
-plausible x f = both (ltb 0 f) (both (eqb (x .h % f) 0) (both (leb (rowsAt x f) 256) (frameRules (x .g) f (x .tasks))))
+-- "f is plausible if it divides H, H/f ≤ 256, f ≥ every C, and" the rule on the windows holds "for every task"
+unfoldable pub plausibleBy : (ℕ → Task → Bool) → Instance → ℕ → Bool
+plausibleBy rule x f = both (ltb 0 f) (both (eqb (x .h % f) 0) (both (leb (rowsAt x f) 256) (frameRules rule (x .g) f (x .tasks))))
+
+-- "The per-task test becomes exact .. Planner and check both use it"
+abbrev pub plausible : Instance → ℕ → Bool
+plausible = plausibleBy phaseRule

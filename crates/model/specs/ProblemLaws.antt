@@ -127,5 +127,5 @@ module _ (x : Instance) (g : Good x) (f : ℕ) where
       }
     where
       go : (y : ℕ) → (y < n) ⊎ (n ≤ y) → getD (costs x) y 0 ≤ f
-      go y (inl h) = omega (arith, cost-at x y h, plausible-says x f e .rule (jobAt x y .task) (job-facts x g y h .known) .room)
+      go y (inl h) = omega (arith, cost-at x y h, plausible-says x f e .rules (jobAt x y .task) (job-facts x g y h .known) .room)
       go y (inr h) = omega (arith, List·getD-eq-default (costs x) 0 {n = y} (omega (arith, costs-length x)))

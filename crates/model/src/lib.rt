@@ -2,11 +2,11 @@
 use cycle::Cycle;
 use request::Task;
 ghost use mathlib.Core.Path.{_≡_};
-ghost use Prim.Native.Nat.{_≤_};
+ghost use Prim.Native.Nat.{_≤_, _<_};
 ghost use Rattle.cursor.specs.Padded.{firsts};
 ghost use Rattle.request.specs.Request.{noTask};
 ghost use Rattle.model.specs.Plan.{slot};
-ghost use Rattle.model.specs.Plausible.{frameRules, plausible};
+ghost use Rattle.model.specs.Plausible.{phaseRule, frameRules, plausible};
 ghost use Rattle.model.specs.Answers.{instanceOf};
 
 // The time that a transfer of the task takes in its row, with the g silent ticks after it.
@@ -16,10 +16,23 @@ pub fn slot(g: u8, task: Task) -> u32
     (task.c as u32) + (g as u32)
 }
 
-// f ≥ C + g and 2f − gcd(f, T) ≤ D for the first n tasks.
+// Whether each window of the task holds a whole frame: with p for P mod gcd(f, T), 2f − gcd(f, T) ≤ D if p is 0, else 2f − p ≤ D.
+fn phase_rule(f: u16, task: Task) -> bool
+    requires { ⌜ 0 < f ⌝ }
+    ensures { λ r. ⌜ r ≡ phaseRule f task ⌝ }
+{
+    let common = arith::gcd(f, task.t);
+    let p = task.p % common;
+    if p == 0 {
+        return 2 * (f as u32) <= (task.d as u32) + (common as u32);
+    }
+    2 * (f as u32) <= (task.d as u32) + (p as u32)
+}
+
+// f ≥ C + g and the rule of the phase for the first n tasks.
 fn frame_rules(tasks: [Task; 16], n: usize, g: u8, f: u16) -> bool
-    requires { ⌜ n ≤ 16 ⌝ }
-    ensures { λ r. ⌜ r ≡ frameRules g f (firsts n noTask tasks) ⌝ }
+    requires { ⌜ (n ≤ 16) × (0 < f) ⌝ }
+    ensures { λ r. ⌜ r ≡ frameRules phaseRule g f (firsts n noTask tasks) ⌝ }
 {
     let mut i: usize = 0;
     while i < n {
@@ -27,8 +40,7 @@ fn frame_rules(tasks: [Task; 16], n: usize, g: u8, f: u16) -> bool
         if (f as u32) < slot(g, x) {
             return false;
         }
-        let common = arith::gcd(f, x.t);
-        if (x.d as u32) + (common as u32) < 2 * (f as u32) {
+        if !phase_rule(f, x) {
             return false;
         }
         i += 1;

@@ -14,7 +14,7 @@ use Rattle.search.specs.Search.{Found, none, at}
 use Rattle.search.specs.Placing.{plan}
 use Rattle.model.specs.Plan.{Instance, costs}
 use Rattle.model.specs.Answers.{instanceOf}
-use Rattle.model.specs.Plausible.{plausible}
+use Rattle.model.specs.Plausible.{plausibleBy, plausible}
 use Rattle.model.specs.Chosen.{Choice, noPlan, noPlausible, isTried, foundOr, chooseFrom, problemAt}
 use Rattle.model.specs.ChosenLaws.{choose-end, choose-skipped, choose-tried}
 use Rattle.problem.specs.Answers.{linksAnswer}
@@ -30,7 +30,7 @@ both-false false = refl
 
 -- no length has 0 rows
 pub no-rows : (x : Instance) → isTried x 0 ≡ false
-unfolding isTried plausible
+unfolding isTried plausibleBy
 no-rows x = rw (div-zero (x .h)) (both-false (eqb (x .h % 0) 0))
 
 pub tried-plausible : (x : Instance) (rows : ℕ) → isTried x rows ≡ true → plausible x (x .h / rows) ≡ true

@@ -19,7 +19,7 @@ use Rattle.model.specs.Plausible.{plausible}
 use Rattle.model.specs.PlausibleLaws.{plausible-needed}
 use Rattle.model.specs.Good.{Good}
 use Rattle.model.specs.Within.{Within, within-limits, within-good}
-use Rattle.model.specs.Chosen.{Choice, chosen, noPlan, noPlausible, choose, IsChosen, NoPlan, RightChoice}
+use Rattle.model.specs.Chosen.{Choice, chosen, noPlan, noPlausible, choose, IsChosen, NoPlan, RightBy, RightChoice}
 use Rattle.model.specs.ChosenLaws.{choose-right, chosen-exactly}
 use Rattle.model.specs.Described.{Describes, planTable}
 use Rattle.model.specs.PlanTable.{plan-table-describes, plan-table-length}
@@ -200,7 +200,7 @@ module _ (request out : List ℕ) (x : Instance) (within : Within request x) whe
 
   -- THE THEOREM: what planning a request within the limits answers.
   pub table-handed : Handed x request out
-  unfolding RightChoice
+  unfolding RightBy
   table-handed = go (choose x) refl (choose-right x good)
     where
       go : (o : Choice) → choose x ≡ o → RightChoice x o → Handed x request out

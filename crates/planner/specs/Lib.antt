@@ -6,3 +6,4 @@ pub mod ChoiceLaws
 pub mod PlanLaws
 pub mod TableLaws
 pub mod Handed
+pub mod Moved

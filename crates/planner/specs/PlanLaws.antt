@@ -10,7 +10,7 @@ use Rattle.table.specs.declared.Written.{Written}
 use Rattle.model.specs.Plan.{Instance}
 use Rattle.model.specs.Answers.{instanceOf}
 use Rattle.model.specs.Within.{Taken}
-use Rattle.model.specs.Chosen.{Choice, chosen, noPlan, noPlausible, choose, RightChoice}
+use Rattle.model.specs.Chosen.{Choice, chosen, noPlan, noPlausible, choose, RightBy, RightChoice}
 use Rattle.model.specs.ChosenLaws.{choose-right}
 use Rattle.planned_table.specs.Written.{planWritten, planBuffer}
 use Rattle.planned_table.specs.WriteLaws.{plan-written}
@@ -61,7 +61,7 @@ module _ (s : List ℕ) (d : c.Cycle) (t : Taken s d) where
     -- the chosen plan is written
     pub plan-chosen : p .refusal ≡ 0 → (out : List ℕ)
         → Hands s out (planWritten (cycleOf s) (p .f) (p .frames) out) (planBuffer (cycleOf s) (p .f) (p .frames) out)
-    unfolding choiceAnswer outcomeAnswer outcomeBuffer RightChoice
+    unfolding choiceAnswer outcomeAnswer outcomeBuffer RightBy
     plan-chosen z out = rw outcome-is (go (choose x) p-is (choose-right x (t .good)))
       where
         go : (o : Choice) → p ≡ choiceAnswer o → RightChoice x o

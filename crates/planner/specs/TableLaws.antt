@@ -21,7 +21,7 @@ use Rattle.table.specs.declared.Written.{Written}
 use Rattle.model.specs.Plan.{Instance}
 use Rattle.model.specs.Good.{Good}
 use Rattle.model.specs.Answers.{instance, instance-good}
-use Rattle.model.specs.Chosen.{Choice, chosen, noPlan, noPlausible, choose, RightChoice}
+use Rattle.model.specs.Chosen.{Choice, chosen, noPlan, noPlausible, choose, RightBy, RightChoice}
 use Rattle.model.specs.ChosenLaws.{choose-right}
 use Rattle.model.specs.PlanTable.{plan-entries, plan-table-describes, plan-table-length}
 use Rattle.model.specs.Within.{Within}
@@ -38,7 +38,7 @@ GoodOutcome (handed t) = GoodTable t
 GoodOutcome (refusal number) = (0 < number) × (number ≤ 17)
 
 pub outcome-good : (request : List ℕ) → GoodOutcome (outcome request)
-unfolding outcome RightChoice
+unfolding outcome RightBy
 outcome-good request = by-cycle (cycleOf request) refl
   where
     by-choice : (x : Instance) → Good x → x .h ≤ 10000 → (o : Choice) → RightChoice x o → GoodOutcome (byChoice x o)

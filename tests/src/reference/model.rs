@@ -4,25 +4,18 @@ use super::cycle::{Cycle, Job};
 
 pub const MOST_ROWS: i64 = 256;
 
-/// The largest number that divides both.
-pub fn gcd(a: i64, b: i64) -> i64 {
-    (1..=a.min(b))
-        .rev()
-        .find(|g| a % g == 0 && b % g == 0)
-        .expect("both numbers are at least 1")
-}
-
-/// Whether f is plausible for the request.
+/// Whether f is plausible for the request: it cuts the cycle into rows, they have room for every
+/// task, and the window of every job of the cycle holds a whole frame. All windows are walked.
 pub fn plausible(cycle: &Cycle, f: i64) -> bool {
     let request = &cycle.request;
     f >= 1
         && cycle.h % f == 0
         && cycle.h / f <= MOST_ROWS
         && request.tasks.iter().all(|task| f >= request.slot(task))
-        && request
-            .tasks
+        && cycle
+            .jobs
             .iter()
-            .all(|task| 2 * f - gcd(f, task.t) <= task.d)
+            .all(|job| holds_a_frame(job, f, cycle.h / f))
 }
 
 /// All plausible frame lengths, from the largest down.
@@ -35,6 +28,10 @@ pub fn plausible_lengths(cycle: &Cycle) -> Vec<i64> {
 
 fn in_window(job: &Job, f: i64, k: i64) -> bool {
     k * f >= job.release && (k + 1) * f <= job.due
+}
+
+fn holds_a_frame(job: &Job, f: i64, rows: i64) -> bool {
+    (0..2 * rows).any(|k| in_window(job, f, k))
 }
 
 /// The frames of a job's window, from the earliest.
