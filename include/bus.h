@@ -1,6 +1,6 @@
 /*
- * The bus table library: joining requests, and planning, checking and dispatching a table for the
- * bus controller.
+ * The bus table library: joining requests, planning, checking and dispatching a table for the bus
+ * controller, and finding time for a one-off transfer beside it.
  *
  * All times are whole ticks. A u16 in a file or a state is two bytes, low byte first.
  *
@@ -139,6 +139,24 @@ int32_t bus_join(const uint8_t *first, size_t first_len, const uint8_t *second, 
                  uint8_t *out, size_t out_len);
 
 /*
+ * Finds time for a one-off transfer of `length` ticks beside a table: the earliest frame that begins
+ * at the tick `from` or later, ends at the tick `until` or earlier, and leaves enough of its time
+ * unused for the transfer and the silent ticks after it. Ticks and frames are counted from the
+ * start of the flight. A frame is used by every entry of its row, each with the silent ticks after
+ * it; carried entries count in the first cycle too, in which they are not served. The transfer comes
+ * behind the entries that bus_next_frame gives for that frame: while these keep to their C and it
+ * to its length, it ends in its frame, and nothing else moves.
+ *
+ * Answers the frame k, which starts at tick k * f and is served by call k of bus_next_frame, the
+ * first being call 0; in the second cycle k is the number of rows or more. Refuses with 1 to 5, 17,
+ * 6 to 8, 12 to 14, then with 21 where the length is 0, `from` is after `until`, or `until` is after
+ * the second cycle's end, then with 22 where no frame fits. Every later cycle is like these two: for
+ * a later time take whole cycles off both ticks.
+ */
+int32_t bus_one_off(const uint8_t *request, size_t request_len, const uint8_t *table, size_t table_len,
+                    uint32_t length, uint32_t from, uint32_t until);
+
+/*
  * The refusal numbers:
  *
  *    1  the request's bytes end inside a section or before its count
@@ -161,6 +179,8 @@ int32_t bus_join(const uint8_t *first, size_t first_len, const uint8_t *second, 
  *   18  the two requests have more than 16 tasks together
  *   19  the two requests have more than 16 pairs together
  *   20  the two requests differ in their silent ticks
+ *   21  a one-off transfer of length 0, from a tick after its last, or until a tick after two cycles
+ *   22  no frame has time for the one-off transfer
  *   99  a state or entries buffer is too short, or the state's mark is neither 0 nor 1
  */
 

@@ -362,7 +362,7 @@ typedef struct {
     int which;
     bytes a, b, c;
     uint8_t task;
-    uint32_t ticks;
+    uint32_t ticks, from, until;
 } call;
 
 static int32_t answer_of(const call *x, uint8_t *a, uint8_t *b, uint8_t *c)
@@ -380,6 +380,8 @@ static int32_t answer_of(const call *x, uint8_t *a, uint8_t *b, uint8_t *c)
         return bus_next_frame(a, x->a.len, b, x->b.len, c, x->c.len);
     case 6:
         return bus_join(a, x->a.len, b, x->b.len, c, x->c.len);
+    case 7:
+        return bus_one_off(a, x->a.len, b, x->b.len, x->ticks, x->from, x->until);
     default:
         return bus_report(a, x->a.len, x->task, x->ticks, b, x->b.len);
     }
@@ -432,7 +434,7 @@ static int32_t both(call *x)
         fault("two runs differ", &before);
     if (answer < 0 && !all_same(x, &before))
         fault("a refusal changed a buffer", &before);
-    int second_is_read = x->which == 1 || x->which == 2 || x->which == 6;
+    int second_is_read = x->which == 1 || x->which == 2 || x->which == 6 || x->which == 7;
     if (!same(&x->a, &before.a) || (second_is_read && !same(&x->b, &before.b)))
         fault("an input was changed", &before);
     return answer;
@@ -491,6 +493,35 @@ static void join(const bytes *request)
     }
 }
 
+/* One-off transfers on a table, damaged or not. A frame that is answered lies in the time that was asked for, and a transfer of one tick more
+ * has no earlier one. */
+static void one_off(const bytes *request, const bytes *table)
+{
+    static call x;
+    x.which = 7;
+    x.a = *request;
+    x.b = *table;
+    x.c.len = 0;
+    if (chance(25))
+        damage(&x.b);
+    unsigned f = x.b.len > 4 ? number_at(&x.b, 1) : 0, h = x.b.len > 4 ? number_at(&x.b, 3) : 0;
+    for (int i = 0; i < 6; i++) {
+        x.ticks = chance(90) ? (uint32_t)below(f + 2) : (uint32_t)draw();
+        x.from = chance(90) ? (uint32_t)below(h + 2) : (uint32_t)draw();
+        x.until = chance(90) ? x.from + (uint32_t)below(h + 2) : (uint32_t)draw();
+        int32_t frame = both(&x);
+        if (frame < 0)
+            continue;
+        uint64_t start = (uint64_t)f * (uint32_t)frame;
+        if (start < x.from || start + f > x.until)
+            fault("a frame outside the time asked for", &x);
+        x.ticks++;
+        int32_t longer = both(&x);
+        if (longer < frame && longer != -22)
+            fault("a longer transfer has an earlier frame", &x);
+    }
+}
+
 /* One request, its table if it has one, and calls about both. */
 static void turn(void)
 {
@@ -532,6 +563,7 @@ static void turn(void)
         both(&x);
     }
     join(&request);
+    one_off(&request, &table);
     x.which = 3;
     make_state(&x.b, 0);
     x.a.len = x.c.len = 0;

@@ -66,5 +66,12 @@ int main(void)
     expect("bus_join", bus_join(request, sizeof request, silent, sizeof silent, file, sizeof file), -20);
     expect("bus_join", bus_join(request, sizeof request, bad, sizeof bad, file, sizeof file), -17);
     expect("bus_join", bus_join(request, sizeof request, request, sizeof request, file, 49), -11);
+    expect("bus_one_off", bus_one_off(request, sizeof request, table, used, 10, 0, 80), 1);
+    expect("bus_one_off", bus_one_off(request, sizeof request, table, used, 10, 21, 80), 3);
+    expect("bus_one_off", bus_one_off(request, sizeof request, table, used, 11, 0, 80), -22);
+    expect("bus_one_off", bus_one_off(request, sizeof request, table, used, 4294967295u, 0, 80), -22);
+    expect("bus_one_off", bus_one_off(request, sizeof request, table, used, 10, 0, 81), -21);
+    expect("bus_one_off", bus_one_off(silent, sizeof silent, table, used, 10, 0, 81), -14);
+    expect("bus_one_off", bus_one_off(bad, sizeof bad, table, used, 10, 0, 80), -17);
     return faults != 0;
 }

@@ -7,9 +7,10 @@
     flight = bus.Dispatcher(table, request)
     flight.next_frame(), flight.report(0, 9), flight.counts
     both = bus.join("examples/battery-1.csv", "examples/battery-2.csv")
+    bus.one_off(request, table, 5, begin=20)   # the earliest frame with time for 5 ticks more
 """
 
-from .calls import check, plan, rewrite
+from .calls import FreeFrame, check, one_off, plan, rewrite
 from .dispatcher import Dispatcher, Frame, Served
 from .files import FileFault
 from .join import join
@@ -28,6 +29,7 @@ __all__ = [
     "Entry",
     "FileFault",
     "Frame",
+    "FreeFrame",
     "Job",
     "ListFaults",
     "NotBuilt",
@@ -42,6 +44,7 @@ __all__ = [
     "flight",
     "join",
     "listing",
+    "one_off",
     "picture",
     "plan",
     "read_request",

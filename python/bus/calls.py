@@ -1,12 +1,31 @@
-"""Planning and checking for a notebook: records in and out, a refusal as an exception.
+"""Planning, checking and time for a one-off transfer, for a notebook: records in and out, a refusal as an exception.
 
 A request may be given as a record, as bytes, or as the path of a list or a request file; a table as a record, as bytes
 or as the path of a table file.
 """
 
+from typing import NamedTuple
+
 from . import explain, library, search, table as tables
 from .refusals import Refused
 from .sources import content, given
+
+
+class FreeFrame(NamedTuple):
+    """A frame with time for a one-off transfer: its number from time 0 and the ticks at which it starts and ends; the
+    number and the entries of its row, and the ticks that these use, silent ones included."""
+
+    number: int
+    start: int
+    end: int
+    row: int
+    entries: tuple
+    used: int
+
+    @property
+    def unused(self):
+        """The ticks of the frame that are left for the transfer and the silent ticks after it."""
+        return self.end - self.start - self.used
 
 
 def _refused(number, request, table=b""):
@@ -26,14 +45,19 @@ def plan(request, tell=None):
     return tables.decode(table)
 
 
-def check(request, table):
-    """The table, if it describes a plan of the request, of any frame length."""
+def _checked(request, table):
+    """A request's bytes, the request, and the bytes of a table that describes a plan of it."""
     data, request = given(request)
     table = content(table)
     answer = library.check(data, table)
     if answer < 0:
         raise _refused(-answer, request, table)
-    return tables.decode(table)
+    return data, request, table
+
+
+def check(request, table):
+    """The table, if it describes a plan of the request, of any frame length."""
+    return tables.decode(_checked(request, table)[2])
 
 
 def rewrite(request, table):
@@ -44,3 +68,22 @@ def rewrite(request, table):
     if answer < 0:
         raise _refused(-answer, request, table)
     return tables.decode(written)
+
+
+def one_off(request, table, length, begin=0, until=None):
+    """The earliest frame, from the tick `begin` until the tick `until`, with time for a transfer of `length` ticks.
+
+    Without `until` that is the end of the second cycle, the latest tick that may be asked for.
+    """
+    if not all(0 <= ticks <= library.MOST_TICKS for ticks in (length, begin, until or 0)):
+        raise ValueError("a length and ticks are numbers of four bytes")
+    data, request, table = _checked(request, table)
+    plan = tables.decode(table)
+    if until is None:
+        until = 2 * plan.cycle
+    frame = library.one_off(data, table, length, begin, until)
+    if frame < 0:
+        raise Refused(-frame, explain.of_one_off(-frame, request, plan, length, begin, until))
+    row = frame % len(plan.rows)
+    entries = plan.rows[row]
+    return FreeFrame(frame, frame * plan.frame, (frame + 1) * plan.frame, row, entries, request.used(entries))

@@ -12,7 +12,7 @@ from .picture import picture
 from .refusals import Refused
 from .search import SearchEnded
 from .sources import read_request
-from .text import c_array, flight, is_c_name, listing
+from .text import c_array, flight, free_frame, is_c_name, listing
 
 ANSWERED, REFUSED, FAILED = 0, 1, 2
 MOST_FAULTS = 30
@@ -109,6 +109,13 @@ def _join(arguments):
         files.write(arguments.output, lists.write(joined).encode() if as_list else bytes(joined))
 
 
+def _one_off(arguments):
+    source = files.read(arguments.list)
+    table = files.read(arguments.table)
+    frame = calls.one_off(source, table, arguments.length, arguments.begin, arguments.until)
+    files.print_out(free_frame(read_request(source), frame))
+
+
 class _Parser(argparse.ArgumentParser):
     def print_help(self, file=None):
         files.print_out(self.format_help())
@@ -128,6 +135,12 @@ def _c_name(text):
 def _cycles(text):
     if not (text.isascii() and text.isdigit() and len(text) <= 9 and 1 <= int(text) <= MOST_CYCLES):
         raise argparse.ArgumentTypeError(f"{text!r} is no number from 1 to {MOST_CYCLES}")
+    return int(text)
+
+
+def _ticks(text):
+    if not (text.isascii() and text.isdigit() and len(text) <= 10 and int(text) <= library.MOST_TICKS):
+        raise argparse.ArgumentTypeError(f"{text!r} is no number from 0 to {library.MOST_TICKS}")
     return int(text)
 
 
@@ -202,6 +215,20 @@ def _parser():
     )
     both.add_argument("second", metavar="SECOND", help="a list (CSV) or a request file")
     both.add_argument("-o", dest="output", metavar="OUT", help="write a list if OUT ends in .csv, else a request file")
+
+    extra = _subcommand(
+        group,
+        "one-off",
+        _one_off,
+        "finds the earliest frame with time for a one-off transfer",
+        "  bus one-off examples/team.csv team.table --length 5\n"
+        "  bus one-off examples/team.csv team.table --length 5 --from 20 --until 120",
+    )
+    extra.add_argument("table", metavar="TABLE", help="a table file")
+    extra.add_argument("--length", metavar="L", type=_ticks, required=True, help="the ticks that the transfer needs")
+    extra.add_argument("--from", dest="begin", metavar="S", type=_ticks, default=0, help="the tick to start from (0)")
+    latest = "the tick to end by (the end of the second cycle, which is the latest)"
+    extra.add_argument("--until", metavar="E", type=_ticks, help=latest)
     return parser
 
 
@@ -211,6 +238,13 @@ def _tell_faults(path, faults):
     more = f", {len(faults) - MOST_FAULTS} of them not shown" if len(faults) > MOST_FAULTS else ""
     count = "1 fault" if len(faults) == 1 else f"{len(faults)} faults"
     _say(f"refused: the list has {count}{more}: mend what the lines say; docs/FORMATS.md has the format")
+
+
+def _spoken_of(number, arguments):
+    """The file that a refusal speaks of; 21 speaks of none."""
+    if number == 21:
+        return ""
+    return arguments.table if number in (12, 13, 14, 22) else arguments.list
 
 
 def main(words=None):
@@ -226,7 +260,7 @@ def main(words=None):
         return REFUSED
     except Refused as refused:
         if not refused.source:
-            refused.source = arguments.table if refused.number in (12, 13, 14) else arguments.list
+            refused.source = _spoken_of(refused.number, arguments)
         _say(str(refused))
         return REFUSED
     except (WrongUse, files.FileFault, library.NotBuilt, SearchEnded) as fault:

@@ -71,7 +71,7 @@ class Dispatcher:
         """Reports the ticks that a task, given by its number, used."""
         if self._request is None:
             raise ValueError("this dispatcher was made without a request, so it does not know how long a task may take")
-        if not (0 <= task <= 255 and 0 <= ticks <= 0xFFFFFFFF):
+        if not (0 <= task <= 255 and 0 <= ticks <= library.MOST_TICKS):
             raise ValueError("a task number is one byte, and ticks are a number of four bytes")
         answer, self.state = library.report(self._request, task, ticks, self.state)
         if answer < 0:

@@ -133,8 +133,7 @@ def _entry_breach(request, table, jobs, seen, number, entry):
 
 
 def _row_breach(request, table, number):
-    row = table.rows[number]
-    used = sum(request.tasks[entry.task].length + request.silent for entry in row if entry.task < len(request.tasks))
+    used = request.used(entry for entry in table.rows[number] if entry.task < len(request.tasks))
     return f"row {number} needs {used} ticks, and a frame has {table.frame}" if used > table.frame else ""
 
 
@@ -167,3 +166,38 @@ def of_table(number, request, table):
     found = [breach for breach in _plan_breaches(request, table) if breach]
     more = f"; and {len(found) - MOST_NAMED} more" if len(found) > MOST_NAMED else ""
     return "; ".join(found[:MOST_NAMED]) + more
+
+
+def _badly_asked(table, length, begin, until):
+    end = 2 * table.cycle
+    if length == 0:
+        yield "the length is 0"
+    if begin > until:
+        yield f"it is asked for from tick {begin}, which is after tick {until}"
+    if until > end:
+        yield f"it is asked for until tick {until}, and two cycles end at tick {end}"
+
+
+def most_unused(request, table, begin, until):
+    """Of the frames between two ticks the first that leaves the most time, and that time; None without a frame."""
+    frames = range(-(-begin // table.frame), until // table.frame)
+    unused = {k: table.frame - request.used(table.rows[k % len(table.rows)]) for k in frames}
+    return max(unused.items(), key=lambda item: item[1]) if unused else None
+
+
+def _no_room(request, table, length, begin, until):
+    most = most_unused(request, table, begin, until)
+    if most is None:
+        return f"no whole frame of {table.frame} ticks lies between tick {begin} and tick {until}"
+    silent = f" and {request.silent} silent ones" if request.silent else ""
+    return (
+        f"of the frames between tick {begin} and tick {until}, frame {most[0]} leaves the most time, {most[1]} ticks;"
+        f" the transfer needs {length}{silent}"
+    )
+
+
+def of_one_off(number, request, table, length, begin, until):
+    """About a one-off transfer that has no frame in an accepted table: 21 and 22."""
+    if number == 21:
+        return "; ".join(_badly_asked(table, length, begin, until))
+    return _no_room(request, table, length, begin, until) if number == 22 else ""

@@ -28,6 +28,7 @@ REQUEST_BYTES = 164
 
 # No request has so many tasks, so a report on this one tells whether the bytes can be read, and nothing else.
 NO_TASK = 255
+MOST_TICKS = 0xFFFFFFFF
 SECONDS_BETWEEN_SIGNS = 30
 
 
@@ -120,6 +121,9 @@ def load():
         report = loaded.bus_report
         report.argtypes = [pointer, size, ctypes.c_uint8, ctypes.c_uint32, pointer, size]
         report.restype = ctypes.c_int32
+        one_off = loaded.bus_one_off
+        one_off.argtypes = [pointer, size] * 2 + [ctypes.c_uint32] * 3
+        one_off.restype = ctypes.c_int32
     except (OSError, AttributeError) as reason:
         raise NotBuilt(f"the library cannot be loaded: {reason}") from reason
     return loaded
@@ -153,6 +157,10 @@ def join(first, second):
     out = _lent(b"", REQUEST_BYTES)
     answer = load().bus_join(first, len(first), second, len(second), out, REQUEST_BYTES)
     return answer, out.raw[: max(answer, 0)]
+
+
+def one_off(request, table, length, begin, until):
+    return load().bus_one_off(request, len(request), table, len(table), length, begin, until)
 
 
 def fresh():

@@ -233,7 +233,7 @@ def _spread(wanted, low, high):
 
 def _row(svg, request, table, axis, number, top):
     """A frame of the strip, as if it were empty: its first tick, its number, its load and its unused time."""
-    used = sum(request.tasks[entry.task].length + request.silent for entry in table.rows[number])
+    used = request.used(table.rows[number])
     x, strip = axis.x(number), top + HEAD
     group = _add(svg, "g", class_="row", data_row=number, data_start=number * table.frame)
     _add(group, "rect", x=x, y=strip, width=axis.width, height=STRIP, fill="url(#unused)")

@@ -87,6 +87,16 @@ REFUSALS = {
         "two requests that are joined have different g",
         "the boards share one line: give both the g that the line needs, in a list by a line `silent,TICKS`",
     ),
+    21: (
+        "a one-off transfer is asked for with length 0, from a tick after its last, or until a tick after 2H",
+        "ask for 1 tick or more, between two ticks of the first two cycles; every later cycle is like these: for a"
+        " later time take whole cycles off both ticks",
+    ),
+    22: (
+        "no frame between the two ticks leaves enough unused time for the one-off transfer and its silent ticks",
+        "ask for a longer time or a shorter transfer, or send it in parts, each asked for from the end of the frame"
+        " before; where a whole cycle has no frame for it, no other has: plan with less load",
+    ),
 }
 
 UNKNOWN = ("a number that this command has no words for", "look it up in docs/FORMATS.md")

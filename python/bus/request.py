@@ -63,6 +63,10 @@ class Request:
         cycle = self.cycle
         return sum((task.length + self.silent) * (cycle // task.period) for task in self.tasks) / cycle
 
+    def used(self, row):
+        """The ticks that a row's entries use, carried ones too, each with the silent ticks after it."""
+        return sum(self.tasks[entry.task].length + self.silent for entry in row)
+
     def jobs(self):
         """Every job of the cycle in planning order: by release, then by task."""
         cycle = self.cycle

@@ -1,4 +1,4 @@
-"""What the command prints: a table's listing, its flight and its bytes in C, all with the names of the list."""
+"""What the command prints: a table's listing, its flight, its bytes in C, a frame with unused time; all with names."""
 
 import re
 
@@ -47,6 +47,13 @@ def flight(request, table, cycles):
         names = (f"{quoted(request.tasks[entry.task].name)}.{entry.job}@{entry.cycle}" for entry in frame.entries)
         lines.append(" ".join([f"frame {frame.number} start {frame.start}", *names]))
     return "\n".join(lines) + "\n"
+
+
+def free_frame(request, frame):
+    """A frame with its ticks, then its row with its used and unused ticks and its entries."""
+    labels = (entry_label(request, entry) for entry in frame.entries)
+    row = " ".join([f"row {frame.row} used {frame.used} unused {frame.unused}", *labels])
+    return f"frame {frame.number} start {frame.start} end {frame.end}\n{row}\n"
 
 
 def is_c_name(name):

@@ -1,11 +1,13 @@
 //! Answers of the reference as text, stored for the tests of other languages: for each request what
-//! is read from it, its plan, the check of some tables, and a flight with reports.
+//! is read from it, its plan, the check of some tables, and a flight with reports; or the frames for
+//! one-off transfers.
 //!
 //! A line is a question with its answer behind it, words apart by single blanks, bytes in
 //! hexadecimal, no bytes as `-`. Stored text can be answered anew, whatever its answers were.
 
-use crate::bus::{Bus, ENTRIES_LEN, STATE_LEN};
+use crate::bus::{Asked, Bus, ENTRIES_LEN, STATE_LEN};
 use crate::generate;
+use crate::one_off;
 use crate::random::Random;
 use crate::reference::request::{self, Request};
 use crate::reference::{planned, tries_within, Reference};
@@ -13,6 +15,7 @@ use crate::rounds::MOST_TRIES;
 
 const TABLES_OF_A_REQUEST: usize = 4;
 const CALLS_OF_A_FLIGHT: usize = 24;
+const ASKED_OF_A_PLAN: usize = 8;
 const LONGEST_TABLE: usize = 519;
 
 fn in_hex(bytes: &[u8]) -> String {
@@ -94,6 +97,16 @@ impl Answerer {
         let counts: Vec<String> = self.counts.iter().map(u32::to_string).collect();
         format!("{answer} counts {}", counts.join(","))
     }
+
+    fn one_off(&self, table: &str, asked: &[&str]) -> String {
+        let asked = Asked {
+            length: number(asked[0]),
+            from: number(asked[1]),
+            until: number(asked[2]),
+        };
+        let answer = Reference.one_off(&self.request, &from_hex(table), asked);
+        answer.to_string()
+    }
 }
 
 fn number<T: std::str::FromStr>(word: &str) -> T {
@@ -117,11 +130,13 @@ pub fn answered(text: &str) -> String {
                 .to_string(),
             "next" => about.next_frame(),
             "report" => about.report(number(words[1]), number(words[2])),
+            "one-off" => about.one_off(words[1], &words[2..5]),
             other => panic!("no question is called {other}"),
         };
         let asked = match words[0] {
             "request" | "check" => 2,
             "report" => 3,
+            "one-off" => 5,
             _ => 1,
         };
         lines.push_str(&format!("{} {answer}\n", words[..asked].join(" ")));
@@ -182,6 +197,38 @@ pub fn drawn(seed: u64, requests: usize, with_third_section: bool) -> String {
                 } else {
                     "next\n".to_string()
                 });
+            }
+        }
+    }
+    answered(&text)
+}
+
+fn some_one_off(rng: &mut Random, request: &[u8], table: &[u8]) -> String {
+    let Asked {
+        length,
+        from,
+        until,
+    } = one_off::asked(rng, request, table);
+    format!("one-off {} {length} {from} {until}\n", in_hex(table))
+}
+
+/// Questions about one-off transfers on tables of so many requests, and their answers: some on each
+/// plan, one on each other table.
+pub fn drawn_one_off(seed: u64, requests: usize) -> String {
+    let mut rng = Random::new(seed);
+    let mut text = String::new();
+    for round in 0..requests {
+        let bytes = some_request(&mut rng, round % 3 == 0);
+        text.push_str(&format!("request {}\n", in_hex(&bytes)));
+        let chosen = planned(&bytes).ok();
+        let pool = generate::table_pool(&mut rng, &bytes, chosen.as_ref(), MOST_TRIES);
+        for table in pool.iter().take(TABLES_OF_A_REQUEST) {
+            let count = match Reference.check(&bytes, table) {
+                0 => ASKED_OF_A_PLAN,
+                _ => 1,
+            };
+            for _ in 0..count {
+                text.push_str(&some_one_off(&mut rng, &bytes, table));
             }
         }
     }

@@ -1,4 +1,4 @@
-//! The seven calls of the library, as every implementation here offers them.
+//! The eight calls of the library, as every implementation here offers them.
 
 use std::ops::Range;
 
@@ -26,6 +26,14 @@ pub fn counts(state: &[u8]) -> [u16; TASKS] {
     })
 }
 
+/// A one-off transfer: so many ticks, not before the one tick and not after the other.
+#[derive(Clone, Copy, Debug, PartialEq, Eq)]
+pub struct Asked {
+    pub length: u32,
+    pub from: u32,
+    pub until: u32,
+}
+
 /// An answer below 0 is a refusal, its number negated.
 pub trait Bus {
     /// The length of the table written to the front of `out`.
@@ -42,4 +50,6 @@ pub trait Bus {
     fn report(&self, request: &[u8], task: u8, ticks: u32, state: &mut [u8]) -> i32;
     /// The length of the request, of the two joined, written to the front of `out`.
     fn join(&self, first: &[u8], second: &[u8], out: &mut [u8]) -> i32;
+    /// The earliest frame, counted from time 0, with time for the transfer.
+    fn one_off(&self, request: &[u8], table: &[u8], asked: Asked) -> i32;
 }

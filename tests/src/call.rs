@@ -2,7 +2,7 @@
 
 use std::ops::Range;
 
-use crate::bus::{count_bytes, Bus, ENTRIES_LEN, STATE_LEN};
+use crate::bus::{count_bytes, Asked, Bus, ENTRIES_LEN, STATE_LEN};
 use crate::reference::Reference;
 
 /// A call and the content of its buffers before it.
@@ -40,6 +40,11 @@ pub enum Call {
         second: Vec<u8>,
         out: Vec<u8>,
     },
+    OneOff {
+        request: Vec<u8>,
+        table: Vec<u8>,
+        asked: Asked,
+    },
 }
 
 /// The answer, and the content of the buffers that the call may write.
@@ -59,13 +64,14 @@ impl Call {
             Call::NextFrame { .. } => "next_frame",
             Call::Report { .. } => "report",
             Call::Join { .. } => "join",
+            Call::OneOff { .. } => "one_off",
         }
     }
 
     /// The buffers that the call may write, as they are before it.
     fn writable(&self) -> Vec<&Vec<u8>> {
         match self {
-            Call::Check { .. } => vec![],
+            Call::Check { .. } | Call::OneOff { .. } => vec![],
             Call::Plan { out, .. } | Call::Rewrite { out, .. } | Call::Join { out, .. } => {
                 vec![out]
             }
@@ -119,6 +125,18 @@ impl Call {
                 hex(first),
                 hex(second),
                 out.len()
+            ),
+            Call::OneOff {
+                request,
+                table,
+                asked,
+            } => format!(
+                "one_off request [{}] table [{}] length {} from {} until {}",
+                hex(request),
+                hex(table),
+                asked.length,
+                asked.from,
+                asked.until
             ),
         }
     }
@@ -239,6 +257,15 @@ pub fn run(bus: &dyn Bus, call: &Call) -> Result<Outcome, String> {
             let answer = bus.join(one.bytes(), two.bytes(), buffer.bytes_mut());
             outcome(answer, &[(&one, first), (&two, second)], &[&buffer])
         }
+        Call::OneOff {
+            request,
+            table,
+            asked,
+        } => {
+            let (first, second) = (Lent::of(request), Lent::of(table));
+            let answer = bus.one_off(first.bytes(), second.bytes(), *asked);
+            outcome(answer, &[(&first, request), (&second, table)], &[])
+        }
     }
 }
 
@@ -249,7 +276,7 @@ fn may_write(call: &Call, answer: i32) -> Vec<Range<usize>> {
         Call::Plan { .. } | Call::Rewrite { .. } | Call::Join { .. } => {
             vec![0..answer as usize]
         }
-        Call::Check { .. } => vec![],
+        Call::Check { .. } | Call::OneOff { .. } => vec![],
         Call::Fresh { .. } => vec![0..STATE_LEN],
         Call::NextFrame { .. } => vec![0..3, 0..ENTRIES_LEN],
         Call::Report { task, .. } => vec![count_bytes(usize::from(*task))],

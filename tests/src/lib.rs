@@ -10,6 +10,7 @@ pub mod hard;
 pub mod joining;
 #[cfg(feature = "linked")]
 pub mod library;
+pub mod one_off;
 pub mod plain;
 pub mod programs;
 pub mod random;

@@ -1,6 +1,6 @@
 //! The proved library, linked as libbus.a.
 
-use crate::bus::Bus;
+use crate::bus::{Asked, Bus};
 
 mod exports {
     extern "C" {
@@ -49,10 +49,19 @@ mod exports {
             out: *mut u8,
             out_len: usize,
         ) -> i32;
+        pub fn bus_one_off(
+            request: *const u8,
+            request_len: usize,
+            table: *const u8,
+            table_len: usize,
+            length: u32,
+            from: u32,
+            until: u32,
+        ) -> i32;
     }
 }
 
-/// The linked library behind the seven calls.
+/// The linked library behind the eight calls.
 pub struct Library;
 
 // Every pointer below comes with the length of the slice it was taken from, and the library
@@ -118,6 +127,20 @@ impl Bus for Library {
                 second.len(),
                 out.as_mut_ptr(),
                 out.len(),
+            )
+        }
+    }
+
+    fn one_off(&self, request: &[u8], table: &[u8], asked: Asked) -> i32 {
+        unsafe {
+            exports::bus_one_off(
+                request.as_ptr(),
+                request.len(),
+                table.as_ptr(),
+                table.len(),
+                asked.length,
+                asked.from,
+                asked.until,
             )
         }
     }

@@ -12,7 +12,7 @@ use crate::reference::{planned, tries_within};
 /// Requests that need more tries than this are left out: both sides would take too long.
 pub const MOST_TRIES: u64 = 30_000;
 
-const NAMES: [&str; 7] = [
+const NAMES: [&str; 8] = [
     "plan",
     "check",
     "rewrite",
@@ -20,6 +20,7 @@ const NAMES: [&str; 7] = [
     "next_frame",
     "report",
     "join",
+    "one_off",
 ];
 
 /// How often each call gave each answer (answers from 0 up count as 0).

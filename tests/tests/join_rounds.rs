@@ -6,7 +6,7 @@ mod common;
 use std::io::{stdout, Write};
 use std::thread;
 
-use bus_tests::bus::Bus;
+use bus_tests::bus::{Asked, Bus};
 use bus_tests::joining;
 use bus_tests::reference::join::joined;
 use bus_tests::reference::request::{read, write};
@@ -255,6 +255,10 @@ impl Bus for Sham {
                 None => -self.number(first, second, out, number),
             },
         }
+    }
+
+    fn one_off(&self, request: &[u8], table: &[u8], asked: Asked) -> i32 {
+        Reference.one_off(request, table, asked)
     }
 }
 

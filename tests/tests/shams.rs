@@ -2,7 +2,7 @@
 
 mod common;
 
-use bus_tests::bus::{count_bytes, Bus, STATE_USED, TASKS};
+use bus_tests::bus::{count_bytes, Asked, Bus, STATE_USED, TASKS};
 use bus_tests::random::Random;
 use bus_tests::reference::cycle::{self, Cycle, Job};
 use bus_tests::reference::model::{plausible_lengths, window};
@@ -596,6 +596,10 @@ impl Bus for Sham {
     fn join(&self, first: &[u8], second: &[u8], out: &mut [u8]) -> i32 {
         Reference.join(first, second, out)
     }
+
+    fn one_off(&self, request: &[u8], table: &[u8], asked: Asked) -> i32 {
+        Reference.one_off(request, table, asked)
+    }
 }
 
 /// One more in the count of a task, up to 65,535.
@@ -686,6 +690,10 @@ impl Bus for Careless {
 
     fn join(&self, first: &[u8], second: &[u8], out: &mut [u8]) -> i32 {
         Reference.join(first, second, out)
+    }
+
+    fn one_off(&self, request: &[u8], table: &[u8], asked: Asked) -> i32 {
+        Reference.one_off(request, table, asked)
     }
 }
 

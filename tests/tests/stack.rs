@@ -1,7 +1,7 @@
 //! Every call in a thread with a stack of 256 KiB; an overflow ends the whole run.
 #![cfg(feature = "linked")]
 
-use bus_tests::bus::Bus;
+use bus_tests::bus::{Asked, Bus};
 use bus_tests::library::Library;
 use bus_tests::reference::Reference;
 use bus_tests::sheet::{self, request, silent_request};
@@ -47,6 +47,15 @@ fn all_calls(request: &[u8]) {
         let answer = Reference.join(request, other, &mut expected);
         assert_eq!(Library.join(request, other, &mut file), answer);
         assert_eq!(file, expected);
+    }
+    for (length, from, until) in [(1, 0, 16), (1, 17, 80), (u32::MAX, 0, 32), (0, 0, 0)] {
+        let asked = Asked {
+            length,
+            from,
+            until,
+        };
+        let answer = Reference.one_off(request, &table, asked);
+        assert_eq!(Library.one_off(request, &table, asked), answer);
     }
 }
 

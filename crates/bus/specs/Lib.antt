@@ -5,5 +5,6 @@ pub mod StateLaws
 pub mod Calls
 pub mod CallLaws
 pub mod Rewrite
+pub mod OneOff
 pub mod RoundTrip
 pub mod Join

@@ -10,6 +10,7 @@ ghost use Rattle.bus.specs.Reply.{refused};
 ghost use Rattle.bus.specs.State.{isState, wordOf, countsFrom, countBytes, stateOf, stateBytes, pairBytes, zeros};
 ghost use Rattle.bus.specs.Rewrite.{rewriteReply, rewriteBuffer};
 ghost use Rattle.bus.specs.Join.{joinReply, joinBuffer};
+ghost use Rattle.bus.specs.OneOff.{oneOffReply};
 ghost use Rattle.bus.specs.Calls.{planReply, planBuffer, checkReply, freshReply, freshBytes, frameReply, frameState, frameEntries, reportReply, reportState};
 
 // A number of the paper, or 99, as C gets it.
@@ -61,6 +62,25 @@ pub extern "C" fn bus_rewrite(request: &[u8], table: &[u8], out: &mut [u8]) -> i
         return refusal(written.refusal);
     }
     value(written.length)
+}
+
+// The earliest frame, counted from time 0, with time for a transfer of `length` ticks between the ticks `from` and `until`: its number, or 1 to 8, 17,
+// 12 to 14, 21 or 22 negated.
+#[no_mangle]
+pub extern "C" fn bus_one_off(
+    request: &[u8],
+    table: &[u8],
+    length: u32,
+    from: u32,
+    until: u32,
+) -> i32
+    ensures { λ r. ⌜ r ≡ oneOffReply length from until (now (request .entry)) (now (table .entry)) ⌝ }
+{
+    let found = one_off::one_off(request, table, length, from, until);
+    if found.refusal != 0 {
+        return refusal(found.refusal);
+    }
+    value(found.frame as usize)
 }
 
 // 64 bytes or more, with a mark of 0 or 1.

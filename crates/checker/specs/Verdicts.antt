@@ -1,5 +1,5 @@
 -- What a verdict says: a plan was read from a table that describes it, and a refusal has a number.
-use Prim.Native.Nat.{ℕ, _<_}
+use Prim.Native.Nat.{ℕ, _≤_, _<_}
 use mathlib.Core.Path.{_≡_, refl}
 use mathlib.Core.Bool.{Bool, true, false}
 use mathlib.Core.List.{List}
@@ -9,7 +9,7 @@ use lib.Dec.{eqb}
 use Rattle.cursor.specs.Choice.{pick, both}
 use Rattle.cursor.specs.ParsedLaws.{never}
 use Rattle.cycle.specs.Cycle.{Cycle, cycle, noCycle, cycleOf}
-use Rattle.cycle.specs.LimitLaws.{no-cycle-number, request-number-pos}
+use Rattle.cycle.specs.LimitLaws.{no-cycle-number, request-number-pos, request-number-few}
 use Rattle.table.specs.Table.{Table, Decoded, table, malformed, decode}
 use Rattle.model.specs.Plan.{Instance, IsPlan}
 use Rattle.model.specs.Plausible.{plausible}
@@ -42,19 +42,24 @@ module _ (request bytes : List ℕ) where
       go (noCycle k) within (table t) read q = absurd (never (cc))
       go (noCycle k) within malformed read q = absurd (never (cc))
 
-  pub refusal-number : (n : ℕ) → checked (cycleOf request) (decode bytes) ≡ refusal n → 0 < n
+  pub refusal-number : (n : ℕ) → checked (cycleOf request) (decode bytes) ≡ refusal n → (0 < n) × (n ≤ 17)
   unfolding checkedBy judgedBy planOf
   refusal-number n e = go (cycleOf request) refl (decode bytes) e
     where
-      rules : (f : ℕ) (frames : List ℕ) (a b : Bool) → pick a (pick b (accepted f frames) (refusal 14)) (refusal 13) ≡ refusal n → 0 < n
+      rules : (f : ℕ) (frames : List ℕ) (a b : Bool) → pick a (pick b (accepted f frames) (refusal 14)) (refusal 13) ≡ refusal n → (0 < n) × (n ≤ 17)
       rules f frames true true q = absurd (never (cc))
-      rules f frames true false q = let same : 14 ≡ n = cc in omega arith
-      rules f frames false b q = let same : 13 ≡ n = cc in omega arith
+      rules f frames true false q = let same : 14 ≡ n = cc in (omega arith, omega arith)
+      rules f frames false b q = let same : 13 ≡ n = cc in (omega arith, omega arith)
 
-      go : (c : Cycle) → cycleOf request ≡ c → (d : Decoded) → checked c d ≡ refusal n → 0 < n
-      go (noCycle k) is (table t) q = let same : k ≡ n = cc in omega (arith, request-number-pos (no-cycle-number request k is))
-      go (noCycle k) is malformed q = let same : k ≡ n = cc in omega (arith, request-number-pos (no-cycle-number request k is))
-      go (cycle tasks pairs g h jobs) is malformed q = let same : 12 ≡ n = cc in omega arith
+      own : (k : ℕ) → cycleOf request ≡ noCycle k → k ≡ n → (0 < n) × (n ≤ 17)
+      own k is same =
+          let number = no-cycle-number request k is in
+          (omega (arith, request-number-pos number), omega (arith, request-number-few number))
+
+      go : (c : Cycle) → cycleOf request ≡ c → (d : Decoded) → checked c d ≡ refusal n → (0 < n) × (n ≤ 17)
+      go (noCycle k) is (table t) q = own k is (cc)
+      go (noCycle k) is malformed q = own k is (cc)
+      go (cycle tasks pairs g h jobs) is malformed q = let same : 12 ≡ n = cc in (omega arith, omega arith)
       go (cycle tasks pairs g h jobs) is (table t) q =
           let x = instance tasks pairs g h jobs in
           let frames = framesIn (t .rows) jobs in

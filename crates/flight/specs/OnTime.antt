@@ -14,12 +14,13 @@ use Rattle.table.specs.WellFormed.{RisingFrom}
 use Rattle.table.specs.RisingLaws.{row-rises}
 use Rattle.search.specs.Placing.{row-sum}
 use Rattle.model.specs.Plan.{Instance, taskAt, pairAt, jobAt, slot, costs, frameAt, IsPlan}
+use Rattle.model.specs.Slots.{slotOf, slots}
 use Rattle.model.specs.PlanLaws.{costs-length, cost-at}
 use Rattle.model.specs.Good.{Good, PlaceOf}
 use Rattle.model.specs.Described.{Among, entryFor, Describes}
 use Rattle.flight.specs.Calls.{height, plainFrame}
 use Rattle.flight.specs.Timing.{noEntry, servedAt, Served, KeepToC, start, finish, releasedIn, dueIn, late, Starts, StandsForSome, EndedBy}
-use Rattle.flight.specs.Rows.{among-at, PlaceIn, place-in, rising-before, slotOf, slots, slotsTo, slotsTo-next, slotsTo-le, slots-served}
+use Rattle.flight.specs.Rows.{among-at, PlaceIn, place-in, rising-before, slotsTo, slotsTo-next, slotsTo-le, slots-served}
 use Rattle.flight.specs.Rows.{EntryLoad, slots-le-load, meant}
 use Rattle.flight.specs.Serving.{place-of-job, job-of-place, job-there, some-row, whole, height-is, row-is, frame-rising, its-place, its-frame}
 use Rattle.flight.specs.Serving.{stands-for-some, served-then, stands-then}
@@ -45,7 +46,7 @@ unfolding start
 starts-next g f actual m p = refl
 
 -- nothing starts before its frame, and what stands later starts later
-frame-begins : (g f : ℕ) (actual : ℕ → ℕ → ℕ) (m p : ℕ) → m * f ≤ start g f actual m p
+pub frame-begins : (g f : ℕ) (actual : ℕ → ℕ → ℕ) (m p : ℕ) → m * f ≤ start g f actual m p
 unfolding start
 frame-begins g f actual m zero = omega arith
 frame-begins g f actual m (suc p) = omega (arith, frame-begins g f actual m p)
@@ -82,16 +83,27 @@ module _ (x : Instance) (g : Good x) (t : Table) (frames : List ℕ) (v : IsPlan
 
   -- the frames flown, and the actual times
   module _ (actual : ℕ → ℕ → ℕ) (fr : List (List Entry)) (is : (m : ℕ) → m < length fr → getD fr m [] ≡ plainFrame t m) (keep : KeepToC x fr actual) where
+    -- with its silent ticks, an entry takes at most its time in the row; and those served take at most what all entries of the row do
+    in-slot : (m : ℕ) → m < length fr → (o : ℕ) → o < length (getD fr m []) → actual m o + x .g ≤ slotOf x (servedAt fr m o)
+    in-slot m flown o h = omega (arith, keep m o (record { frame-flown = flown; place-filled = h }), slot-is x (servedAt fr m o .task))
+
+    served-less : (m : ℕ) → m < length fr → slots x (getD fr m []) ≤ slots x (rowOf t (m % height t))
+    served-less m flown = rw (is m flown) (slots-served x (ltb m (height t)) (rowOf t (m % height t)))
+
+    -- so behind those served what is left of the row's time is left
+    pub ends-by-slots : (m : ℕ) → m < length fr → start (x .g) (t .f) actual m (length (getD fr m [])) ≤ m * t .f + slots x (rowOf t (m % height t))
+    ends-by-slots m flown =
+        let es : List Entry = getD fr m [] in
+        omega (arith, start-le x (t .f) actual m es (in-slot m flown) (length es) (omega arith), slotsTo-le x es (length es), served-less m flown)
+
     -- even with its whole C, an entry ends in its frame
     pub room : (m p : ℕ) → Served fr m p → start (x .g) (t .f) actual m p + taskAt x (servedAt fr m p .task) .c ≤ (m + 1) * t .f
     room m p s =
         let es : List Entry = getD fr m [] in
-        let fits : (o : ℕ) → o < length es → actual m o + x .g ≤ slotOf x (getD es o noEntry) =
-        λ o h. omega (arith, keep m o (record { frame-flown = s .frame-flown; place-filled = h }), slot-is x (servedAt fr m o .task)) in
-        let before : start (x .g) (t .f) actual m p ≤ m * t .f + slotsTo x es p = start-le x (t .f) actual m es fits p (omega (arith, s .place-filled)) in
-        let fewer : slots x es ≤ slots x (rowOf t (m % height t)) = rw (is m (s .frame-flown)) (slots-served x (ltb m (height t)) (rowOf t (m % height t))) in
         omega (
           arith,
+          start-le x (t .f) actual m es (in-slot m (s .frame-flown)) p (omega (arith, s .place-filled)),
+          served-less m (s .frame-flown),
           slot-is x (servedAt fr m p .task),
           slotsTo-next x es p (s .place-filled),
           slotsTo-le x es (suc p),

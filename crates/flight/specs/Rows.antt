@@ -15,7 +15,8 @@ use Rattle.table.specs.Table.{Entry}
 use Rattle.table.specs.WellFormed.{RisingFrom}
 use Rattle.table.specs.RisingLaws.{rising-first}
 use Rattle.search.specs.Placing.{row-sum}
-use Rattle.model.specs.Plan.{Instance, taskAt, slot}
+use Rattle.model.specs.Plan.{Instance}
+use Rattle.model.specs.Slots.{slotOf, slots}
 use Rattle.model.specs.Described.{Among}
 use Rattle.dispatcher.specs.Dispatch.{uncarried, served}
 use Rattle.dispatcher.specs.FrameLaws.{uncarried-none, uncarried-kept, uncarried-passed}
@@ -103,15 +104,7 @@ rising-before low (e ∷ es) (suc p) (suc q) r h k l =
 
 -- The time that entries take
 
-abbrev pub slotOf : Instance → Entry → ℕ
-slotOf x e = slot (x .g) (taskAt x (e .task))
-
--- together
-unfoldable pub slots : Instance → List Entry → ℕ
-slots x [] = 0
-slots x (e ∷ es) = slotOf x e + slots x es
-
--- the first p of them
+-- that of the first p of them
 unfoldable pub slotsTo : Instance → List Entry → ℕ → ℕ
 slotsTo x [] p = 0
 slotsTo x (e ∷ es) zero = 0
@@ -126,13 +119,12 @@ module _ (x : Instance) where
   slotsTo-next (e ∷ es) (suc p) h = omega (arith, slotsTo-next es p (omega arith))
 
   pub slotsTo-le : (es : List Entry) (p : ℕ) → slotsTo x es p ≤ slots x es
-  unfolding slotsTo slots
+  unfolding slotsTo
   slotsTo-le [] p = omega arith
   slotsTo-le (e ∷ es) zero = omega arith
   slotsTo-le (e ∷ es) (suc p) = omega (arith, slotsTo-le es p)
 
   slots-uncarried : (es : List Entry) → slots x (uncarried es) ≤ slots x es
-  unfolding slots
   slots-uncarried [] = rw uncarried-none (omega arith)
   slots-uncarried (e ∷ es) = go (e .carried) refl (slots-uncarried es)
     where
@@ -165,7 +157,6 @@ pub record EntryLoad (x : Instance) (task : ℕ → ℕ) (rows : ℕ) (cs ks : L
 -- rising entries of jobs in a row take at most the row's load: take one job after the other out
 pub slots-le-load : (x : Instance) (task : ℕ → ℕ) (rows : ℕ) (ks : List ℕ) (r low : ℕ) (es : List Entry) (cs : List ℕ) → RisingFrom low es
     → ((e : Entry) → Among e es → EntryLoad x task rows cs ks r e) → slots x es ≤ row-sum rows cs ks r
-unfolding slots
 slots-le-load x task rows ks r low [] cs rises there = omega arith
 slots-le-load x task rows ks r low (e ∷ es) cs rises there =
     let here : EntryLoad x task rows cs ks r e = there e (inl refl) in

@@ -1,25 +1,24 @@
 -- Every accepted table flies as promised, whatever the calls and the actual times.
 use mathlib.Core.Path.{_≡_, sym, ap, subst, _∙_}
 use mathlib.Core.List.{List, []}
-use Prim.Native.Nat.{ℕ, _+_, _*_, _-_, _≤_, _<_, min}
+use Prim.Native.Nat.{ℕ, _+_, _*_, _-_, _%_, _≤_, _<_, min}
 use native.Mathlib.Nat.{le-of-mul-le-mul-right, zero-add}
 use native.Mathlib.Omega.{arith}
 use lib.ListN.{length, getD}
-use Rattle.cycle.specs.Cycle.{cycle, cycleOf}
-use Rattle.cycle.specs.LimitLaws.{cycle-within}
-use Rattle.table.specs.Table.{Entry, Table, table, decode}
+use Rattle.table.specs.Table.{Entry, Table, table, decode, rowOf}
 use Rattle.model.specs.Plan.{Instance, frameAt, IsPlan}
 use Rattle.model.specs.Good.{Good, PlaceOf}
-use Rattle.model.specs.Answers.{instance-good}
+use Rattle.model.specs.Slots.{slots}
+use Rattle.model.specs.Within.{Within, within-good}
 use Rattle.model.specs.Described.{Describes, Accepted}
 use Rattle.dispatcher.specs.declared.State.{State}
 use Rattle.flight.specs.Calls.{Call, begin, height, plainFrame, framesShown}
-use Rattle.flight.specs.Timing.{KeepToC, timesRun}
+use Rattle.flight.specs.Timing.{KeepToC, start, timesRun}
 use Rattle.flight.specs.Flight.{framesFlown, plainAfter, Flight}
 use Rattle.flight.specs.Same.{all-answers, final-state, framesFrom, framesFrom-length, framesFrom-at, asked, m-after, frames-served}
 use Rattle.flight.specs.Serving.{place-of-job, job-there, some-row, some-length, whole, frame-read-off, runs-from}
 use Rattle.flight.specs.Counted.{overruns-counted}
-use Rattle.flight.specs.OnTime.{starts-next, some-job, after-release, before-due, ended}
+use Rattle.flight.specs.OnTime.{starts-next, ends-by-slots, some-job, after-release, before-due, ended}
 
 module _ (x : Instance) (g : Good x) (bytes : List ℕ) (t : Table) (says : decode bytes ≡ table t)
     (ks : List ℕ) (v : IsPlan x (t .f) ks) (d : Describes x (t .f) ks t) (calls : List Call) where
@@ -70,15 +69,24 @@ module _ (x : Instance) (g : Good x) (bytes : List ℕ) (t : Table) (says : deco
           none-twice = λ i j is q. omega (arith, runs-are i j (place-of-job x g i j is) q);
         }
 
--- THE THEOREM: for every request within the limits, every table accepted for it, every list of calls and all actual times from 0 to C.
-pub flight : (requestBytes tableBytes : List ℕ) (x : Instance) (t : Table)
-    → cycleOf requestBytes ≡ cycle (x .tasks) (x .pairs) (x .g) (x .h) (x .jobs) → decode tableBytes ≡ table t → Accepted x t
-    → (calls : List Call) (actual : ℕ → ℕ → ℕ) → KeepToC x (framesFlown tableBytes calls) actual
-    → Flight x tableBytes t calls actual
-flight requestBytes tableBytes x t within says a calls actual keep =
-    let same : a .f ≡ t .f = sym (a .describes .same-f) in
-    let good : Good x = instance-good (x .tasks) (x .pairs) (x .g) (x .h) (x .jobs) (cycle-within requestBytes (x .tasks) (x .pairs) (x .g) (x .h) (x .jobs) within) in
-    flies x good tableBytes t says (a .frames)
-    (subst (λ (f : ℕ). IsPlan x f (a .frames)) same (a .is-plan))
-    (subst (λ (f : ℕ). Describes x f (a .frames) t) same (a .describes))
-    calls actual keep
+module _ (requestBytes tableBytes : List ℕ) (x : Instance) (t : Table) (within : Within requestBytes x) (says : decode tableBytes ≡ table t) (a : Accepted x t)
+    (calls : List Call) (actual : ℕ → ℕ → ℕ) (keep : KeepToC x (framesFlown tableBytes calls) actual) where
+  good : Good x
+  good = within-good requestBytes x within
+
+  own-plan : IsPlan x (t .f) (a .frames)
+  own-plan = subst (λ (f : ℕ). IsPlan x f (a .frames)) (sym (a .describes .same-f)) (a .is-plan)
+
+  own-table : Describes x (t .f) (a .frames) t
+  own-table = subst (λ (f : ℕ). Describes x f (a .frames) t) (sym (a .describes .same-f)) (a .describes)
+
+  -- THE THEOREM: for every request within the limits, every table accepted for it, every list of calls and all actual times from 0 to C.
+  pub flight : Flight x tableBytes t calls actual
+  flight = flies x good tableBytes t says (a .frames) own-plan own-table calls actual keep
+
+  -- and behind the entries served in a frame what is left of its row's time is left
+  pub time-left : (m : ℕ) → m < length (framesFlown tableBytes calls)
+      → start (x .g) (t .f) actual m (length (getD (framesFlown tableBytes calls) m [])) ≤ m * t .f + slots x (rowOf t (m % height t))
+  time-left =
+      ends-by-slots x good t (a .frames) own-plan own-table actual (framesFlown tableBytes calls)
+      (frame-is x good tableBytes t says (a .frames) own-plan own-table calls) keep

@@ -1,5 +1,6 @@
 -- The rules of a plan, the chosen plan, and that it is the first of all plans.
 pub mod Plan
+pub mod Slots
 pub mod Plausible
 pub mod Window
 pub mod Phase

@@ -12,7 +12,7 @@ use Rattle.request.specs.Request.{noTask}
 use Rattle.request.specs.declared.Task.{Task}
 use Rattle.cycle.specs.Planned.{noJob}
 use Rattle.cycle.specs.declared.Job.{Job}
-use Rattle.model.specs.Plan.{slot, costOf}
+use Rattle.model.specs.Plan.{slot}
 use Rattle.model.specs.Window.{firstFrom}
 use Rattle.model.specs.Chosen.{firstFrameOf, endFrameOf}
 
@@ -47,16 +47,14 @@ module _ (number : Job → ℕ) (jobs : List Job) where
   all-numbers y n l g = let e : y ≡ n = omega arith in rw e
 
 -- a task that is not known takes no time but the silent ticks
-module _ (g : ℕ) (places : List Task) (n : ℕ) (job : Job) where
-  pub cost-unknown : n ≤ job .task → g ≡ costOf g (firsts n noTask places) job
-  unfolding costOf slot
-  cost-unknown h =
-      omega arith
-      ∙ sym (ap (slot g) (List·getD-eq-default (firsts n noTask places) noTask {n = job .task} (omega (arith, firsts-length noTask places n))))
+module _ (g : ℕ) (places : List Task) (n i : ℕ) where
+  pub slot-unknown : n ≤ i → g ≡ slot g (getD (firsts n noTask places) i noTask)
+  unfolding slot
+  slot-unknown h =
+      omega arith ∙ sym (ap (slot g) (List·getD-eq-default (firsts n noTask places) noTask {n = i} (omega (arith, firsts-length noTask places n))))
 
-  pub cost-known : job .task < n → slot g (getD places (job .task) noTask) ≡ costOf g (firsts n noTask places) job
-  unfolding costOf
-  cost-known h = sym (ap (slot g) (getD-firsts noTask places n (job .task) h))
+  pub slot-known : i < n → slot g (getD places i noTask) ≡ slot g (getD (firsts n noTask places) i noTask)
+  slot-known h = sym (ap (slot g) (getD-firsts noTask places n i h))
 
 -- frames of length 0 have no number but 0
 module _ (f : ℕ) (job : Job) where

@@ -5,10 +5,11 @@ use request::Pair;
 use request::Task;
 ghost use mathlib.Core.Path.{_≡_};
 ghost use mathlib.Core.List.{map};
-ghost use Prim.Native.Nat.{_≤_, _<_};
+ghost use Prim.Native.Nat.{_≤_, _<_, min};
+ghost use lib.ListN.{getD};
 ghost use Rattle.cursor.specs.Padded.{padded, firsts};
 ghost use Rattle.request.specs.Request.{noTask, noPair};
-ghost use Rattle.model.specs.Plan.{costOf, costs};
+ghost use Rattle.model.specs.Plan.{slot, costs};
 ghost use Rattle.model.specs.Chosen.{firstFrameOf, endFrameOf};
 ghost use Rattle.model.specs.Links.{placeBefore, linkBy, linksBy};
 ghost use Rattle.model.specs.Answers.{instanceOf};
@@ -25,13 +26,12 @@ enum LinkFound {
     NoLink,
 }
 
-// The slot of the job's task, the silent ticks alone where that is not one of the n tasks.
-fn cost(tasks: [Task; 16], n: usize, g: u8, job: Job) -> u32
-    requires { ⌜ n ≤ 16 ⌝ }
-    ensures { λ r. ⌜ r ≡ costOf g (firsts n noTask tasks) job ⌝ }
+// The time that a transfer of the task takes in its row; the silent ticks alone where it is not one of the n tasks, of which there are at most 16.
+pub fn cost(tasks: [Task; 16], n: usize, g: u8, task: u8) -> u32
+    ensures { λ r. ⌜ r ≡ slot g (getD (firsts (min n 16) noTask tasks) task noTask) ⌝ }
 {
-    let i = job.task as usize;
-    if n <= i {
+    let i = task as usize;
+    if arith::at_most(n, 16) <= i {
         return g as u32;
     }
     let x = tasks[i];
@@ -45,13 +45,13 @@ pub fn costs(cycle: Cycle) -> [u32; 128]
     let tasks = cycle.tasks;
     let jobs = cycle.jobs;
     let g = cycle.g;
-    let n = arith::at_most(cycle.n, 16);
+    let n = cycle.n;
     let count = arith::at_most(cycle.count, 128);
     let mut out = [0u32; 128];
     let mut y: usize = 0;
     while y < count {
         let job = jobs[y];
-        out[y] = cost(tasks, n, g, job);
+        out[y] = cost(tasks, n, g, job.task);
         y += 1;
     }
     out

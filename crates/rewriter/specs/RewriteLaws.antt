@@ -55,4 +55,4 @@ module _ (request bytes : List ℕ) where
         go (checker.accepted f frames) is q =
             let p = plan-read request bytes f frames is in
             rw (q, rewritten-plan f frames is) (plan-written request (p .x) (p .within) f frames out (p .is-plan .all))
-        go (checker.refusal n) is q = absurd (omega (arith, refusal-number request bytes n is, ap (λ (y : Read). y .refusal) q))
+        go (checker.refusal n) is q = absurd (omega (arith, refusal-number request bytes n is .0, ap (λ (y : Read). y .refusal) q))

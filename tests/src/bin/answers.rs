@@ -1,10 +1,11 @@
 //! Writes answers of the reference to standard output. `answers plain` and `answers silent` draw
-//! requests without and with a third section; `answers` alone answers standard input anew.
+//! requests without and with a third section, `answers one-off` one-off transfers; `answers` alone
+//! answers standard input anew.
 
 use std::env;
 use std::io::{stdin, Read};
 
-use bus_tests::answers::{answered, drawn};
+use bus_tests::answers::{answered, drawn, drawn_one_off};
 
 const SEED: u64 = 15;
 
@@ -12,6 +13,7 @@ fn main() {
     let text = match env::args().nth(1).as_deref() {
         Some("plain") => drawn(SEED, 90, false),
         Some("silent") => drawn(SEED, 50, true),
+        Some("one-off") => drawn_one_off(SEED, 70),
         _ => {
             let mut text = String::new();
             stdin().read_to_string(&mut text).expect("text");

@@ -13,6 +13,7 @@ use bus_tests::call::{compare, Call};
 use bus_tests::generate;
 use bus_tests::joining;
 use bus_tests::library::Library;
+use bus_tests::one_off;
 use bus_tests::random::Random;
 use bus_tests::reference::table::encode;
 use bus_tests::reference::{planned, read_cycle, tries_within};
@@ -148,8 +149,16 @@ fn room(rng: &mut Random) -> Vec<u8> {
     rng.bytes(length)
 }
 
+fn one_off_call(rng: &mut Random, request: Vec<u8>, table: Vec<u8>) -> Call {
+    Call::OneOff {
+        asked: one_off::asked(rng, &request, &table),
+        request,
+        table,
+    }
+}
+
 fn some_call(rng: &mut Random, corpus: &Corpus) -> Call {
-    match rng.below(14) {
+    match rng.below(17) {
         0..=2 => Call::Plan {
             request: mutated(rng, &corpus.requests),
             out: room(rng),
@@ -195,6 +204,14 @@ fn some_call(rng: &mut Random, corpus: &Corpus) -> Call {
             second: mutated(rng, &corpus.requests),
             out: room(rng),
         },
+        13 | 14 => {
+            let (request, table) = corpus.matched(rng);
+            one_off_call(rng, request, table)
+        }
+        15 => {
+            let (request, table) = (mutated(rng, &corpus.requests), mutated(rng, &corpus.tables));
+            one_off_call(rng, request, table)
+        }
         _ => Call::Report {
             request: mutated(rng, &corpus.requests),
             task: rng.pick(&[0, 1, 2, 3, 15, 16, 255]),

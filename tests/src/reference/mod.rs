@@ -7,12 +7,13 @@ pub mod dispatch;
 pub mod join;
 pub mod listing;
 pub mod model;
+pub mod one_off;
 pub mod printed;
 pub mod request;
 pub mod search;
 pub mod table;
 
-use crate::bus::{count_bytes, counts, Bus, ENTRIES_LEN, NOT_A_STATE, STATE_LEN};
+use crate::bus::{count_bytes, counts, Asked, Bus, ENTRIES_LEN, NOT_A_STATE, STATE_LEN};
 use cycle::Cycle;
 use dispatch::State;
 use search::{Choice, Effort};
@@ -107,7 +108,7 @@ fn answer(result: Result<i32, i32>) -> i32 {
     }
 }
 
-/// The reference behind the seven calls of the library.
+/// The reference behind the eight calls of the library.
 pub struct Reference;
 
 impl Reference {
@@ -165,5 +166,9 @@ impl Bus for Reference {
         answer(
             join::joined(first, second).and_then(|whole| write_out(&request::write(&whole), out)),
         )
+    }
+
+    fn one_off(&self, request: &[u8], table: &[u8], asked: Asked) -> i32 {
+        answer(one_off::earliest(request, table, asked).map(|frame| frame as i32))
     }
 }

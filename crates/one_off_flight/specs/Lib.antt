@@ -1,0 +1,3 @@
+-- The one-off transfer in flight.
+pub mod Sent
+pub mod SentLaws

@@ -1,0 +1,1 @@
+// The one-off transfer in flight: a theorem, in specs/. No function.
