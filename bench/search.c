@@ -5,8 +5,8 @@
  *
  * What a try reads stands in one struct. The row of a frame is a running number, so that no try
  * divides; the bounds that the links set are computed once for a job. A try is then one comparison
- * with the row's kept load and two with the bounds. Tries are added up once for a job's window and
- * not one by one, since the library counts none.
+ * with the row's kept load and two with the bounds. As in the library, each try is taken off those
+ * that are left before its test, and the search ends where one more would be needed.
  */
 #include <stdbool.h>
 #include <stddef.h>
@@ -46,8 +46,11 @@ static struct {
     unsigned cost[MOST_JOBS], first[MOST_JOBS], end[MOST_JOBS], first_row[MOST_JOBS];
     unsigned load[MOST_ROWS];
     struct links not_later[MOST_JOBS], not_earlier[MOST_JOBS];
-    uint64_t tries;
+    uint64_t left;
 } search;
+
+/* How the search for one length went: ended where one more try than allowed would be needed. */
+enum went { NO_PLAN, PLACED, ENDED };
 
 static unsigned u16_at(const uint8_t *bytes)
 {
@@ -185,54 +188,58 @@ static unsigned upper_bound(const struct links *links)
 }
 
 /* Places job i and those after it. */
-static bool place_job(unsigned i)
+static enum went place_job(unsigned i)
 {
     if (i == search.jobs)
-        return true;
+        return PLACED;
     const unsigned low = lower_bound(&search.not_later[i]), high = upper_bound(&search.not_earlier[i]);
     const unsigned cost = search.cost[i], room = search.f - cost, rows = search.rows;
-    const unsigned first = search.first[i], end = search.end[i];
+    const unsigned end = search.end[i];
     unsigned row = search.first_row[i];
-    for (unsigned k = first; k < end; k++) {
+    for (unsigned k = search.first[i]; k < end; k++) {
+        if (search.left == 0)
+            return ENDED;
+        search.left--;
         if (search.load[row] <= room && low <= k && k <= high) {
             const unsigned load = search.load[row];
             search.load[row] = load + cost;
             search.place[i] = k;
-            if (place_job(i + 1)) {
-                search.tries += k + 1 - first;
-                return true;
-            }
+            const enum went went = place_job(i + 1);
+            if (went != NO_PLAN)
+                return went;
             search.load[row] = load;
         }
         if (++row == rows)
             row = 0;
     }
-    if (first < end)
-        search.tries += end - first;
-    return false;
+    return NO_PLAN;
 }
 
 /*
  * The chosen plan: its frame length and the frame of each job in planning order. Answers the number
- * of jobs; or -9 or -10, with `f` and `frames` as they were. `tries` gets the tries of all lengths.
+ * of jobs; or -9, -10 or -23, with `f` and `frames` as they were. `tries` gets the tries of all
+ * lengths, at most the allowance.
  */
-int32_t search_plan(const uint8_t *request, size_t request_len, uint16_t *f, uint16_t frames[MOST_JOBS],
-                    uint64_t *tries)
+int32_t search_plan(const uint8_t *request, size_t request_len, uint64_t allowance, uint16_t *f,
+                    uint16_t frames[MOST_JOBS], uint64_t *tries)
 {
-    bool some = false, found = false;
+    bool some = false;
+    enum went went = NO_PLAN;
     read_request(request, request_len);
     make_cycle();
     make_links();
-    search.tries = 0;
-    for (unsigned rows = 1; rows <= MOST_ROWS && !found; rows++) {
+    search.left = allowance;
+    for (unsigned rows = 1; rows <= MOST_ROWS && went == NO_PLAN; rows++) {
         if (cycle.h % rows != 0 || !plausible(cycle.h / rows))
             continue;
         some = true;
         begin_length(cycle.h / rows);
-        found = place_job(0);
+        went = place_job(0);
     }
-    *tries = search.tries;
-    if (!found)
+    *tries = allowance - search.left;
+    if (went == ENDED)
+        return -23;
+    if (went == NO_PLAN)
         return some ? -10 : -9;
     *f = search.f;
     memcpy(frames, search.place, cycle.jobs * sizeof search.place[0]);

@@ -6,7 +6,7 @@
  *
  * Every call answers an int32_t. From 0 on it is what the call's comment says; below 0 it is a
  * refusal, its number negated (the numbers stand at the end of this file). A refused call leaves
- * every buffer as it was.
+ * every buffer as it was, but for the count of tries that bus_plan gives with every answer.
  *
  * A buffer is a pointer and the number of bytes behind it. The pointer is not NULL, also where the
  * length is 0, and the buffers of one call do not overlap, save two that are only read. Nothing is
@@ -23,9 +23,10 @@
 extern "C" {
 #endif
 
-/* The bytes of a state, and of the entries of a frame. */
+/* The bytes of a state, of the entries of a frame, and of a count of tries. */
 #define BUS_STATE_BYTES 64
 #define BUS_ENTRIES_BYTES 32
+#define BUS_TRIES_BYTES 8
 
 /* The most tasks, and so the counts of a state. */
 #define BUS_TASKS 16
@@ -36,18 +37,38 @@ extern "C" {
 /* The longest request: 16 tasks, 16 pairs and the silent ticks. */
 #define BUS_REQUEST_BYTES 164
 
-/* A state or entries buffer that is too short, or a state whose mark is neither 0 nor 1. */
+/* A state, entries or tries buffer that is too short, or a state whose mark is neither 0 nor 1. */
 #define BUS_BAD_BUFFER 99
 
 /*
  * Plans a request and writes the table of the chosen plan to the front of `out`. The bytes behind
  * the table are left as they are.
  *
- * Answers the table's length, or refuses with 1 to 5, 17, or 6 to 11. A buffer of BUS_TABLE_BYTES
- * is never too short. The time depends on the request: the search may be long where plans are hard
- * to find.
+ * The search may be long where plans are hard to find, so it is allowed so many tries and no more.
+ * One try is one job tested in one frame of its window, whether it is then placed there or passed
+ * over. The tries that the full search makes depend on the request alone; where they are more than
+ * the allowance, the request is refused with 23, neither with a table nor with 10. With a larger
+ * allowance it gets one of these, and what it gets then stays with any larger one. The programs
+ * `plan`, `plan_table` and `fly` allow 10,000,000 tries; UINT64_MAX is more than can be made.
+ *
+ * The first 8 bytes of `tries` get the count of tries, low byte first, with every answer but 99: with
+ * 1 to 9 and 17 it is 0, with 23 the allowance, else the tries of the full search. The bytes behind
+ * them are left as they are.
+ *
+ * Answers the table's length, or refuses with 99 (fewer than 8 bytes in `tries`), then 1 to 5, 17, 6
+ * to 9, 23, 10, or 11. A buffer of BUS_TABLE_BYTES is never too short.
  */
-int32_t bus_plan(const uint8_t *request, size_t request_len, uint8_t *out, size_t out_len);
+int32_t bus_plan(const uint8_t *request, size_t request_len, uint64_t allowance, uint8_t *out,
+                 size_t out_len, uint8_t *tries, size_t tries_len);
+
+/* The count of tries in the 8 bytes that bus_plan filled. */
+static inline uint64_t bus_tries(const uint8_t *tries)
+{
+    uint64_t count = 0;
+    for (unsigned i = BUS_TRIES_BYTES; i > 0; i--)
+        count = count << 8 | tries[i - 1];
+    return count;
+}
 
 /*
  * Checks whether a table describes a plan of a request, of any frame length and not only of the
@@ -181,7 +202,8 @@ int32_t bus_one_off(const uint8_t *request, size_t request_len, const uint8_t *t
  *   20  the two requests differ in their silent ticks
  *   21  a one-off transfer of length 0, from a tick after its last, or until a tick after two cycles
  *   22  no frame has time for the one-off transfer
- *   99  a state or entries buffer is too short, or the state's mark is neither 0 nor 1
+ *   23  the search needs more tries than are allowed
+ *   99  a state, entries or tries buffer is too short, or the state's mark is neither 0 nor 1
  */
 
 #ifdef __cplusplus

@@ -7,7 +7,8 @@
  * the length lent (for the address sanitizer or valgrind), and once with each buffer flush
  * against a page that must not be touched, behind it or before it (which also catches reads
  * and writes of code that no sanitizer was compiled into). Both must give the same answer and
- * the same bytes. A refusal must leave every buffer as it was.
+ * the same bytes. A refusal must leave every buffer as it was, but for a count of tries. What
+ * planning counts is compared with a count made here.
  */
 #define _GNU_SOURCE
 #include <stdint.h>
@@ -154,7 +155,7 @@ static void make_request(bytes *b)
     put_silent_ticks(b);
 }
 
-/* ---- whether planning is short enough to be tried ---- */
+/* ---- the tries that planning makes ---- */
 
 typedef struct {
     unsigned task, number, release, slot, due;
@@ -227,8 +228,11 @@ static int read_request(const bytes *b, search *s)
             return 0;
     }
     for (unsigned i = 0; i < s->pairs; i++) {
-        s->first[i] = b->at[pairs_at + 1 + 2 * i];
-        s->second[i] = b->at[pairs_at + 2 + 2 * i];
+        unsigned first = b->at[pairs_at + 1 + 2 * i], second = b->at[pairs_at + 2 + 2 * i];
+        if (first >= second || second >= s->n || s->t[first] != s->t[second])
+            return 0;
+        s->first[i] = first;
+        s->second[i] = second;
     }
     s->count = 0;
     for (unsigned i = 0; i < s->n; i++) {
@@ -281,34 +285,41 @@ static int place_job(search *s, unsigned i)
     return 0;
 }
 
+/* Whether each window of task i holds a whole frame. */
+static int windows_hold(const search *s, unsigned i)
+{
+    unsigned common = gcd(s->f, s->t[i]), p = s->p[i] % common;
+    return 2 * s->f - (p ? p : common) <= s->d[i];
+}
+
 static int plausible(const search *s)
 {
     if (s->h % s->f || s->h / s->f > 256)
         return 0;
     for (unsigned i = 0; i < s->n; i++)
-        if (s->f < s->c[i] + s->g || 2 * s->f - gcd(s->f, s->t[i]) > s->d[i])
+        if (s->f < s->c[i] + s->g || !windows_hold(s, i))
             return 0;
     return 1;
 }
 
 enum { MOST_TRIES = 200000 };
 
-static int short_search(const bytes *request)
+/* The tries of the full search, 0 for a request refused before it; -1 if they are more than MOST_TRIES. */
+static long tries_of(const bytes *request)
 {
     static search s;
     if (!read_request(request, &s))
-        return 1;
+        return 0;
     s.tries = MOST_TRIES;
-    for (s.f = s.h; s.f > 0; s.f--) {
+    int found = 0;
+    for (s.f = s.h; s.f > 0 && !found; s.f--) {
         if (!plausible(&s))
             continue;
         s.rows = s.h / s.f;
         memset(s.load, 0, sizeof s.load);
-        int found = place_job(&s, 0);
-        if (found)
-            return found > 0;
+        found = place_job(&s, 0);
     }
-    return 1;
+    return found < 0 ? -1 : MOST_TRIES - s.tries;
 }
 
 /* ---- lent buffers ---- */
@@ -361,6 +372,7 @@ static void take_back(int where, uint8_t *at, bytes *content)
 typedef struct {
     int which;
     bytes a, b, c;
+    uint64_t allowance;
     uint8_t task;
     uint32_t ticks, from, until;
 } call;
@@ -369,7 +381,7 @@ static int32_t answer_of(const call *x, uint8_t *a, uint8_t *b, uint8_t *c)
 {
     switch (x->which) {
     case 0:
-        return bus_plan(a, x->a.len, c, x->c.len);
+        return bus_plan(a, x->a.len, x->allowance, c, x->c.len, b, x->b.len);
     case 1:
         return bus_check(a, x->a.len, b, x->b.len);
     case 2:
@@ -399,7 +411,7 @@ static int32_t made(call *x, int where)
     return answer;
 }
 
-static long calls, refused, left_out;
+static long calls, refused, cut;
 
 static void fault(const char *text, const call *x)
 {
@@ -420,6 +432,19 @@ static int all_same(const call *x, const call *y)
     return same(&x->a, &y->a) && same(&x->b, &y->b) && same(&x->c, &y->c);
 }
 
+/* The same bytes from a place on. */
+static int same_behind(const bytes *x, const bytes *y, size_t at)
+{
+    return x->len == y->len && at <= x->len && memcmp(x->at + at, y->at + at, x->len - at) == 0;
+}
+
+/* Whether a refused call changed nothing but the count of tries of planning. */
+static int left_alone(const call *x, const call *before, int32_t answer)
+{
+    size_t counted = x->which == 0 && answer != -BUS_BAD_BUFFER ? BUS_TRIES_BYTES : 0;
+    return same(&x->a, &before->a) && same_behind(&x->b, &before->b, counted) && same(&x->c, &before->c);
+}
+
 /* Makes the call on the heap and at a closed page; what the buffers hold is left in x. */
 static int32_t both(call *x)
 {
@@ -432,8 +457,11 @@ static int32_t both(call *x)
     refused += answer < 0;
     if (answer != again || !all_same(x, &second))
         fault("two runs differ", &before);
-    if (answer < 0 && !all_same(x, &before))
+    if (answer < 0 && !left_alone(x, &before, answer))
         fault("a refusal changed a buffer", &before);
+    if (answer >= 0 && x->which == 0
+        && !(same_behind(&x->b, &before.b, BUS_TRIES_BYTES) && same_behind(&x->c, &before.c, (size_t)answer)))
+        fault("bytes behind the answer were changed", &before);
     int second_is_read = x->which == 1 || x->which == 2 || x->which == 6 || x->which == 7;
     if (!same(&x->a, &before.a) || (second_is_read && !same(&x->b, &before.b)))
         fault("an input was changed", &before);
@@ -522,6 +550,53 @@ static void one_off(const bytes *request, const bytes *table)
     }
 }
 
+/* Plans with so many tries allowed in so much room: this answer, with this count of tries. */
+static void plan_as(call *x, uint64_t allowance, size_t room, int32_t answer, uint64_t count)
+{
+    x->allowance = allowance;
+    random_bytes(&x->b, BUS_TRIES_BYTES + (chance(80) ? 0 : below(20)));
+    random_bytes(&x->c, room);
+    if (both(x) != answer)
+        fault("planning gives another answer", x);
+    if (bus_tries(x->b.at) != count)
+        fault("planning counts other tries", x);
+}
+
+/* Plans a request with any number of tries allowed and in any room, and leaves its table, if it has one. */
+static void plan(const bytes *request, bytes *table)
+{
+    static call x;
+    long tries = tries_of(request);
+    x.which = 0;
+    x.a = *request;
+    x.allowance = draw();
+    random_bytes(&x.b, below(BUS_TRIES_BYTES));
+    random_bytes(&x.c, below(600));
+    if (both(&x) != -BUS_BAD_BUFFER)
+        fault("a count has no room", &x);
+    if (tries < 0) {
+        plan_as(&x, MOST_TRIES, below(600), -23, MOST_TRIES);
+        cut++;
+        return;
+    }
+    size_t room = below(5) ? 600 : below(200);
+    x.allowance = UINT64_MAX;
+    random_bytes(&x.b, BUS_TRIES_BYTES);
+    random_bytes(&x.c, room);
+    int32_t answer = both(&x);
+    if (bus_tries(x.b.at) != (uint64_t)tries)
+        fault("planning counts other tries", &x);
+    if (answer > 0) {
+        table->len = (size_t)answer;
+        memcpy(table->at, x.c.at, table->len);
+        plan_as(&x, UINT64_MAX, table->len, answer, (uint64_t)tries);
+        plan_as(&x, UINT64_MAX, table->len - 1, -11, (uint64_t)tries);
+    }
+    plan_as(&x, (uint64_t)tries, room, answer, (uint64_t)tries);
+    if (tries > 0)
+        plan_as(&x, (uint64_t)tries - 1, room, -23, (uint64_t)tries - 1);
+}
+
 /* One request, its table if it has one, and calls about both. */
 static void turn(void)
 {
@@ -534,25 +609,7 @@ static void turn(void)
     while (chance(25))
         damage(&request);
     random_bytes(&table, below(40));
-    if (short_search(&request)) {
-        x.which = 0;
-        x.a = request;
-        x.b.len = 0;
-        random_bytes(&x.c, below(5) ? 600 : below(200));
-        int32_t length = both(&x);
-        if (length > 0) {
-            table.len = (size_t)length;
-            memcpy(table.at, x.c.at, table.len);
-            random_bytes(&x.c, table.len);
-            if (both(&x) != length)
-                fault("the exact room does not do", &x);
-            random_bytes(&x.c, table.len - 1);
-            if (both(&x) != -11)
-                fault("one byte too few does", &x);
-        }
-    } else {
-        left_out++;
-    }
+    plan(&request, &table);
     for (int i = 0; i < 6; i++) {
         x.a = request;
         x.b = table;
@@ -598,7 +655,7 @@ int main(int count, char **words)
     for (long i = 0; i < turns; i++)
         turn();
     printf("%ld turns, %ld calls, each on the heap and at a closed page, %ld refused, no fault; "
-           "%ld requests not planned, as too long (above %d tries)\n",
-           turns, calls, refused, left_out, MOST_TRIES);
+           "%ld requests planned up to %d tries, since their search is longer\n",
+           turns, calls, refused, cut, MOST_TRIES);
     return 0;
 }

@@ -19,6 +19,42 @@ static void expect(const char *call, int32_t answer, int32_t expected)
     }
 }
 
+/* Plans with so many tries allowed: this answer and count, and nothing else written. */
+static void plan(const uint8_t *request, size_t len, uint64_t allowance, int32_t answer, uint64_t count)
+{
+    uint8_t table[BUS_TABLE_BYTES], tries[BUS_TRIES_BYTES + 1];
+    memset(table, 0x5A, sizeof table);
+    memset(tries, 0x5A, sizeof tries);
+    expect("bus_plan", bus_plan(request, len, allowance, table, sizeof table, tries, sizeof tries), answer);
+    expect("bus_tries", bus_tries(tries) == count, 1);
+    expect("bus_plan, behind the count", tries[BUS_TRIES_BYTES], 0x5A);
+    for (size_t i = answer < 0 ? 0 : (size_t)answer; i < sizeof table; i++)
+        expect("bus_plan, behind the table", table[i], 0x5A);
+}
+
+/* P1's search takes 5 tries, one for each job; with a silent tick 6, since one frame is passed over before the last job has no room. */
+static void limits(const uint8_t *request, size_t len, const uint8_t *silent, size_t silent_len)
+{
+    uint8_t table[BUS_TABLE_BYTES], tries[BUS_TRIES_BYTES];
+    plan(request, len, UINT64_MAX, 19, 5);
+    plan(request, len, 5, 19, 5);
+    plan(request, len, 4, -23, 4);
+    plan(request, len, 0, -23, 0);
+    plan(request, len - 1, 0, -1, 0);
+    plan(silent, silent_len, 6, -10, 6);
+    plan(silent, silent_len, 5, -23, 5);
+    memset(tries, 0x5A, sizeof tries);
+    expect("bus_plan", bus_plan(request, len, 1000, table, 18, tries, sizeof tries), -11);
+    expect("bus_tries", bus_tries(tries) == 5, 1);
+    expect("bus_plan", bus_plan(request, len, 4, table, 18, tries, sizeof tries), -23);
+    expect("bus_tries", bus_tries(tries) == 4, 1);
+    expect("bus_plan", bus_plan(request, len, 5, table, 19, tries, sizeof tries - 1), -BUS_BAD_BUFFER);
+    expect("bus_tries", bus_tries(tries) == 4, 1);
+    for (unsigned i = 0; i < sizeof tries; i++)
+        tries[i] = (uint8_t)(0x88 - 0x11 * i);
+    expect("bus_tries", bus_tries(tries) == UINT64_C(0x1122334455667788), 1);
+}
+
 int main(void)
 {
     static const uint8_t request[] = {
@@ -29,7 +65,8 @@ int main(void)
     uint8_t silent[sizeof request + 2], bad[sizeof request + 2];
     uint8_t table[BUS_TABLE_BYTES], again[BUS_TABLE_BYTES];
     uint8_t state[BUS_STATE_BYTES], entries[BUS_ENTRIES_BYTES];
-    int32_t length = bus_plan(request, sizeof request, table, sizeof table);
+    uint8_t tries[BUS_TRIES_BYTES];
+    int32_t length = bus_plan(request, sizeof request, 10000000, table, sizeof table, tries, sizeof tries);
     expect("bus_plan", length, 19);
     if (faults)
         return 1;
@@ -53,16 +90,17 @@ int main(void)
     silent[sizeof request + 1] = 1;
     memcpy(bad, silent, sizeof bad);
     bad[sizeof request + 1] = 16;
-    expect("bus_plan", bus_plan(silent, sizeof silent, again, sizeof again), -10);
+    limits(request, sizeof request, silent, sizeof silent);
+    plan(silent, sizeof silent, UINT64_MAX, -10, 6);
     expect("bus_check", bus_check(silent, sizeof silent, table, used), -14);
-    expect("bus_plan", bus_plan(bad, sizeof bad, again, sizeof again), -17);
+    plan(bad, sizeof bad, UINT64_MAX, -17, 0);
     expect("bus_check", bus_check(bad, sizeof bad, table, used), -17);
     expect("bus_rewrite", bus_rewrite(bad, sizeof bad, table, used, again, used), -17);
     expect("bus_report", bus_report(bad, sizeof bad, 2, 11, state, sizeof state), -17);
     uint8_t file[BUS_REQUEST_BYTES];
     expect("bus_join", bus_join(request, sizeof request, request, sizeof request, file, sizeof file), 50);
     expect("bus_join", file[0], 6);
-    expect("bus_plan", bus_plan(file, 50, again, sizeof again), -10);
+    plan(file, 50, UINT64_MAX, -10, 148);
     expect("bus_join", bus_join(request, sizeof request, silent, sizeof silent, file, sizeof file), -20);
     expect("bus_join", bus_join(request, sizeof request, bad, sizeof bad, file, sizeof file), -17);
     expect("bus_join", bus_join(request, sizeof request, request, sizeof request, file, 49), -11);

@@ -2,7 +2,8 @@
 
     import bus
     request = bus.read_request("examples/team.csv")
-    table = bus.plan(request)                  # or bus.Refused, with number, words and advice
+    table = bus.plan(request)                  # or bus.Refused, with number, words, advice and tries
+    table = bus.plan(request, tries=10**9)     # a longer search than bus.TRIES tries; table.tries were made
     print(bus.listing(request, table))
     flight = bus.Dispatcher(table, request)
     flight.next_frame(), flight.report(0, 9), flight.counts
@@ -19,7 +20,7 @@ from .lists import ListFaults
 from .picture import picture
 from .refusals import Refused
 from .request import Job, Request, Task
-from .search import SearchEnded
+from .search import TRIES, SearchEnded
 from .sources import read_request
 from .table import Entry, Table
 from .text import c_array, flight, listing
@@ -37,6 +38,7 @@ __all__ = [
     "Request",
     "SearchEnded",
     "Served",
+    "TRIES",
     "Table",
     "Task",
     "c_array",

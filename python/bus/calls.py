@@ -4,6 +4,7 @@ A request may be given as a record, as bytes, or as the path of a list or a requ
 or as the path of a table file.
 """
 
+from dataclasses import replace
 from typing import NamedTuple
 
 from . import explain, library, search, table as tables
@@ -36,13 +37,23 @@ def _refused(number, request, table=b""):
     return Refused(number, explain.of_bytes(number, bytes(request)) or explain.of_request(number, request))
 
 
-def plan(request, tell=None):
-    """The chosen table of a request. `tell` is called once if the search takes longer than a second."""
+def plan(request, tries=search.TRIES, tell=None):
+    """The chosen table of a request; its `tries` are those that the search made, as those of a refusal are.
+
+    Where more than `tries` are needed the refusal is 23. `tell` is called about once a second of a long search, with
+    about how many tries are used, or None while that is not known.
+    """
+    if not 0 <= tries <= library.MOST_TRIES:
+        raise ValueError(f"the tries that are allowed are a number from 0 to {library.MOST_TRIES}")
     data, request = given(request)
-    answer, table = search.plan(data, tell=tell)
+    answer, count, table = search.plan(data, tries, tell)
+    if answer == -search.ENDED:
+        raise Refused(search.ENDED, explain.of_search(request, tries), tries=count)
     if answer < 0:
-        raise _refused(-answer, request)
-    return tables.decode(table)
+        refused = _refused(-answer, request)
+        refused.tries = count
+        raise refused
+    return replace(tables.decode(table), tries=count)
 
 
 def _checked(request, table):

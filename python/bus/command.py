@@ -6,9 +6,10 @@ import signal
 import sys
 import traceback
 
-from . import calls, files, library, lists
+from . import calls, files, library, lists, search
 from .join import join
 from .picture import picture
+from .progress import Progress
 from .refusals import Refused
 from .search import SearchEnded
 from .sources import read_request
@@ -39,10 +40,6 @@ def _say(text):
     library.tell(text.replace("\n", "\n     "))
 
 
-def _searching():
-    _say("searching for a plan; Ctrl-C stops it, and nothing is written before it ends")
-
-
 def _real(paths):
     return [os.path.realpath(path) for path in paths if not path.startswith("/dev/")]
 
@@ -57,10 +54,15 @@ def _look_ahead(sources, *outputs):
         files.probe(path)
 
 
+def _planned(source, tries):
+    with Progress(tries) as progress:
+        return calls.plan(source, tries, tell=progress)
+
+
 def _plan(arguments):
     source = files.read(arguments.list)
     _look_ahead([arguments.list], arguments.output, arguments.svg)
-    table = calls.plan(source, tell=_searching)
+    table = _planned(source, arguments.tries)
     request = read_request(source)
     if arguments.svg is not None:
         title = "Bus table" if arguments.list == "-" else os.path.basename(arguments.list)
@@ -76,9 +78,11 @@ def _check(arguments):
 
 
 def _fly(arguments):
+    if None not in (arguments.table, arguments.tries):
+        raise WrongUse("with a table nothing is searched: leave out the table or --tries")
     source = files.read(arguments.list)
     if arguments.table is None:
-        table = calls.plan(source, tell=_searching)
+        table = _planned(source, search.TRIES if arguments.tries is None else arguments.tries)
     else:
         table = calls.check(source, files.read(arguments.table))
     files.print_out(flight(read_request(source), table, arguments.cycles))
@@ -144,6 +148,12 @@ def _ticks(text):
     return int(text)
 
 
+def _tries(text):
+    if not (text.isascii() and text.isdigit() and len(text) <= 20 and int(text) <= library.MOST_TRIES):
+        raise argparse.ArgumentTypeError(f"{text!r} is no number from 0 to {library.MOST_TRIES}")
+    return int(text)
+
+
 def _subcommand(group, name, run, help, example, metavar="LIST"):
     epilog = f"example:\n{example}\n\n{STATUS}"
     layout = argparse.RawDescriptionHelpFormatter
@@ -169,11 +179,14 @@ def _parser():
         _plan,
         "plans a list and prints its table with names",
         "  bus plan examples/team.csv -o team.table --svg team.svg\n"
-        "  bus plan examples/team.csv --c team_table > team.c",
+        "  bus plan examples/team.csv --c team_table > team.c\n"
+        "  bus plan examples/long-search.req --tries 200000000",
     )
     plan.add_argument("-o", dest="output", metavar="TABLE", help="write the table file")
     plan.add_argument("--c", metavar="NAME", type=_c_name, help="print the table as a C array in place of the listing")
     plan.add_argument("--svg", metavar="FILE", help="write the picture")
+    allowed = f"how many tries the search may make ({search.TRIES})"
+    plan.add_argument("--tries", metavar="N", type=_tries, default=search.TRIES, help=allowed)
 
     check = _subcommand(
         group,
@@ -193,6 +206,7 @@ def _parser():
     )
     fly.add_argument("table", metavar="TABLE", nargs="?", help="a table file; without one the list is planned")
     fly.add_argument("--cycles", metavar="N", type=_cycles, default=3, help="how many cycles (3)")
+    fly.add_argument("--tries", metavar="N", type=_tries, help=allowed)
 
     convert = _subcommand(
         group,

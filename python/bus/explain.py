@@ -105,6 +105,27 @@ def of_request(number, request):
     return about[number](request) if number in about else ""
 
 
+def _alike(request):
+    """Of the transfers in no pair the most that have the same numbers, in the order of the list."""
+    paired = {number for pair in request.pairs for number in pair}
+    groups = {}
+    for number, task in enumerate(request.tasks):
+        if number not in paired:
+            groups.setdefault((task.length, task.period, task.deadline, task.phase), []).append(number)
+    return max(groups.values(), key=len, default=[])
+
+
+def of_search(request, allowed):
+    """About a search that needs more tries than these: 23."""
+    said = f"{allowed:,} tries are allowed"
+    alike = _alike(request)
+    if len(alike) < 2:
+        return said
+    named = [request.place(number) for number in alike[:MOST_NAMED]]
+    more = f" and {len(alike) - MOST_NAMED} more" if len(alike) > MOST_NAMED else ""
+    return f"{said}; alike are {', '.join(named)}{more}"
+
+
 def of_two(number, first, second):
     """About two requests that cannot be joined: 18 to 20."""
     counts = {

@@ -21,10 +21,14 @@ LOG = SHARED.with_name("build.log")
 # As in include/bus.h.
 STATE_BYTES = 64
 ENTRIES_BYTES = 32
+TRIES_BYTES = 8
 TABLE_BYTES = 519
 
 # The longest request: 16 tasks, 16 pairs and silent ticks.
 REQUEST_BYTES = 164
+
+# The most tries that can be allowed.
+MOST_TRIES = 2**64 - 1
 
 # No request has so many tasks, so a report on this one tells whether the bytes can be read, and nothing else.
 NO_TASK = 255
@@ -114,10 +118,13 @@ def load():
             build()
         loaded = ctypes.CDLL(path or str(SHARED))
         pointer, size = ctypes.c_char_p, ctypes.c_size_t
-        counts = {"plan": 2, "check": 2, "rewrite": 3, "join": 3, "fresh": 1, "next_frame": 3}
+        counts = {"check": 2, "rewrite": 3, "join": 3, "fresh": 1, "next_frame": 3}
         for name, buffers in counts.items():
             call = getattr(loaded, f"bus_{name}")
             call.argtypes, call.restype = [pointer, size] * buffers, ctypes.c_int32
+        planning = loaded.bus_plan
+        planning.argtypes = [pointer, size, ctypes.c_uint64, pointer, size, pointer, size]
+        planning.restype = ctypes.c_int32
         report = loaded.bus_report
         report.argtypes = [pointer, size, ctypes.c_uint8, ctypes.c_uint32, pointer, size]
         report.restype = ctypes.c_int32
@@ -134,11 +141,11 @@ def _lent(content, length):
     return ctypes.create_string_buffer(bytes(content), length)
 
 
-def plan(request):
-    """The answer and the table's bytes. The search may be long: search.py makes this call where it can be stopped."""
-    out = _lent(b"", TABLE_BYTES)
-    answer = load().bus_plan(request, len(request), out, TABLE_BYTES)
-    return answer, out.raw[: max(answer, 0)]
+def plan(request, allowance):
+    """The answer, the count of tries and the table's bytes. search.py makes this call where it can be stopped."""
+    out, tries = _lent(b"", TABLE_BYTES), _lent(b"", TRIES_BYTES)
+    answer = load().bus_plan(request, len(request), allowance, out, TABLE_BYTES, tries, TRIES_BYTES)
+    return answer, int.from_bytes(tries.raw, "little"), out.raw[: max(answer, 0)]
 
 
 def check(request, table):

@@ -97,6 +97,12 @@ REFUSALS = {
         "ask for a longer time or a shorter transfer, or send it in parts, each asked for from the end of the frame"
         " before; where a whole cycle has no frame for it, no other has: plan with less load",
     ),
+    23: (
+        "the search needs more tries than are allowed; whether there is a plan is not known",
+        "allow more, in the command by `--tries N`; or make the search shorter: put transfers that are alike, with the"
+        " same C, T, D and P and in no other pair, in order by pairs, down the list, which changes no table; or ask for"
+        " less load",
+    ),
 }
 
 UNKNOWN = ("a number that this command has no words for", "look it up in docs/FORMATS.md")
@@ -105,15 +111,16 @@ UNKNOWN = ("a number that this command has no words for", "look it up in docs/FO
 class Refused(Exception):
     """The library refused: its number, the number's words, what can be done, and what in the list it speaks of.
 
-    `source` names the list or table where there are two.
+    `source` names the list or table where there are two. `tries` has the tries that planning made.
     """
 
-    def __init__(self, number, about="", source=""):
+    def __init__(self, number, about="", source="", tries=0):
         self.number = number
         self.words, self.advice = REFUSALS.get(number, UNKNOWN)
         self.about = about
         self.source = source
-        super().__init__(number, about, source)
+        self.tries = tries
+        super().__init__(number, about, source, tries)
 
     def __str__(self):
         source = f"{self.source}: " if self.source else ""

@@ -1,7 +1,7 @@
 """A table as records, and its bytes as docs/FORMATS.md has them. Only conversion: the library judges."""
 
 import struct
-from dataclasses import dataclass
+from dataclasses import dataclass, field
 from typing import NamedTuple
 
 from . import library
@@ -20,11 +20,15 @@ class Entry(NamedTuple):
 
 @dataclass(frozen=True)
 class Table:
-    """The frame length, the cycle and the rows, each a tuple of entries."""
+    """The frame length, the cycle and the rows, each a tuple of entries.
+
+    `tries` has the tries of the search that found the table; a table that was read has none.
+    """
 
     frame: int
     cycle: int
     rows: tuple
+    tries: int = field(default=0, compare=False, repr=False)
 
     def __bytes__(self):
         rows = b"".join(bytes([len(row)]) + b"".join(map(_entry_bytes, row)) for row in self.rows)

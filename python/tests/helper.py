@@ -26,7 +26,7 @@ def request(*tasks, pairs=(), silent=0):
 
 
 def pigeons(count):
-    """So many jobs that fill a frame each, and a frame too few: the search is long from 13 on, without end from 16."""
+    """So many jobs that fill a frame each, and a frame too few: the search is long from 11 on, without end from 16."""
     return request(*[(13, 13 * (count - 1), 13 * (count - 1), 0)] * count)
 
 

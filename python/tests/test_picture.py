@@ -112,7 +112,7 @@ class Judge(Case):
 class Pictures(Judge):
     def planned(self, source):
         wanted = bus.read_request(source)
-        return self.drawn(wanted, bus.plan(wanted))
+        return self.drawn(wanted, bus.plan(wanted, tries=100_000_000))
 
     def test_sheet(self):
         for name in ("team.csv", "p1.req", "p3.req", "p6.req", "p7.req", "p8.req", "p9.req", "p12.req"):

@@ -6,6 +6,7 @@ import subprocess
 import time
 
 import bus
+from bus.library import MOST_TRIES
 from tests.helper import COMMAND, Case, pigeons
 
 
@@ -32,7 +33,8 @@ class Searches(Case):
     def start(self):
         """A search without end, begun; the process and that of its search."""
         source = self.file("long.req", bytes(pigeons(16)))
-        words = ["plan", source, "-o", str(self.folder / "table"), "--svg", str(self.folder / "svg")]
+        words = ["plan", source, "--tries", str(MOST_TRIES)]
+        words += ["-o", str(self.folder / "table"), "--svg", str(self.folder / "svg")]
         started = subprocess.Popen(
             [*COMMAND, *words], stdout=subprocess.PIPE, stderr=subprocess.PIPE, preexec_fn=as_from_a_terminal
         )
@@ -77,11 +79,11 @@ class Searches(Case):
         self.addCleanup(signal.signal, signal.SIGALRM, old)
         signal.setitimer(signal.ITIMER_REAL, 0.3)
         with self.assertRaises(KeyboardInterrupt):
-            bus.plan(pigeons(16))
+            bus.plan(pigeons(16), tries=MOST_TRIES)
         self.assertEqual(children(os.getpid()), [])
 
-    def test_told_once_if_long(self):
+    def test_told_only_if_long(self):
         told = []
-        with self.assertRaises(bus.Refused):
-            bus.plan(pigeons(4), tell=lambda: told.append(1))
+        self.refused(10, lambda: bus.plan(pigeons(4), tell=told.append))
+        self.refused(23, lambda: bus.plan(pigeons(16), tries=2 * bus.TRIES, tell=told.append))
         self.assertEqual(told, [])

@@ -1,17 +1,19 @@
 //! Answers of the reference as text, stored for the tests of other languages: for each request what
 //! is read from it, its plan, the check of some tables, and a flight with reports; or the frames for
-//! one-off transfers.
+//! one-off transfers; or its plan with several numbers of tries allowed.
 //!
 //! A line is a question with its answer behind it, words apart by single blanks, bytes in
 //! hexadecimal, no bytes as `-`. Stored text can be answered anew, whatever its answers were.
 
-use crate::bus::{Asked, Bus, ENTRIES_LEN, STATE_LEN};
+use crate::bus::{Asked, Bus, ENTRIES_LEN, STATE_LEN, TRIES_LEN};
+use crate::exact;
 use crate::generate;
 use crate::one_off;
 use crate::random::Random;
 use crate::reference::request::{self, Request};
 use crate::reference::{planned, tries_within, Reference};
-use crate::rounds::MOST_TRIES;
+use crate::rounds::{allowances, MOST_TRIES};
+use crate::sheet;
 
 const TABLES_OF_A_REQUEST: usize = 4;
 const CALLS_OF_A_FLIGHT: usize = 24;
@@ -50,6 +52,15 @@ fn fields(read: &Result<Request, i32>) -> String {
     format!("{all}silent {}", request.g)
 }
 
+/// The answer, the count of tries and the table, with so many tries allowed.
+fn within(request: &[u8], allowance: u64) -> String {
+    let (mut table, mut tries) = (vec![0; LONGEST_TABLE], [0; TRIES_LEN]);
+    let answer = Reference.plan(request, allowance, &mut table, &mut tries);
+    table.truncate(answer.max(0) as usize);
+    let count = u64::from_le_bytes(tries);
+    format!("{answer} {count} {}", in_hex(&table))
+}
+
 /// The answers about one request, and the flight that its lines make.
 struct Answerer {
     request: Vec<u8>,
@@ -62,19 +73,18 @@ impl Answerer {
     fn new(request: Vec<u8>) -> Answerer {
         let mut state = vec![0; STATE_LEN];
         Reference.fresh(&mut state);
-        let mut table = vec![0; LONGEST_TABLE];
-        let length = Reference.plan(&request, &mut table);
-        table.truncate(length.max(0) as usize);
         Answerer {
             request,
-            table,
+            table: Vec::new(),
             state,
             counts: [0; 16],
         }
     }
 
-    fn plan(&self) -> String {
-        let answer = Reference.plan(&self.request, &mut [0; LONGEST_TABLE]);
+    fn plan(&mut self) -> String {
+        self.table.resize(LONGEST_TABLE, 0);
+        let answer = Reference.plan_freely(&self.request, &mut self.table);
+        self.table.truncate(answer.max(0) as usize);
         format!("{answer} {}", in_hex(&self.table))
     }
 
@@ -125,6 +135,7 @@ pub fn answered(text: &str) -> String {
                 fields(&request::read(&about.request))
             }
             "plan" => about.plan(),
+            "within" => within(&about.request, number(words[1])),
             "check" => Reference
                 .check(&about.request, &from_hex(words[1]))
                 .to_string(),
@@ -134,7 +145,7 @@ pub fn answered(text: &str) -> String {
             other => panic!("no question is called {other}"),
         };
         let asked = match words[0] {
-            "request" | "check" => 2,
+            "request" | "check" | "within" => 2,
             "report" => 3,
             "one-off" => 5,
             _ => 1,
@@ -175,6 +186,34 @@ fn some_report(rng: &mut Random, bytes: &[u8]) -> String {
     let c = bytes.get(1 + 8 * task).map_or(5, |byte| u32::from(*byte));
     let ticks = rng.pick(&[0, c, c + 1, c + 1, c + 256, u32::MAX]);
     format!("report {task} {ticks}\n")
+}
+
+/// Planning of so many requests that are searched, of some others and of some with a long search,
+/// with several numbers of tries allowed.
+pub fn drawn_tries(seed: u64, requests: usize) -> String {
+    let mut rng = Random::new(seed);
+    let mut all = Vec::new();
+    while all.len() < requests {
+        let bytes = generate::valid_bytes(&mut rng);
+        if tries_within(&bytes, 0).is_none() {
+            all.push(bytes);
+        }
+    }
+    all.extend((0..requests / 3).map(|_| generate::request_bytes(&mut rng)));
+    all.extend([exact::planned_after(20_000), exact::refused_after(20_000)]);
+    all.extend([sheet::pigeons(11, 10, 0), sheet::pigeons(16, 15, 0)]);
+    let mut text = String::new();
+    for bytes in all {
+        text.push_str(&format!("request {}\n", in_hex(&bytes)));
+        let allowed = match tries_within(&bytes, MOST_TRIES) {
+            Some(full) => allowances(full),
+            None => vec![0, 1, rng.below(MOST_TRIES as usize) as u64, MOST_TRIES],
+        };
+        for allowance in allowed {
+            text.push_str(&format!("within {allowance}\n"));
+        }
+    }
+    answered(&text)
 }
 
 /// Questions about so many requests, with or without a third section, and their answers.

@@ -10,7 +10,9 @@ pub const STATE_USED: usize = 35;
 pub const TASKS: usize = 16;
 /// Bytes of the 16 places for served entries.
 pub const ENTRIES_LEN: usize = 32;
-/// Refusal of a state or entries buffer that is too short, or of a mark that is not 0 or 1.
+/// Bytes of a count of tries.
+pub const TRIES_LEN: usize = 8;
+/// Refusal of a state, entries or tries buffer that is too short, or of a mark that is not 0 or 1.
 pub const NOT_A_STATE: i32 = 99;
 
 /// Where the count of a task stands in a state.
@@ -36,8 +38,9 @@ pub struct Asked {
 
 /// An answer below 0 is a refusal, its number negated.
 pub trait Bus {
-    /// The length of the table written to the front of `out`.
-    fn plan(&self, request: &[u8], out: &mut [u8]) -> i32;
+    /// The length of the table written to the front of `out`, if so many tries are enough; the first
+    /// 8 bytes of `tries` get the count of tries, whatever the answer is but 99.
+    fn plan(&self, request: &[u8], allowance: u64, out: &mut [u8], tries: &mut [u8]) -> i32;
     /// 0 if the table describes a plan of the request.
     fn check(&self, request: &[u8], table: &[u8]) -> i32;
     /// The length of the table written to the front of `out`.
@@ -52,4 +55,9 @@ pub trait Bus {
     fn join(&self, first: &[u8], second: &[u8], out: &mut [u8]) -> i32;
     /// The earliest frame, counted from time 0, with time for the transfer.
     fn one_off(&self, request: &[u8], table: &[u8], asked: Asked) -> i32;
+
+    /// The answer of `plan` with every try allowed; the count is left aside.
+    fn plan_freely(&self, request: &[u8], out: &mut [u8]) -> i32 {
+        self.plan(request, u64::MAX, out, &mut [0; TRIES_LEN])
+    }
 }

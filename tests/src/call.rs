@@ -2,7 +2,7 @@
 
 use std::ops::Range;
 
-use crate::bus::{count_bytes, Asked, Bus, ENTRIES_LEN, STATE_LEN};
+use crate::bus::{count_bytes, Asked, Bus, ENTRIES_LEN, NOT_A_STATE, STATE_LEN, TRIES_LEN};
 use crate::reference::Reference;
 
 /// A call and the content of its buffers before it.
@@ -10,7 +10,9 @@ use crate::reference::Reference;
 pub enum Call {
     Plan {
         request: Vec<u8>,
+        allowance: u64,
         out: Vec<u8>,
+        tries: Vec<u8>,
     },
     Check {
         request: Vec<u8>,
@@ -72,9 +74,8 @@ impl Call {
     fn writable(&self) -> Vec<&Vec<u8>> {
         match self {
             Call::Check { .. } | Call::OneOff { .. } => vec![],
-            Call::Plan { out, .. } | Call::Rewrite { out, .. } | Call::Join { out, .. } => {
-                vec![out]
-            }
+            Call::Plan { out, tries, .. } => vec![out, tries],
+            Call::Rewrite { out, .. } | Call::Join { out, .. } => vec![out],
             Call::Fresh { state } | Call::Report { state, .. } => vec![state],
             Call::NextFrame { state, entries, .. } => vec![state, entries],
         }
@@ -83,9 +84,17 @@ impl Call {
     /// The call in one line, bytes in hexadecimal.
     pub fn describe(&self) -> String {
         match self {
-            Call::Plan { request, out } => {
-                format!("plan request [{}] room {}", hex(request), out.len())
-            }
+            Call::Plan {
+                request,
+                allowance,
+                out,
+                tries,
+            } => format!(
+                "plan request [{}] allowance {allowance} room {} tries of {} bytes",
+                hex(request),
+                out.len(),
+                tries.len()
+            ),
             Call::Check { request, table } => {
                 format!("check request [{}] table [{}]", hex(request), hex(table))
             }
@@ -206,10 +215,21 @@ fn outcome(answer: i32, read: &[(&Lent, &[u8])], written: &[&Lent]) -> Result<Ou
 /// Runs the call; an error if anything outside the buffers it may write was changed.
 pub fn run(bus: &dyn Bus, call: &Call) -> Result<Outcome, String> {
     match call {
-        Call::Plan { request, out } => {
-            let (input, mut buffer) = (Lent::of(request), Lent::of(out));
-            let answer = bus.plan(input.bytes(), buffer.bytes_mut());
-            outcome(answer, &[(&input, request)], &[&buffer])
+        Call::Plan {
+            request,
+            allowance,
+            out,
+            tries,
+        } => {
+            let input = Lent::of(request);
+            let (mut table, mut count) = (Lent::of(out), Lent::of(tries));
+            let answer = bus.plan(
+                input.bytes(),
+                *allowance,
+                table.bytes_mut(),
+                count.bytes_mut(),
+            );
+            outcome(answer, &[(&input, request)], &[&table, &count])
         }
         Call::Check { request, table } => {
             let (first, second) = (Lent::of(request), Lent::of(table));
@@ -271,11 +291,10 @@ pub fn run(bus: &dyn Bus, call: &Call) -> Result<Outcome, String> {
 
 /// Which bytes of each writable buffer an answered call may change: next-frame no count, a report
 /// none but its own task's.
-fn may_write(call: &Call, answer: i32) -> Vec<Range<usize>> {
+fn answer_in(call: &Call, answer: i32) -> Vec<Range<usize>> {
     match call {
-        Call::Plan { .. } | Call::Rewrite { .. } | Call::Join { .. } => {
-            vec![0..answer as usize]
-        }
+        Call::Plan { .. } => vec![0..answer as usize, 0..TRIES_LEN],
+        Call::Rewrite { .. } | Call::Join { .. } => vec![0..answer as usize],
         Call::Check { .. } | Call::OneOff { .. } => vec![],
         Call::Fresh { .. } => vec![0..STATE_LEN],
         Call::NextFrame { .. } => vec![0..3, 0..ENTRIES_LEN],
@@ -283,19 +302,22 @@ fn may_write(call: &Call, answer: i32) -> Vec<Range<usize>> {
     }
 }
 
-/// A refusal changes nothing; an answer leaves what lies beside its own bytes.
+/// The same of a refused call: none, but that planning counts its tries, unless it has no room to.
+fn refusal_in(call: &Call, answer: i32) -> Vec<Range<usize>> {
+    match call {
+        Call::Plan { .. } if answer != -NOT_A_STATE => vec![0..0, 0..TRIES_LEN],
+        _ => vec![0..0; call.writable().len()],
+    }
+}
+
+/// A refusal changes nothing but a count of tries; an answer leaves what lies beside its own bytes.
 fn keeps_the_rest(call: &Call, outcome: &Outcome) -> Result<(), String> {
     let before = call.writable();
-    if outcome.answer < 0 {
-        let same = before
-            .iter()
-            .zip(&outcome.buffers)
-            .all(|(old, new)| *old == new);
-        return same
-            .then_some(())
-            .ok_or_else(|| "a refusal changed a buffer".to_string());
-    }
-    let parts = may_write(call, outcome.answer);
+    let parts = if outcome.answer < 0 {
+        refusal_in(call, outcome.answer)
+    } else {
+        answer_in(call, outcome.answer)
+    };
     for ((old, new), part) in before.iter().zip(&outcome.buffers).zip(parts) {
         if part.end > new.len() {
             return Err("the answer is longer than the buffer".to_string());

@@ -88,10 +88,12 @@ pub fn round(comparison: &mut Comparison) -> Result<(), String> {
     let Ok(request) = whole else {
         return Ok(());
     };
-    if tries_within(&request, MOST_TRIES).is_none() {
-        comparison.tally.left_out += 1;
-        return Ok(());
-    }
-    let out = comparison.buffer(600);
-    comparison.same(&Call::Plan { request, out }).map(|_| ())
+    let allowance = match tries_within(&request, MOST_TRIES) {
+        Some(_) => u64::MAX,
+        None => {
+            comparison.tally.left_out += 1;
+            MOST_TRIES
+        }
+    };
+    comparison.plan(&request, allowance, 600)
 }

@@ -5,6 +5,7 @@ pub mod answers;
 pub mod bus;
 pub mod call;
 pub mod clock;
+pub mod exact;
 pub mod generate;
 pub mod hard;
 pub mod joining;

@@ -7,8 +7,11 @@ mod exports {
         pub fn bus_plan(
             request: *const u8,
             request_len: usize,
+            allowance: u64,
             out: *mut u8,
             out_len: usize,
+            tries: *mut u8,
+            tries_len: usize,
         ) -> i32;
         pub fn bus_check(
             request: *const u8,
@@ -67,8 +70,18 @@ pub struct Library;
 // Every pointer below comes with the length of the slice it was taken from, and the library
 // asks for nothing else.
 impl Bus for Library {
-    fn plan(&self, request: &[u8], out: &mut [u8]) -> i32 {
-        unsafe { exports::bus_plan(request.as_ptr(), request.len(), out.as_mut_ptr(), out.len()) }
+    fn plan(&self, request: &[u8], allowance: u64, out: &mut [u8], tries: &mut [u8]) -> i32 {
+        unsafe {
+            exports::bus_plan(
+                request.as_ptr(),
+                request.len(),
+                allowance,
+                out.as_mut_ptr(),
+                out.len(),
+                tries.as_mut_ptr(),
+                tries.len(),
+            )
+        }
     }
 
     fn check(&self, request: &[u8], table: &[u8]) -> i32 {

@@ -1,6 +1,7 @@
 //! A plain Rust version of the calls that are measured: the same search as the library's
 //! (jobs in planning order, frames from the earliest, a kept load for each row, order bounds
-//! from the jobs already placed), with nothing proved and nothing allocated.
+//! from the jobs already placed, one try taken off what is allowed before each test), with nothing
+//! proved and nothing allocated.
 
 const MOST_TASKS: usize = 16;
 const MOST_PAIRS: usize = 16;
@@ -276,8 +277,9 @@ struct Search<'a> {
     place: [u16; MOST_JOBS],
     load: [u16; MOST_ROWS],
     partners: &'a Partners,
-    effort: Effort,
-    allowed: u64,
+    /// The tries that are still allowed.
+    left: u64,
+    placings: u64,
 }
 
 /// What a search takes: tests of a job in a frame, and how many of them placed the job.
@@ -285,6 +287,14 @@ struct Search<'a> {
 pub struct Effort {
     pub tries: u64,
     pub placings: u64,
+}
+
+/// How the search for one length went: one more try than allowed would be needed, or not.
+#[derive(Clone, Copy, PartialEq, Eq)]
+enum Went {
+    Placed,
+    NoPlan,
+    Ended,
 }
 
 impl Search<'_> {
@@ -304,37 +314,36 @@ impl Search<'_> {
         (low, high)
     }
 
-    fn place_job<const COUNT: bool>(&mut self, i: usize) -> bool {
+    /// Places job i and those after it; with PLACINGS those that were tried are counted as well.
+    fn place_job<const PLACINGS: bool>(&mut self, i: usize) -> Went {
         if i == self.count {
-            return true;
+            return Went::Placed;
         }
         let (low, high) = self.order_bounds(i);
         let cost = self.cost[i];
         let mut k = self.first[i];
         while k < self.last[i] {
-            if COUNT {
-                if self.effort.tries >= self.allowed {
-                    self.effort.tries = u64::MAX;
-                    return true;
-                }
-                self.effort.tries += 1;
+            if self.left == 0 {
+                return Went::Ended;
             }
+            self.left -= 1;
             let row = usize::from(k % self.rows);
             let load = self.load[row];
             if load <= self.f - cost && low <= k && k <= high {
                 self.load[row] = load + cost;
                 self.place[i] = k;
-                if COUNT {
-                    self.effort.placings += 1;
+                if PLACINGS {
+                    self.placings += 1;
                 }
-                if self.place_job::<COUNT>(i + 1) {
-                    return true;
+                let went = self.place_job::<PLACINGS>(i + 1);
+                if went != Went::NoPlan {
+                    return went;
                 }
                 self.load[row] = load;
             }
             k += 1;
         }
-        false
+        Went::NoPlan
     }
 }
 
@@ -356,8 +365,8 @@ fn search<'a>(cycle: &Cycle, partners: &'a Partners, f: u16) -> Search<'a> {
         place: [0; MOST_JOBS],
         load: [0; MOST_ROWS],
         partners,
-        effort: Effort::default(),
-        allowed: 0,
+        left: 0,
+        placings: 0,
     };
     for (i, job) in cycle.jobs().iter().enumerate() {
         let task = &cycle.request.tasks[usize::from(job.task)];
@@ -372,11 +381,10 @@ struct Plan {
     place: [u16; MOST_JOBS],
 }
 
-/// The chosen plan, 9 or 10. When counting, `effort` becomes that of all lengths, with the largest
-/// number of tries if more than `allowed` would be needed.
-fn choose<const COUNT: bool>(
+/// The chosen plan, 9, 10 or 23; `effort` becomes that of all lengths.
+fn choose<const PLACINGS: bool>(
     cycle: &Cycle,
-    allowed: u64,
+    allowance: u64,
     effort: &mut Effort,
 ) -> Result<Plan, i32> {
     let partners = partners(cycle);
@@ -386,14 +394,16 @@ fn choose<const COUNT: bool>(
         if plausible(cycle, f) {
             some = true;
             let mut search = search(cycle, &partners, f);
-            (search.effort, search.allowed) = (*effort, allowed);
-            let found = search.place_job::<COUNT>(0);
-            *effort = search.effort;
-            if found {
-                return Ok(Plan {
-                    f,
-                    place: search.place,
-                });
+            (search.left, search.placings) = (allowance - effort.tries, effort.placings);
+            let went = search.place_job::<PLACINGS>(0);
+            (effort.tries, effort.placings) = (allowance - search.left, search.placings);
+            match went {
+                Went::Placed => {
+                    let place = search.place;
+                    return Ok(Plan { f, place });
+                }
+                Went::Ended => return Err(23),
+                Went::NoPlan => {}
             }
         }
         f -= 1;
@@ -442,22 +452,25 @@ fn answer(result: Result<i32, i32>) -> i32 {
     }
 }
 
-/// The length of the chosen table, or a refusal.
-pub fn plan(request: &[u8], out: &mut [u8]) -> i32 {
+/// The length of the chosen table, or a refusal; and the count of tries.
+pub fn plan(request: &[u8], allowance: u64, out: &mut [u8], tries: &mut [u8]) -> i32 {
+    let Some(count) = tries.first_chunk_mut() else {
+        return -99;
+    };
+    let mut effort = Effort::default();
     let planned = cycle(request).and_then(|cycle| {
-        let plan = choose::<false>(&cycle, 0, &mut Effort::default())?;
+        let plan = choose::<false>(&cycle, allowance, &mut effort)?;
         write(&cycle, &plan, out)
     });
+    *count = effort.tries.to_le_bytes();
     answer(planned)
 }
 
 /// What planning takes, if at most `allowed` tries.
 pub fn effort_within(request: &[u8], allowed: u64) -> Option<Effort> {
     let mut effort = Effort::default();
-    if let Ok(cycle) = cycle(request) {
-        let _ = choose::<true>(&cycle, allowed, &mut effort);
-    }
-    (effort.tries <= allowed).then_some(effort)
+    let planned = cycle(request).and_then(|cycle| choose::<true>(&cycle, allowed, &mut effort));
+    (planned.err() != Some(23)).then_some(effort)
 }
 
 /// How many tests of a job in a frame planning makes, if at most `allowed`.

@@ -2,15 +2,23 @@
 
 use std::collections::BTreeMap;
 
-use crate::bus::{count_bytes, Bus, ENTRIES_LEN, STATE_LEN, STATE_USED, TASKS};
+use crate::bus::{count_bytes, Bus, ENTRIES_LEN, STATE_LEN, STATE_USED, TASKS, TRIES_LEN};
 use crate::call::{compare, Call, Outcome};
 use crate::generate;
 use crate::random::Random;
 use crate::reference::table::{encode, Table};
 use crate::reference::{planned, tries_within};
 
-/// Requests that need more tries than this are left out: both sides would take too long.
+/// Requests that need more tries than this are planned with no more allowed: both sides would take
+/// too long.
 pub const MOST_TRIES: u64 = 30_000;
+
+/// Allowances about the tries that the full search makes, and some that are the same in fewer bits.
+pub fn allowances(full: u64) -> Vec<u64> {
+    let about = [full.saturating_sub(1), full, full + 1];
+    let high = [1 << 16, 1 << 32, u64::MAX];
+    [&[0, 1], &about[..], &high[..]].concat()
+}
 
 const NAMES: [&str; 8] = [
     "plan",
@@ -46,7 +54,7 @@ impl Tally {
     /// One line for each call: its answers and how often each was given.
     pub fn summary(&self) -> String {
         let mut text = format!(
-            "{} requests, {} more left out as too long, {} calls\n",
+            "{} requests, {} more with a search too long for its end, {} calls\n",
             self.requests, self.left_out, self.calls
         );
         for name in NAMES {
@@ -94,13 +102,13 @@ impl<'a> Comparison<'a> {
 
     pub fn round(&mut self) -> Result<(), String> {
         let request = generate::request_bytes(&mut self.rng);
-        if tries_within(&request, MOST_TRIES).is_none() {
+        let Some(full) = tries_within(&request, MOST_TRIES) else {
             self.tally.left_out += 1;
-            return Ok(());
-        }
+            return self.ended(&request);
+        };
         self.tally.requests += 1;
         let chosen = planned(&request).ok();
-        self.plans(&request, chosen.as_ref())?;
+        self.plans(&request, chosen.as_ref(), full)?;
         let pool = generate::table_pool(&mut self.rng, &request, chosen.as_ref(), MOST_TRIES);
         self.checks(&request, &pool)?;
         self.call_list(&request, &pool)
@@ -117,14 +125,49 @@ impl<'a> Comparison<'a> {
         vec![length.saturating_sub(1), length, longer, any]
     }
 
-    fn plans(&mut self, request: &[u8], chosen: Option<&Table>) -> Result<(), String> {
+    /// Plans with so many tries allowed and so much room for the table. The buffer of the count is now
+    /// and then longer than it need be, or too short.
+    pub(crate) fn plan(
+        &mut self,
+        request: &[u8],
+        allowance: u64,
+        room: usize,
+    ) -> Result<(), String> {
+        let length = match self.rng.below(16) {
+            0 => self.rng.below(TRIES_LEN),
+            1..=3 => TRIES_LEN + 1 + self.rng.below(20),
+            _ => TRIES_LEN,
+        };
+        let call = Call::Plan {
+            request: request.to_vec(),
+            allowance,
+            out: self.buffer(room),
+            tries: self.buffer(length),
+        };
+        self.same(&call).map(|_| ())
+    }
+
+    /// Each room with enough tries, and each allowance with some room.
+    fn plans(&mut self, request: &[u8], chosen: Option<&Table>, full: u64) -> Result<(), String> {
         let length = chosen.map_or(0, |table| encode(table).len());
-        for room in self.rooms(length) {
-            let call = Call::Plan {
-                request: request.to_vec(),
-                out: self.buffer(room),
-            };
-            self.same(&call)?;
+        let rooms = self.rooms(length);
+        for room in &rooms {
+            let allowance = self.rng.pick(&[full, full + 1, u64::MAX]);
+            self.plan(request, allowance, *room)?;
+        }
+        for allowance in allowances(full) {
+            let room = self.rng.pick(&rooms);
+            self.plan(request, allowance, room)?;
+        }
+        Ok(())
+    }
+
+    /// A search that is not followed to its end, with fewer tries allowed than it needs.
+    fn ended(&mut self, request: &[u8]) -> Result<(), String> {
+        let any = self.rng.below(MOST_TRIES as usize) as u64;
+        for allowance in [0, 1, any, MOST_TRIES] {
+            let room = self.rng.pick(&[0, 20, 600]);
+            self.plan(request, allowance, room)?;
         }
         Ok(())
     }

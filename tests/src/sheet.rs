@@ -84,6 +84,12 @@ pub fn p12() -> Vec<u8> {
     request(&[(1, 10_000, 10_000, 0)], &[])
 }
 
+/// `count` jobs that take 13 ticks of their row, g of them silent, for `holes` frames of 13 ticks.
+pub fn pigeons(count: usize, holes: i64, g: i64) -> Vec<u8> {
+    let tasks = vec![(13 - g, 13 * holes, 13 * holes, 0); count];
+    silent_request(&tasks, &[], g)
+}
+
 /// P12 with T 10001.
 pub fn p12_long() -> Vec<u8> {
     request(&[(1, 10_001, 10_000, 0)], &[])

@@ -396,7 +396,7 @@ fn fly_request(
     done: &mut Flights,
 ) -> Result<(), String> {
     let mut out = vec![0; 1024];
-    let answer = bus.plan(request, &mut out);
+    let answer = bus.plan_freely(request, &mut out);
     if answer < 0 {
         return Ok(());
     }
@@ -434,7 +434,7 @@ fn fly_one(
 pub fn fly_long(bus: &dyn Bus, request: &[u8], task: u8, seed: u64) -> Result<(), String> {
     let mut rng = Random::new(seed);
     let mut out = vec![0; 1024];
-    let answer = bus.plan(request, &mut out);
+    let answer = bus.plan_freely(request, &mut out);
     let length = usize::try_from(answer).map_err(|_| format!("refused {}", -answer))?;
     let mut flight = Flight::start(bus, request, &out[..length])?;
     for times in [3, 65_000, 600] {

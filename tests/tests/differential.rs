@@ -7,7 +7,7 @@ mod common;
 use std::thread;
 
 use bus_tests::rounds::{Comparison, Tally, MOST_TRIES};
-use common::{subject, tell_left_out};
+use common::{subject, tell_cut};
 
 const SEEDS: [u64; 4] = [1, 2, 3, 4];
 const REQUESTS: u64 = if cfg!(feature = "linked") { 6_000 } else { 600 };
@@ -30,7 +30,7 @@ fn compared(seed: u64) -> Tally {
 fn judge_variety(tally: &Tally) {
     let least = REQUESTS / 600;
     let expected: [(&str, &[i32]); 5] = [
-        ("plan", &[0, 1, 2, 3, 4, 5, 17, 6, 7, 8, 9, 10, 11]),
+        ("plan", &[0, 1, 2, 3, 4, 5, 17, 6, 7, 8, 9, 10, 11, 23, 99]),
         ("check", &[0, 1, 2, 3, 4, 5, 17, 6, 7, 8, 12, 13, 14]),
         ("rewrite", &[0, 1, 2, 3, 4, 5, 17, 6, 7, 8, 12, 13, 14, 11]),
         ("next_frame", &[0, 12, 15, 99]),
@@ -43,7 +43,7 @@ fn judge_variety(tally: &Tally) {
         }
     }
     assert!(tally.count("plan", 0) * 5 > tally.requests, "few tables");
-    assert!(tally.left_out * 20 < tally.requests, "too many left out");
+    assert!(tally.left_out * 20 < tally.requests, "too many cut");
 }
 
 #[test]
@@ -57,5 +57,5 @@ fn every_answer_and_byte_is_the_same() {
             left_out += tally.left_out;
         }
     });
-    tell_left_out("differential", requests, left_out, MOST_TRIES);
+    tell_cut("differential", requests, left_out, MOST_TRIES);
 }

@@ -3,8 +3,9 @@
 
 mod common;
 
+use bus_tests::exact;
 use bus_tests::reference::model::plausible_lengths;
-use bus_tests::reference::{listing, planned, read_cycle};
+use bus_tests::reference::{listing, planned, read_cycle, PROGRAM_TRIES};
 use bus_tests::sheet::{self, request, silent_request, with_section, Short};
 use common::{checks_as, example, examples, plans_as, refused, table};
 
@@ -24,6 +25,15 @@ fn files_of_the_folder() {
         let printed = String::from_utf8(example(&name.replace(".req", ".txt"))).expect("text");
         assert_eq!(listing(&example(&name)), printed, "{name}");
     }
+}
+
+/// A request whose plan is found with the last try that the programs allow, and one that needs ten
+/// times as many: 11 jobs that fill a frame each, for 10 frames. The test above has their listings.
+#[test]
+fn at_and_beyond_the_last_try() {
+    assert_eq!(example("last-try.req"), exact::planned_after(PROGRAM_TRIES));
+    assert_eq!(example("long-search.req"), sheet::pigeons(11, 10, 0));
+    assert_eq!(example("long-search.txt"), b"refused 23\n");
 }
 
 /// With a silent tick after each transfer P1's row of 20 ticks no longer fits into its frame, and a

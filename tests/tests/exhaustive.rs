@@ -3,14 +3,15 @@
 
 mod common;
 
-use bus_tests::bus::{ENTRIES_LEN, STATE_LEN};
+use bus_tests::bus::{ENTRIES_LEN, STATE_LEN, TRIES_LEN};
 use bus_tests::call::{compare, Call};
+use bus_tests::exact;
 use bus_tests::reference::cycle::Cycle;
 use bus_tests::reference::table::{encode, of_plan};
 use bus_tests::reference::{planned, read_cycle, tries_within};
 use bus_tests::rounds::MOST_TRIES;
 use bus_tests::sheet::{self, request, silent_request, Short};
-use common::{subject, tell_left_out};
+use common::{subject, tell_cut};
 
 fn same(call: &Call) -> i32 {
     match compare(subject(), call) {
@@ -19,25 +20,33 @@ fn same(call: &Call) -> i32 {
     }
 }
 
-/// How many requests were planned, refused, and left out.
+/// Plans with so many tries allowed and this much room.
+fn plans_within(request: &[u8], allowance: u64, room: usize) -> i32 {
+    same(&Call::Plan {
+        request: request.to_vec(),
+        allowance,
+        out: vec![0x3C; room],
+        tries: vec![0x3C; TRIES_LEN],
+    })
+}
+
+/// How many requests were planned, refused, and planned with fewer tries allowed than they need.
 #[derive(Default)]
 struct Counts {
     planned: u64,
     refused: u64,
-    left_out: u64,
+    cut: u64,
 }
 
 impl Counts {
     /// Plans with room enough, and checks the table if there is one.
     fn plans_alike(&mut self, request: Vec<u8>) {
         if tries_within(&request, MOST_TRIES).is_none() {
-            self.left_out += 1;
+            self.cut += 1;
+            assert_eq!(plans_within(&request, MOST_TRIES, 80), -23);
             return;
         }
-        let answer = same(&Call::Plan {
-            request: request.clone(),
-            out: vec![0x3C; 80],
-        });
+        let answer = plans_within(&request, u64::MAX, 80);
         if answer > 0 {
             self.planned += 1;
         } else {
@@ -62,7 +71,7 @@ impl Counts {
 
     fn tell(&self, what: &str) {
         let compared = self.planned + self.refused;
-        tell_left_out(what, compared, self.left_out, MOST_TRIES);
+        tell_cut(what, compared, self.cut, MOST_TRIES);
     }
 }
 
@@ -110,6 +119,33 @@ fn every_request_of_two_short_tasks() {
     }
     counts.tell("every request of two short tasks");
     assert!(counts.planned > 10_000, "{}", counts.planned);
+}
+
+/// Every allowance from none to two more than the full search needs, for requests that are refused
+/// before the search, that have no plan, and whose plan comes at once or with the last try.
+#[test]
+fn every_allowance() {
+    let requests = [
+        sheet::p1(),
+        sheet::p1_silent(),
+        sheet::p2(),
+        sheet::p3(),
+        sheet::p5(),
+        sheet::p6(),
+        sheet::p11(),
+        sheet::pigeons(6, 5, 0),
+        exact::refused_after(700),
+        exact::planned_after(700),
+    ];
+    for request in requests {
+        let full = tries_within(&request, MOST_TRIES).expect("the search is short");
+        for allowance in 0..=full + 2 {
+            for room in [0, 300] {
+                let answer = plans_within(&request, allowance, room);
+                assert_eq!(answer == -23, allowance < full, "{allowance} of {full}");
+            }
+        }
+    }
 }
 
 /// A table with frames of f ticks that puts each job into the first frame from its release on.

@@ -55,7 +55,7 @@ fn every_answer_and_byte_is_the_same() {
         }
     });
     let line = format!(
-        "joining: {pairs} pairs; {left_out} of the files not planned, as too long (above {MOST_TRIES} tries)\n"
+        "joining: {pairs} pairs; {left_out} of the files planned up to {MOST_TRIES} tries, since their search is longer\n"
     );
     stdout()
         .write_all(line.as_bytes())
@@ -217,8 +217,8 @@ fn cut_behind(bytes: &[u8]) -> Vec<u8> {
 }
 
 impl Bus for Sham {
-    fn plan(&self, request: &[u8], out: &mut [u8]) -> i32 {
-        Reference.plan(request, out)
+    fn plan(&self, request: &[u8], allowance: u64, out: &mut [u8], tries: &mut [u8]) -> i32 {
+        Reference.plan(request, allowance, out, tries)
     }
 
     fn check(&self, request: &[u8], table: &[u8]) -> i32 {

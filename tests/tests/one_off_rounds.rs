@@ -284,8 +284,8 @@ impl Sham {
 }
 
 impl Bus for Sham {
-    fn plan(&self, request: &[u8], out: &mut [u8]) -> i32 {
-        Reference.plan(request, out)
+    fn plan(&self, request: &[u8], allowance: u64, out: &mut [u8], tries: &mut [u8]) -> i32 {
+        Reference.plan(request, allowance, out, tries)
     }
 
     fn check(&self, request: &[u8], table: &[u8]) -> i32 {

@@ -2,8 +2,6 @@
 //! and standard error. BUS_BIN_DIR names the folder of the programs.
 #![cfg(feature = "linked")]
 
-mod common;
-
 use std::collections::BTreeMap;
 use std::fs;
 use std::io::Write;
@@ -13,15 +11,16 @@ use std::thread;
 use std::time::Duration;
 
 use bus_tests::call::hex;
+use bus_tests::exact;
 use bus_tests::generate;
+use bus_tests::plain;
 use bus_tests::programs::{command, fed, given};
 use bus_tests::random::Random;
-use bus_tests::reference::printed::{by_check_table, by_fly, by_plan, by_plan_table, Printed};
-use bus_tests::reference::table::encode;
-use bus_tests::reference::{planned, tries_within};
+use bus_tests::reference::printed::{by_check_table, by_planners, by_planning, Printed};
+use bus_tests::reference::table::{decode, encode, Table};
+use bus_tests::reference::{planned, tries_within, PROGRAM_TRIES};
 use bus_tests::rounds::MOST_TRIES;
 use bus_tests::sheet;
-use common::tell_left_out;
 
 const SEED: u64 = 51;
 const REQUESTS: u64 = 600;
@@ -128,17 +127,17 @@ fn all_kinds() -> Vec<String> {
     kinds
 }
 
-/// What the programs write that take a request from standard input.
-fn by_planning(request: &[u8]) -> [(&'static str, Printed); 3] {
-    [
-        ("plan", by_plan(request)),
-        ("plan_table", by_plan_table(request)),
-        ("fly", by_fly(request)),
-    ]
+fn plans_alike(input: &Path, request: &[u8]) -> [(&'static str, Printed); 3] {
+    plans_as(input, request, by_planning(request))
 }
 
-fn plans_alike(input: &Path, request: &[u8]) -> [(&'static str, Printed); 3] {
-    by_planning(request).map(|(program, expected)| {
+/// Each program writes what is expected of it.
+fn plans_as(
+    input: &Path,
+    request: &[u8],
+    expected: [(&'static str, Printed); 3],
+) -> [(&'static str, Printed); 3] {
+    expected.map(|(program, expected)| {
         let printed = fed(program, input);
         let about = format!("request [{}]", hex(request));
         same(program, &printed, &expected, &about);
@@ -154,18 +153,12 @@ fn checks_alike(files: [&Path; 2], request: &[u8], table: &[u8]) -> Printed {
     printed
 }
 
-/// One request in four is crowded; those with a long search are left out, and counted.
-fn some_request(rng: &mut Random, left_out: &mut u64) -> Vec<u8> {
-    loop {
-        let bytes = if rng.chance(25) {
-            generate::crowded_bytes(rng)
-        } else {
-            generate::request_bytes(rng)
-        };
-        if tries_within(&bytes, MOST_TRIES).is_some() {
-            return bytes;
-        }
-        *left_out += 1;
+/// One request in four is crowded.
+fn some_request(rng: &mut Random) -> Vec<u8> {
+    if rng.chance(25) {
+        generate::crowded_bytes(rng)
+    } else {
+        generate::request_bytes(rng)
     }
 }
 
@@ -173,15 +166,21 @@ fn some_request(rng: &mut Random, left_out: &mut u64) -> Vec<u8> {
 fn programs_write_what_the_reference_writes() {
     let mut rng = Random::new(SEED);
     let mut seen = Seen::default();
-    let mut left_out = 0;
+    let mut long = 0;
     for _ in 0..REQUESTS {
-        let request = some_request(&mut rng, &mut left_out);
+        let request = some_request(&mut rng);
         let input = file("seeded.req", &request);
-        for (program, printed) in plans_alike(&input, &request) {
+        let chosen = match tries_within(&request, MOST_TRIES) {
+            Some(_) => planned(&request),
+            None => {
+                long += 1;
+                planned_plainly(&request)
+            }
+        };
+        for (program, printed) in plans_as(&input, &request, by_planners(&request, &chosen)) {
             seen.note(program, &printed);
         }
-        let chosen = planned(&request).ok();
-        for table in generate::table_pool(&mut rng, &request, chosen.as_ref(), MOST_TRIES) {
+        for table in generate::table_pool(&mut rng, &request, chosen.as_ref().ok(), MOST_TRIES) {
             let other = file("seeded.table", &table);
             let printed = checks_alike([&input, &other], &request, &table);
             seen.note("check_table", &printed);
@@ -190,7 +189,9 @@ fn programs_write_what_the_reference_writes() {
     for (kind, count) in &seen.counts {
         println!("{count:6} {kind}");
     }
-    tell_left_out("programs", REQUESTS, left_out, MOST_TRIES);
+    println!(
+        "{long} beside the plain version, since their search is longer than {MOST_TRIES} tries"
+    );
     seen.judge(&all_kinds());
 }
 
@@ -229,6 +230,36 @@ fn sheet_and_long_inputs() {
             let other = file("sheet.table", table);
             checks_alike([&input, &other], request, table);
         }
+    }
+}
+
+/// What the plain version comes to within the tries that the programs allow; the second planner
+/// would take its time.
+fn planned_plainly(request: &[u8]) -> Result<Table, i32> {
+    let mut out = [0; 600];
+    let answer = plain::plan(request, PROGRAM_TRIES, &mut out, &mut [0; 8]);
+    match usize::try_from(answer) {
+        Ok(length) => Ok(decode(&out[..length]).expect("it was planned")),
+        Err(_) => Err(-answer),
+    }
+}
+
+/// Requests about the 10,000,000 tries that the programs allow, and far beyond: 23 from the first try
+/// that is one too many.
+#[test]
+fn programs_allow_so_many_tries() {
+    for (request, refused) in [
+        (exact::planned_after(PROGRAM_TRIES), None),
+        (exact::refused_after(PROGRAM_TRIES), Some(10)),
+        (exact::planned_after(PROGRAM_TRIES + 1), Some(23)),
+        (exact::refused_after(PROGRAM_TRIES + 1), Some(23)),
+        (sheet::pigeons(11, 10, 0), Some(23)),
+        (sheet::pigeons(16, 15, 0), Some(23)),
+    ] {
+        let chosen = planned_plainly(&request);
+        assert_eq!(chosen.as_ref().err().copied(), refused);
+        let input = file("tries.req", &request);
+        plans_as(&input, &request, by_planners(&request, &chosen));
     }
 }
 

@@ -274,7 +274,11 @@ fn short_buffers_give_11_last_and_stay_untouched() {
         assert_eq!(length, 7 + 6 + 2 * 9);
         for room in 0..length {
             let mut out = vec![0x5A; room];
-            assert_eq!(bus.plan(&sheet::p3(), &mut out), -11, "{name} {room}");
+            assert_eq!(
+                bus.plan_freely(&sheet::p3(), &mut out),
+                -11,
+                "{name} {room}"
+            );
             assert!(out.iter().all(|byte| *byte == 0x5A), "{name} {room}");
         }
         let good = plan(bus, &sheet::p3()).unwrap();
@@ -559,7 +563,7 @@ fn lengths_above_65535() {
     checks_as(&request, &long_table, -12);
     for (name, bus) in subjects() {
         let mut out = vec![0x11; 65_536];
-        let length = bus.plan(&request, &mut out) as usize;
+        let length = bus.plan_freely(&request, &mut out) as usize;
         assert_eq!(out[..length], table, "{name}");
         assert!(out[length..].iter().all(|byte| *byte == 0x11), "{name}");
         assert_eq!(bus.rewrite(&request, &table, &mut out), length as i32);

@@ -252,11 +252,11 @@ fn wrong_plan(lie: Lie, cycle: &Cycle) -> Option<Vec<u8>> {
 /// Plans a changed request, if it can be planned at all.
 fn plan_changed(bytes: &[u8], out: &mut [u8], change: fn(&mut request::Request)) -> i32 {
     let Ok(mut read) = request::read(bytes) else {
-        return Reference.plan(bytes, out);
+        return Reference.plan_freely(bytes, out);
     };
     change(&mut read);
     match bus_tests::reference::tries_within(&request::write(&read), 100_000) {
-        Some(_) => Reference.plan(&request::write(&read), out),
+        Some(_) => Reference.plan_freely(&request::write(&read), out),
         None => -10,
     }
 }
@@ -307,7 +307,7 @@ fn plausible_by(lie: Lie, cycle: &Cycle, f: i64) -> bool {
 /// Plans with a wrong rule on the windows.
 fn plan_by(lie: Lie, request: &[u8], out: &mut [u8]) -> i32 {
     let Ok(cycle) = read_cycle(request) else {
-        return Reference.plan(request, out);
+        return Reference.plan_freely(request, out);
     };
     let lengths: Vec<i64> = (1..=cycle.h)
         .rev()
@@ -363,36 +363,37 @@ impl Sham {
     fn plan_otherwise(&self, request: &[u8], out: &mut [u8]) -> i32 {
         match (read_cycle(request), planned(request)) {
             (Ok(cycle), Ok(_)) => self.plan_from(&cycle, out).unwrap_or(-10),
-            _ => Reference.plan(request, out),
+            _ => Reference.plan_freely(request, out),
         }
     }
 }
 
-impl Bus for Sham {
-    fn plan(&self, request: &[u8], out: &mut [u8]) -> i32 {
+impl Sham {
+    /// The answer of planning, with every try allowed.
+    fn answer(&self, request: &[u8], out: &mut [u8]) -> i32 {
         match self.0 {
-            Lie::TenForAll => match Reference.plan(request, &mut []) {
+            Lie::TenForAll => match Reference.plan_freely(request, &mut []) {
                 -11 => -10,
                 refusal => refusal,
             },
-            Lie::NineForTen => match Reference.plan(request, out) {
+            Lie::NineForTen => match Reference.plan_freely(request, out) {
                 -10 => -9,
                 answer => answer,
             },
             Lie::TenBeforeElevenFirst => {
-                let answer = Reference.plan(request, out);
+                let answer = Reference.plan_freely(request, out);
                 if answer == -10 && out.len() < 9 {
                     return -11;
                 }
                 answer
             }
             Lie::OneTableForAll => match planned(request) {
-                Ok(_) => Reference.plan(&sheet::p1(), out),
+                Ok(_) => Reference.plan_freely(&sheet::p1(), out),
                 Err(number) => -number,
             },
             Lie::ClipsWindowsAtH => match planned(request) {
                 Ok(table) if table.rows.iter().flatten().any(|entry| entry.carry) => -10,
-                _ => Reference.plan(request, out),
+                _ => Reference.plan_freely(request, out),
             },
             Lie::StopsAtFirstPlausible
             | Lie::TakesSmallestLength
@@ -407,13 +408,13 @@ impl Bus for Sham {
             }
             Lie::ForgetsPairs => plan_changed(request, out, |read| read.pairs.clear()),
             Lie::ForgetsSilentTicks => plan_changed(request, out, |read| read.g = 0),
-            Lie::SilenceInCapacityOnly => match Reference.plan(request, out) {
+            Lie::SilenceInCapacityOnly => match Reference.plan_freely(request, out) {
                 -9 if plausible_without_silence(request) => -10,
                 answer => answer,
             },
             Lie::SilenceBeforeTheDeadline => match request::read(request) {
                 Ok(read) if read.tasks.iter().any(|task| read.slot(task) > task.d) => -3,
-                _ => Reference.plan(request, out),
+                _ => Reference.plan_freely(request, out),
             },
             Lie::OverfillsRows => plan_changed(request, out, |read| {
                 if read.tasks[0].c > 1 {
@@ -421,14 +422,14 @@ impl Bus for Sham {
                 }
             }),
             Lie::WritesBehindTheTable => {
-                let length = Reference.plan(request, out);
+                let length = Reference.plan_freely(request, out);
                 if length > 0 && out.len() > length as usize {
                     out[length as usize] ^= 1;
                 }
                 length
             }
             Lie::WritesBeforeRefusing => {
-                let answer = Reference.plan(request, out);
+                let answer = Reference.plan_freely(request, out);
                 if answer == -11 && !out.is_empty() {
                     out[0] = 2;
                 }
@@ -436,25 +437,35 @@ impl Bus for Sham {
             }
             Lie::AsksForOneByteMore => match planned(request) {
                 Ok(table) if out.len() == encode(&table).len() => -11,
-                _ => Reference.plan(request, out),
+                _ => Reference.plan_freely(request, out),
             },
-            Lie::IgnoresBytesBehindRequest => match Reference.plan(request, out) {
-                -6 => Reference.plan(&request[..request.len() - 1], out),
+            Lie::IgnoresBytesBehindRequest => match Reference.plan_freely(request, out) {
+                -6 => Reference.plan_freely(&request[..request.len() - 1], out),
                 answer => answer,
             },
-            Lie::SixBeforeSeventeen => match Reference.plan(request, out) {
+            Lie::SixBeforeSeventeen => match Reference.plan_freely(request, out) {
                 -17 if request::read(&request[..request.len() - 1]) == Err(17) => -6,
                 answer => answer,
             },
-            Lie::TakesAnyG => match Reference.plan(request, out) {
+            Lie::TakesAnyG => match Reference.plan_freely(request, out) {
                 -17 => plan_any_g(request, out).unwrap_or(-17),
                 answer => answer,
             },
             Lie::ZeroIsNoSection => match request.split_last() {
                 Some((0, front)) if request::read(front).is_ok() => -6,
-                _ => Reference.plan(request, out),
+                _ => Reference.plan_freely(request, out),
             },
-            _ => Reference.plan(request, out),
+            _ => Reference.plan_freely(request, out),
+        }
+    }
+}
+
+impl Bus for Sham {
+    /// The reference's count; and a search that it ends, the sham ends too.
+    fn plan(&self, request: &[u8], allowance: u64, out: &mut [u8], tries: &mut [u8]) -> i32 {
+        match Reference.plan(request, allowance, &mut out.to_vec(), tries) {
+            answer @ (-23 | -99) => answer,
+            _ => self.answer(request, out),
         }
     }
 
@@ -664,8 +675,8 @@ fn flights_end_without_a_table() {
 struct Careless(Lie);
 
 impl Bus for Careless {
-    fn plan(&self, request: &[u8], out: &mut [u8]) -> i32 {
-        Sham(self.0).plan(request, out)
+    fn plan(&self, request: &[u8], allowance: u64, out: &mut [u8], tries: &mut [u8]) -> i32 {
+        Sham(self.0).plan(request, allowance, out, tries)
     }
 
     fn check(&self, request: &[u8], table: &[u8]) -> i32 {

@@ -1,9 +1,9 @@
 //! Every call in a thread with a stack of 256 KiB; an overflow ends the whole run.
 #![cfg(feature = "linked")]
 
-use bus_tests::bus::{Asked, Bus};
+use bus_tests::bus::{Asked, Bus, TRIES_LEN};
 use bus_tests::library::Library;
-use bus_tests::reference::Reference;
+use bus_tests::reference::{tries_within, Reference};
 use bus_tests::sheet::{self, request, silent_request};
 
 const STACK: usize = 256 * 1024;
@@ -30,8 +30,12 @@ fn deep_requests() -> Vec<Vec<u8>> {
 
 fn all_calls(request: &[u8]) {
     let (mut table, mut again) = (vec![0; 600], vec![0; 600]);
-    let length = Library.plan(request, &mut table);
+    let length = Library.plan_freely(request, &mut table);
     assert!(length > 0, "{length}");
+    let full = tries_within(request, u64::MAX).expect("no search is that long");
+    let mut tries = [0; TRIES_LEN];
+    let answer = Library.plan(request, full - 1, &mut again, &mut tries);
+    assert_eq!((answer, u64::from_le_bytes(tries)), (-23, full - 1));
     table.truncate(length as usize);
     assert_eq!(Library.check(request, &table), 0);
     assert_eq!(Library.rewrite(request, &table, &mut again), length);

@@ -9,13 +9,13 @@ use Rattle.cursor.specs.Fields.{byteOf, wordOf, wordBytes}
 use Rattle.request.specs.Request.{taskRule, judgedTask, taskOf, tasksOf, pairsOf, silentOf, reading}
 use Rattle.request.specs.Encode.{taskBytes, pairBytes, sectionBytes, silentBytes, requestBytes}
 use Rattle.planned_table.specs.Outcome.{Outcome, refusal}
-use Rattle.planner.specs.Outcome.{outcome}
+use Rattle.planner.specs.Outcome.{programOutcome}
 use Rattle.text.specs.Text.{ascii, decimalSteps, decimalOf}
 use Rattle.listing.specs.Listing.{refusedLine, headLine, busyTicks, named, entryText, each, rowLine, rowLines, tableLines, tasksIn, printed, listing}
 use Rattle.bench_sheet.specs.Sheet.{bytesOf, P2, P7, P1-printed, sheet, sheet-holds}
 
 -- what line k of the sheet is planned as
-planned-at : (k : ℕ) → getD (map (λ p. outcome (bytesOf p)) sheet) k (refusal 0) ≡ getD (map (λ p. p .comes-to) sheet) k (refusal 0)
+planned-at : (k : ℕ) → getD (map (λ p. programOutcome (bytesOf p)) sheet) k (refusal 0) ≡ getD (map (λ p. p .comes-to) sheet) k (refusal 0)
 planned-at k = ap (λ (os : List Outcome). getD os k (refusal 0)) (sheet-holds .planned-as)
 
 pub record Listed : Type 0 where

@@ -35,6 +35,8 @@ use Rattle.table.specs.Table.{
   encode,
 }
 use Rattle.table.specs.Answers as table
+use Rattle.search.specs.Walk.{goOn, oneTry, walkFrames, walk}
+use Rattle.search.specs.Counting.{planWalk}
 use Rattle.search.specs.Search.{orElse, when, firstOf, search}
 use Rattle.search.specs.Placing.{row-sum, all-kept, fits, plan}
 use Rattle.model.specs.Window.{firstFrom}
@@ -43,11 +45,12 @@ use Rattle.model.specs.Plausible.{commonRule, phaseRule, frameRule, frameRules,
 use Rattle.model.specs.Named.{isJob}
 use Rattle.model.specs.Links.{placeFrom, placeBefore, linkIf, linkBy, linksBy, linksOfJob, linksFrom, allLinks, inPlaces, linkCounts, linkPlaces}
 use Rattle.model.specs.Chosen.{noPlan, firstFrameOf, endFrameOf, problemAt, isTried, foundOr, chooseFrom, choose, RightBy}
+use Rattle.model.specs.ChosenTries.{goOnLengths, walkLengths, chooseWalk}
 use Rattle.model.specs.ChosenLaws.{choose-right}
 use Rattle.model.specs.Within.{within-good}
 use Rattle.model.specs.Described.{rowFor, entryFor, placesOf, placesFrom, placesByTask, placesIn, planRows, planTable}
 use Rattle.planned_table.specs.Outcome.{Outcome, handed, refusal}
-use Rattle.planner.specs.Outcome.{outcome}
+use Rattle.planner.specs.Outcome.{outcome, requestTries, outcomeWithin, programOutcome}
 use Rattle.planner.specs.Moved.{OutcomeBy}
 use Rattle.rules.specs.Every as every
 use Rattle.rules.specs.Rules as rules
@@ -181,8 +184,13 @@ abbrev P8-five : Table
 P8-five = record { f = 5; h = 10; rows = (_·_ 0 0 ∷ []) ∷ [] ∷ [] }
 
 pub record SheetHolds : Type 0 where
-  -- what planning each request comes to: f, H and the rows, or the number
-  pub planned-as : map (λ p. outcome (bytesOf p)) sheet ≡ map (λ p. p .comes-to) sheet
+  -- what planning each request comes to within the tries that the programs allow: f, H and the rows, or the number
+  pub planned-as : map (λ p. programOutcome (bytesOf p)) sheet ≡ map (λ p. p .comes-to) sheet
+  -- "the full search's tries"
+  pub tries-are : map (λ p. requestTries (bytesOf p)) sheet ≡ 5 ∷ 0 ∷ 20 ∷ 36 ∷ 6 ∷ 1 ∷ 1 ∷ 0 ∷ 1 ∷ 0 ∷ 0 ∷ 1 ∷ 0 ∷ []
+  -- a try less is too few for P1's table and for P5's 10
+  pub P1-allowed : map (λ n. outcomeWithin n (bytesOf P1)) (0 ∷ 4 ∷ 5 ∷ []) ≡ refusal 23 ∷ refusal 23 ∷ P1 .comes-to ∷ []
+  pub P5-allowed : map (λ n. outcomeWithin n (bytesOf P5)) (35 ∷ 36 ∷ []) ≡ refusal 23 ∷ refusal 10 ∷ []
   -- P1's request and table are the bytes that 01 prints
   pub P1-request-bytes : bytesOf P1 ≡ P1-printed
   pub P1-table-bytes : encode P1-table ≡ P1-table-printed
@@ -204,11 +212,12 @@ pub record SheetHolds : Type 0 where
   pub P8-longer-by-01 : OutcomeBy (plausibleBy commonRule) (bytesOf P8-longer) (refusal 10)
 
 pub sheet-holds : SheetHolds
-unfolding outcome cycleOf reading tasksOf taskOf judgedTask taskRule pairsOf pairOf judgedPair pairRule silentOf records byteOf wordOf
+unfolding outcome requestTries outcomeWithin cycleOf reading tasksOf taskOf judgedTask taskRule pairsOf pairOf judgedPair pairRule silentOf records byteOf wordOf
     requestBytes sectionBytes taskBytes pairBytes silentBytes wordBytes flatMap
     RightBy choose chooseFrom isTried foundOr problemAt firstFrameOf endFrameOf firstFrom costs costOf slot plausibleBy frameRules frameRule phaseRule commonRule
     linkCounts linkPlaces inPlaces allLinks linksFrom linksOfJob linksBy linkBy linkIf placeBefore placeFrom isJob padded
     plan search firstOf when orElse fits all-kept row-sum
+    chooseWalk walkLengths goOnLengths planWalk walk walkFrames oneTry goOn
     planned inOrder insert before allJobs jobsOf jobsFrom jobOf jobsIn hyperperiod lcmWith lcmOf gcdOf gcdSteps
     planTable planRows placesIn placesByTask placesFrom placesOf entryFor rowFor
     encode headBytes rowBytes entriesBytes jobByte decode rowsFrom heightFits sizesFrom rowFrom entriesFrom entryFrom entryOf
@@ -219,6 +228,9 @@ unfolding outcome cycleOf reading tasksOf taskOf judgedTask taskRule pairsOf pai
     nextFrame moved uncarried table.entriesAt table.rowGiven
 sheet-holds = record {
   planned-as = refl;
+  tries-are = refl;
+  P1-allowed = refl;
+  P5-allowed = refl;
   P1-request-bytes = refl;
   P1-table-bytes = refl;
   P4-refused = refl;

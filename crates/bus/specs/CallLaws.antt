@@ -11,9 +11,6 @@ use Rattle.cursor.specs.Choice.{pick}
 use Rattle.table.specs.Table.{Table, encode}
 use Rattle.table.specs.Layout as layout
 use Rattle.table.specs.declared.Written.{Written}
-use Rattle.planned_table.specs.Outcome.{Outcome, handed, refusal, outcomeAnswer}
-use Rattle.planner.specs.Outcome.{outcome}
-use Rattle.planner.specs.TableLaws.{GoodOutcome, outcome-good}
 use Rattle.checker.specs.Checked.{checkNumber}
 use Rattle.dispatcher.specs.Dispatch.{freshState}
 use Rattle.dispatcher.specs.declared.Frame.{Frame}
@@ -21,9 +18,9 @@ use Rattle.dispatcher.specs.declared.Reported.{Reported}
 use Rattle.bus.specs.Reply.{refused, reply}
 use Rattle.bus.specs.ReplyLaws.{reply-refused, reply-value, after-refusal, after-value}
 use Rattle.bus.specs.State.{isState, stateBytes, zeros}
-use Rattle.bus.specs.Calls.{planReply, checkReply, freshReply, freshBytes, frameOf, canServe, frameReply, frameState, shownBytes, frameEntries, reportOf, reportReply, reportState}
+use Rattle.bus.specs.Calls.{checkReply, freshReply, freshBytes, frameOf, canServe, frameReply, frameState, shownBytes, frameEntries, reportOf, reportReply, reportState}
 
--- bus_plan
+-- a table that is written has a short length
 
 pub written-few : (t : Table) (out : List ℕ) → length (encode t) < 65536 → layout.written t out .length < 65536
 unfolding layout.written
@@ -32,23 +29,6 @@ written-few t out h = go (layout.tooShort t out)
     go : (b : Bool) → pick {A = Written} b (record { refusal = 11; length = 0 }) (record { refusal = 0; length = length (encode t) }) .length < 65536
     go true = omega arith
     go false = h
-
-pub plan-few : (request out : List ℕ) → outcomeAnswer (outcome request) out .length < 65536
-unfolding outcomeAnswer
-plan-few request out = go (outcome request) (outcome-good request)
-  where
-    go : (o : Outcome) → GoodOutcome o → outcomeAnswer o out .length < 65536
-    go (handed t) good = written-few t out (omega (arith, good .short))
-    go (refusal number) good = omega arith
-
-module _ (request out : List ℕ) (w : Written) (e : w ≡ outcomeAnswer (outcome request) out) where
-  pub plan-refused : (w .refusal ≡ 0 → ⊥) → refused (w .refusal) ≡ planReply request out
-  unfolding planReply
-  plan-refused h = reply-refused (w .refusal) (w .length) h ∙ ap (λ (x : Written). reply (x .refusal) (x .length)) e
-
-  pub plan-written : w .refusal ≡ 0 → pos (w .length) ≡ planReply request out
-  unfolding planReply
-  plan-written h = reply-value (w .refusal) (w .length) h ∙ ap (λ (x : Written). reply (x .refusal) (x .length)) e
 
 -- bus_check
 

@@ -9,21 +9,11 @@ use Rattle.cursor.specs.Choice.{pick, both}
 use Rattle.request.specs.Request.{reading}
 use Rattle.table.specs.Table.{decode}
 use Rattle.checker.specs.Checked.{checkNumber}
-use Rattle.planned_table.specs.Outcome.{outcomeAnswer, outcomeBuffer}
-use Rattle.planner.specs.Outcome.{outcome}
 use Rattle.dispatcher.specs.Dispatch.{freshState, nextFrame, reported}
 use Rattle.dispatcher.specs.declared.Frame.{Frame}
 use Rattle.dispatcher.specs.declared.Reported.{Reported}
 use Rattle.bus.specs.Reply.{refused, reply, after}
 use Rattle.bus.specs.State.{isState, stateOf, stateBytes, pairBytes, zeros}
-
--- bus_plan
-
-unfoldable pub planReply : List ℕ → List ℕ → ℤ
-planReply request out = reply (outcomeAnswer (outcome request) out .refusal) (outcomeAnswer (outcome request) out .length)
-
-unfoldable pub planBuffer : List ℕ → List ℕ → List ℕ
-planBuffer request out = outcomeBuffer (outcome request) out
 
 -- bus_check
 

@@ -4,6 +4,7 @@ pub mod State
 pub mod StateLaws
 pub mod Calls
 pub mod CallLaws
+pub mod Plan
 pub mod Rewrite
 pub mod OneOff
 pub mod RoundTrip

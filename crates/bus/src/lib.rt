@@ -8,10 +8,11 @@ ghost use lib.ListN.{length, take, drop};
 ghost use lib.IntN.{pos};
 ghost use Rattle.bus.specs.Reply.{refused};
 ghost use Rattle.bus.specs.State.{isState, wordOf, countsFrom, countBytes, stateOf, stateBytes, pairBytes, zeros};
+ghost use Rattle.bus.specs.Plan.{lowFirst, planReply, planBuffer, planTries};
 ghost use Rattle.bus.specs.Rewrite.{rewriteReply, rewriteBuffer};
 ghost use Rattle.bus.specs.Join.{joinReply, joinBuffer};
 ghost use Rattle.bus.specs.OneOff.{oneOffReply};
-ghost use Rattle.bus.specs.Calls.{planReply, planBuffer, checkReply, freshReply, freshBytes, frameReply, frameState, frameEntries, reportReply, reportState};
+ghost use Rattle.bus.specs.Calls.{checkReply, freshReply, freshBytes, frameReply, frameState, frameEntries, reportReply, reportState};
 
 // A number of the paper, or 99, as C gets it.
 fn refusal(number: u8) -> i32
@@ -27,16 +28,37 @@ fn value(length: usize) -> i32
     length as i32
 }
 
-// The table of the request's chosen plan, written into `out`: its length, or 1 to 11 negated.
-#[no_mangle]
-pub extern "C" fn bus_plan(request: &[u8], out: &mut [u8]) -> i32
-    ensures { λ r. ⌜ (r ≡ planReply (now (request .entry)) (now (out .entry))) × (now (out .exit) ≡ planBuffer (now (request .entry)) (now (out .entry))) ⌝ }
+// The first 8 bytes get the number, low byte first; those behind them are left alone.
+fn write_number(out: &mut [u8], number: u64)
+    requires { ⌜ 8 ≤ length (now out) ⌝ }
+    ensures { λ r. ⌜ now (out .exit) ≡ lowFirst 8 number ++ drop 8 (now (out .entry)) ⌝ }
 {
-    let written = planner::plan(request, out);
-    if written.refusal != 0 {
-        return refusal(written.refusal);
+    let mut rest = number;
+    let mut i: usize = 0;
+    while i < 8 {
+        out[i] = (rest % 256) as u8;
+        rest = rest / 256;
+        i += 1;
     }
-    value(written.length)
+}
+
+// The table of the request's chosen plan, written into `out`, if the search needs no more tries than allowed: its length, or 1 to 11, 17 or 23 negated. The
+// tries made stand in the first 8 bytes of `tries`, whatever the answer is; but for 99 negated, which comes first and leaves all as it was.
+#[no_mangle]
+pub extern "C" fn bus_plan(request: &[u8], allowance: u64, out: &mut [u8], tries: &mut [u8]) -> i32
+    ensures { λ r. ⌜ (r ≡ planReply allowance (now (request .entry)) (now (out .entry)) (now (tries .entry)))
+        × (now (out .exit) ≡ planBuffer allowance (now (request .entry)) (now (out .entry)) (now (tries .entry)))
+        × (now (tries .exit) ≡ planTries allowance (now (request .entry)) (now (out .entry)) (now (tries .entry))) ⌝ }
+{
+    if tries.len() < 8 {
+        return refusal(99);
+    }
+    let searched = planner::plan(request, allowance, out);
+    write_number(tries, searched.tries);
+    if searched.refusal != 0 {
+        return refusal(searched.refusal);
+    }
+    value(searched.length)
 }
 
 // Whether the table describes a plan of the request: 0, or 1 to 8 or 12 to 14 negated.

@@ -12,13 +12,13 @@ use Rattle.cycle.specs.LimitLaws.{no-cycle-number, request-number-pos}
 use Rattle.table.specs.Table.{Table, encode}
 use Rattle.cursor.specs.Front.{Bytes}
 use Rattle.table.specs.TableBytes.{SaysTable, says-decodes}
-use Rattle.table.specs.declared.Written.{Written}
 use Rattle.model.specs.Plan.{Instance}
 use Rattle.model.specs.Within.{Within, within-or-not}
 use Rattle.model.specs.Described.{Accepted}
-use Rattle.planned_table.specs.Outcome.{outcomeAnswer, outcomeBuffer}
-use Rattle.planner.specs.Outcome.{outcome}
+use Rattle.planned_table.specs.Outcome.{outcomeBuffer}
+use Rattle.planner.specs.Outcome.{outcomeWithin, searchedAnswer}
 use Rattle.planner.specs.Handed.{HandedOut, table-handed, not-planned}
+use Rattle.planner.specs.declared.Searched.{Searched}
 use Rattle.checker.specs.Checked.{checkNumber}
 use Rattle.checker.specs.Exactly.{check-exact}
 use Rattle.flight.specs.Calls.{Call}
@@ -46,27 +46,27 @@ checked-flight requestBytes tableBytes are e =
     let c = check-exact requestBytes tableBytes are .accepts .0 e in
     accepted-flies requestBytes tableBytes (c .0) (c .1) (c .2) (c .3) (c .4)
 
--- The bytes that the planner hands out fly: those that it left in the buffer, as many as its answer says.
-module _ (requestBytes out : List ℕ) where
+-- The bytes that the planner hands out fly, whatever it was allowed: those that it left in the buffer, as many as its answer says.
+module _ (allowance : ℕ) (requestBytes out : List ℕ) where
   abbrev pub handedBytes : List ℕ
-  handedBytes = take (outcomeAnswer (outcome requestBytes) out .length) (outcomeBuffer (outcome requestBytes) out)
+  handedBytes = take (searchedAnswer allowance requestBytes out .length) (outcomeBuffer (outcomeWithin allowance requestBytes) out)
 
-  module _ (x : Instance) (h : HandedOut x requestBytes out) where
+  module _ (x : Instance) (h : HandedOut x allowance requestBytes out) where
     bytes-are : encode (h .t) ≡ handedBytes
     bytes-are =
         rw (h .bytes-are, h .length-is, ← h .encoded-length)
         (sym (take-append-seam (encode (h .t)) (drop (length (encode (h .t))) out)))
 
-  pub planned-flight : outcomeAnswer (outcome requestBytes) out .refusal ≡ 0 → Flies requestBytes handedBytes
+  pub planned-flight : searchedAnswer allowance requestBytes out .refusal ≡ 0 → Flies requestBytes handedBytes
   planned-flight e =
-      ⊎-elim (λ w. there (w .0) (w .1) (table-handed requestBytes out (w .0) (w .1) .chosen-one e)) (λ w. refused (w .0) (w .1)) (within-or-not requestBytes)
+      ⊎-elim (λ w. there (w .0) (w .1) (table-handed allowance requestBytes out (w .0) (w .1) .chosen-one e)) (λ w. refused (w .0) (w .1)) (within-or-not requestBytes)
     where
-      there : (x : Instance) → Within requestBytes x → HandedOut x requestBytes out → Flies requestBytes handedBytes
+      there : (x : Instance) → Within requestBytes x → HandedOut x allowance requestBytes out → Flies requestBytes handedBytes
       there x within h =
           accepted-flies requestBytes handedBytes x within (h .t) (record { form = h .describes .form; bytes-are = bytes-are x h })
           (record { f = h .f; frames = h .frames; is-plan = h .is-chosen .is-plan; describes = h .describes })
 
       refused : (number : ℕ) → cycleOf requestBytes ≡ noCycle number → Flies requestBytes handedBytes
       refused number q =
-          let given = ap (λ (w : Written). w .refusal) (not-planned requestBytes out number q .0) in
+          let given = ap (λ (r : Searched). r .refusal) (not-planned allowance requestBytes out number q .0) in
           absurd (omega (arith, request-number-pos (no-cycle-number requestBytes number q)))

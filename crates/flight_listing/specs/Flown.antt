@@ -5,7 +5,7 @@ use mathlib.Core.List.{List, [], _++_}
 use Rattle.cursor.specs.Choice.{pick}
 use Rattle.table.specs.Table.{Entry, Table}
 use Rattle.planned_table.specs.Outcome.{Outcome, handed, refusal}
-use Rattle.planner.specs.Outcome.{outcome}
+use Rattle.planner.specs.Outcome.{programOutcome}
 use Rattle.flight.specs.Calls.{height, plainFrame}
 use Rattle.text.specs.Text.{ascii, decimalOf}
 use Rattle.listing.specs.Listing.{refusedLine, named, each}
@@ -35,4 +35,4 @@ flown (handed t) = flightLines t
 flown (refusal number) = refusedLine number
 
 unfoldable pub flightListing : List ℕ → List ℕ
-flightListing request = flown (outcome request)
+flightListing request = flown (programOutcome request)

@@ -14,7 +14,7 @@ use Rattle.dispatcher.specs.FrameLaws.{frame-served, served-rises, moved-at}
 use Rattle.dispatcher.specs.declared.State.{State}
 use Rattle.dispatcher.specs.declared.Frame.{Frame}
 use Rattle.planned_table.specs.Outcome.{handed, refusal}
-use Rattle.planner.specs.Outcome.{outcome}
+use Rattle.planner.specs.Outcome.{programOutcome}
 use Rattle.flight.specs.Calls.{height, plainFrame}
 use Rattle.text.specs.Text.{Filled, putAllOf}
 use Rattle.text.specs.TextLaws.{put-none, put-append}
@@ -61,11 +61,11 @@ frame-read bytes m s frame e now some = go (decode bytes) refl now some
     go malformed is at pos = absurd (omega arith)
 
 -- the two ways
-pub flight-refused : (request : List ℕ) (number : ℕ) → outcome request ≡ refusal number → refusedLine number ≡ flightListing request
+pub flight-refused : (request : List ℕ) (number : ℕ) → programOutcome request ≡ refusal number → refusedLine number ≡ flightListing request
 unfolding flightListing
 flight-refused request number e = sym (ap flown e)
 
-pub flight-handed : (request bytes : List ℕ) → outcome request ≡ handed (tableIn (decode bytes))
+pub flight-handed : (request bytes : List ℕ) → programOutcome request ≡ handed (tableIn (decode bytes))
     → flightLines (tableIn (decode bytes)) ≡ flightListing request
 unfolding flightListing
 flight-handed request bytes e = sym (ap flown e)

@@ -17,8 +17,8 @@ use Rattle.table.specs.RisingLaws.{row-rises}
 use Rattle.dispatcher.specs.FrameLaws.{served-rises, served-few}
 use Rattle.table.specs.LengthLaws.{entryCount}
 use Rattle.planned_table.specs.Outcome.{Outcome, handed, refusal}
-use Rattle.planner.specs.Outcome.{outcome}
-use Rattle.planner.specs.TableLaws.{GoodTable, GoodOutcome, outcome-good}
+use Rattle.planner.specs.Outcome.{programTries, programOutcome}
+use Rattle.planner.specs.TableLaws.{GoodTable, GoodOutcome, outcome-within-good}
 use Rattle.flight.specs.Calls.{height, plainFrame}
 use Rattle.text.specs.Text.{PutIn}
 use Rattle.text.specs.TextLaws.{decimal-length, put-whole}
@@ -91,7 +91,7 @@ module _ (t : Table) (good : GoodTable t) where
 
 pub flight-short : (request : List ℕ) → length (flightListing request) ≤ 65536
 unfolding flightListing
-flight-short request = go (outcome request) (outcome-good request)
+flight-short request = go (programOutcome request) (outcome-within-good programTries request)
   where
     go : (o : Outcome) → GoodOutcome o → length (flown o) ≤ 65536
     go (handed t) good = flight-length t good

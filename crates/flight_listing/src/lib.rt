@@ -81,15 +81,15 @@ fn put_frames(out: &mut [u8], table: &[u8]) -> usize
     end
 }
 
-// Three cycles of the request's plan in flight, or the line of its refusal.
+// Three cycles of the request's plan in flight, or the line of its refusal, within the tries that a program allows.
 pub fn list(request: &[u8], out: &mut [u8]) -> usize
     ensures { λ r. ⌜ PutIn (flightListing (now (request .entry))) (now (out .entry)) r (now (out .exit)) ⌝ }
 {
     let mut table = [0u8; 519];
-    let written = planner::plan(request, &mut table);
-    if written.refusal != 0 {
-        return listing::refused(written.refusal, out);
+    let planned = planner::plan(request, planner::PROGRAM_TRIES, &mut table);
+    if planned.refusal != 0 {
+        return listing::refused(planned.refusal, out);
     }
-    let length = written.length;
+    let length = planned.length;
     put_frames(out, &table[..length])
 }

@@ -9,7 +9,7 @@ use Rattle.request.specs.Request.{Reading, readable, unreadable, reading, noTas
 use Rattle.request.specs.declared.Task.{Task}
 use Rattle.table.specs.Table.{Entry, Table}
 use Rattle.planned_table.specs.Outcome.{Outcome, handed, refusal}
-use Rattle.planner.specs.Outcome.{outcome}
+use Rattle.planner.specs.Outcome.{programOutcome}
 use Rattle.text.specs.Text.{ascii, decimalOf}
 
 -- "`refused N`"
@@ -61,4 +61,4 @@ printed tasks (handed t) = tableLines tasks t
 printed tasks (refusal number) = refusedLine number
 
 unfoldable pub listing : List ℕ → List ℕ
-listing request = printed (tasksIn (reading request)) (outcome request)
+listing request = printed (tasksIn (reading request)) (programOutcome request)

@@ -20,8 +20,8 @@ use Rattle.table.specs.WellFormed.{RisingFrom, AllRising}
 use Rattle.table.specs.RisingLaws.{rising-few}
 use Rattle.table.specs.LengthLaws.{entryCount}
 use Rattle.planned_table.specs.Outcome.{Outcome, handed, refusal}
-use Rattle.planner.specs.Outcome.{outcome}
-use Rattle.planner.specs.TableLaws.{GoodTable, GoodOutcome, outcome-good, handed-cycle}
+use Rattle.planner.specs.Outcome.{programTries, programOutcome}
+use Rattle.planner.specs.TableLaws.{GoodTable, GoodOutcome, outcome-within-good, handed-within-cycle}
 use Rattle.text.specs.Text.{ascii, PutIn}
 use Rattle.text.specs.TextLaws.{decimal-length, put-whole}
 use Rattle.listing.specs.Listing.{refusedLine, headLine, busyTicks, named, entryText, each, rowLine, rowLines, tableLines, tasksIn, printed, listing}
@@ -91,17 +91,17 @@ task-small {tasks} w i = go (ltb i (length tasks)) refl
         omega (arith, kept .room, kept .due, w .period-le i known, w .h-few)
     go false q = rw (List·getD-eq-default tasks noTask (ltb-false i (length tasks) q)) (omega arith)
 
-tasks-small : (request : List ℕ) (t : Table) → outcome request ≡ handed t → (i : ℕ) → getD (tasksIn (reading request)) i noTask .c ≤ 10000
+tasks-small : (request : List ℕ) (t : Table) → programOutcome request ≡ handed t → (i : ℕ) → getD (tasksIn (reading request)) i noTask .c ≤ 10000
 tasks-small request t e i =
-    let (x, is) = handed-cycle request t e in
+    let (x, is) = handed-within-cycle programTries request t e in
     rw (cycle-reading request (x .tasks) (x .pairs) (x .g) (x .h) (x .jobs) is)
     (task-small (cycle-within request (x .tasks) (x .pairs) (x .g) (x .h) (x .jobs) is) i)
 
 pub listing-short : (request : List ℕ) → length (listing request) ≤ 4096
 unfolding listing
-listing-short request = go (outcome request) refl (outcome-good request)
+listing-short request = go (programOutcome request) refl (outcome-within-good programTries request)
   where
-    go : (o : Outcome) → outcome request ≡ o → GoodOutcome o → length (printed (tasksIn (reading request)) o) ≤ 4096
+    go : (o : Outcome) → programOutcome request ≡ o → GoodOutcome o → length (printed (tasksIn (reading request)) o) ≤ 4096
     go (handed t) is good = table-length (tasksIn (reading request)) (tasks-small request t is) t good
     go (refusal number) is good = omega (arith, refused-length number (omega (arith, good .1)))
 

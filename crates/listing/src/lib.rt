@@ -15,15 +15,15 @@ pub fn refused(number: u8, out: &mut [u8]) -> usize
     text::put(out, line, b'\n')
 }
 
-// The listing of the request's plan, or the line of its refusal.
+// The listing of the request's plan, or the line of its refusal, within the tries that a program allows.
 pub fn plan(request: &[u8], out: &mut [u8]) -> usize
     ensures { λ r. ⌜ PutIn (listing (now (request .entry))) (now (out .entry)) r (now (out .exit)) ⌝ }
 {
     let mut table = [0u8; 519];
-    let written = planner::plan(request, &mut table);
-    if written.refusal != 0 {
-        return refused(written.refusal, out);
+    let planned = planner::plan(request, planner::PROGRAM_TRIES, &mut table);
+    if planned.refusal != 0 {
+        return refused(planned.refusal, out);
     }
-    let length = written.length;
+    let length = planned.length;
     rows::put_table(out, request, &table[..length])
 }

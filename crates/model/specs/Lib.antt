@@ -18,6 +18,7 @@ pub mod LinksLaws
 pub mod Chosen
 pub mod ProblemLaws
 pub mod ChosenLaws
+pub mod ChosenTries
 pub mod Described
 pub mod Places
 pub mod PlanTable

@@ -1,16 +1,20 @@
 -- Laws of the whole search: it may begin with no job placed and no row loaded, and what it comes to is what is answered. Assumes nothing.
-use mathlib.Core.Path.{_≡_, sym, ap, subst⁻¹, _∙_}
-use mathlib.Core.Bool.{true, false}
+use mathlib.Core.Path.{_≡_, refl, sym, ap, subst⁻¹, _∙_}
+use mathlib.Core.Bool.{Bool, true, false}
 use mathlib.Core.List.{List, [], _++_}
-use Prim.Native.Nat.{ℕ, zero, suc, _-_, _*_, _≤_}
+use Prim.Native.Nat.{ℕ, zero, suc, _-_, _*_, _≤_, _<_}
 use native.Mathlib.Omega.{arith}
 use lib.ListN.{length, take, drop, replicate, length-replicate, take-append-drop}
 use lib.Seq.{length-take-le, getD-take}
+use lib.Dec.{ltb}
+use borrow.Author.Tests.{le-ltb, ltb-true, ltb-false}
 use Rattle.cursor.specs.Padded.{padded, take-padded, getD-blanks}
-use Rattle.search.specs.Search.{none, at}
-use Rattle.search.specs.Placing.{Problem, problem, plan, Proper, LoadsKept}
+use Rattle.search.specs.Search.{Found, none, at}
+use Rattle.search.specs.Walk.{Walk}
+use Rattle.search.specs.Counting.{planWalk}
+use Rattle.search.specs.Placing.{problem, Proper, LoadsKept}
 use Rattle.search.specs.LoadLaws.{loads-empty}
-use Rattle.place.specs.Arrays.{Placeable, problemOf, Small, placedAnswer, Ready, answer, TriedJob}
+use Rattle.place.specs.Arrays.{Placeable, problemOf, Small, placedAnswer, placedWithin, Ready, number, Tried, TriedJob}
 use Rattle.place.specs.declared.Placed.{Placed}
 
 abbrev zeros : ℕ → List ℕ
@@ -56,21 +60,36 @@ module _ {cost first end counts links : List ℕ} {n rows f : ℕ} (g : Placeabl
     pub kept-first : LoadsKept (problemOf costs first end counts links n rows f) [] (zeros 256)
     kept-first = loads-empty (problemOf costs first end counts links n rows f) (zeros 256) (λ r h. getD-blanks {A = ℕ} 256 0 [] r)
 
-    -- what is found
-    module _ {place load : List ℕ} where
-      pub all-found : TriedJob (problemOf costs first end counts links n rows f) n (zeros 128) (zeros 256) 0 true place load
-          → _≡_ {A = Placed} (record { found = true; frames = place }) (placedAnswer (plan (problemOf cost first end counts links n rows f) []))
-      unfolding placedAnswer answer padded
-      all-found d =
-          let is : plan (problemOf cost first end counts links n rows f) [] ≡ at (take n place) = ap (λ (x : Problem). plan x []) (sym same-problem) ∙ d .found in
+    -- what is answered
+    module _ {place load : List ℕ} {a answer left : ℕ}
+        (e : TriedJob (problemOf costs first end counts links n rows f) n (zeros 128) (zeros 256) 0 a answer place load left) where
+      abbrev w : Walk
+      w = planWalk (problemOf cost first end counts links n rows f) []
+
+      d : Tried (problemOf cost first end counts links n rows f) w n (zeros 128) (zeros 256) 0 a answer place load left
+      d = rw same-problem at e
+
+      pub one-answered : answer ≡ 1 → _≡_ {A = Placed} (record { answer = answer; left = left; frames = place }) (placedWithin a w)
+      unfolding placedWithin placedAnswer padded
+      one-answered q =
+          let reached : w .tries ≤ a = not-lt (λ t. one-two (sym q ∙ d .out t .0)) in
           let size : length (take n place) ≡ n = length-take-le n place (omega (arith, d .size, zeros-length 128, g .few)) in
           let rest : drop n place ≡ zeros (128 - length (take n place)) = d .beyond ∙ drop-zeros 128 n ∙ ap (λ (k : ℕ). zeros (128 - k)) (sym size) in
           let frames : take n place ++ zeros (128 - length (take n place)) ≡ place = ap (λ (l : List ℕ). take n place ++ l) (sym rest) ∙ take-append-drop n place in
-          rw (is, frames)
+          rw (le-ltb a (w .tries) reached, d .found q, frames, d .enough reached .1, q)
+        where
+          one-two : _≡_ {A = ℕ} 1 2 → ⊥
+          one-two z = omega arith
 
-      pub none-found : TriedJob (problemOf costs first end counts links n rows f) n (zeros 128) (zeros 256) 0 false place load
-          → _≡_ {A = Placed} (record { found = false; frames = zeros 128 }) (placedAnswer (plan (problemOf cost first end counts links n rows f) []))
-      unfolding placedAnswer answer
-      none-found d =
-          let is : plan (problemOf cost first end counts links n rows f) [] ≡ none = ap (λ (x : Problem). plan x []) (sym same-problem) ∙ d .found in
-          rw is
+          not-lt : (a < w .tries → ⊥) → w .tries ≤ a
+          not-lt h = omega arith
+
+      pub other-answered : (answer ≡ 1 → ⊥) → _≡_ {A = Placed} (record { answer = answer; left = left; frames = zeros 128 }) (placedWithin a w)
+      unfolding placedWithin placedAnswer number
+      other-answered q = go (ltb a (w .tries)) refl (w .found) refl
+        where
+          go : (b : Bool) → ltb a (w .tries) ≡ b → (o : Found) → w .found ≡ o
+              → _≡_ {A = Placed} (record { answer = answer; left = left; frames = zeros 128 }) (placedWithin a w)
+          go true t o p = let s = d .out (ltb-true a (w .tries) t) in rw (t, s .0, s .1)
+          go false t none p = let s = d .enough (ltb-false a (w .tries) t) in rw (t, p) (λ i. record { answer = (s .0 ∙ ap number p) i; left = s .1 i; frames = zeros 128 })
+          go false t (at frames) p = absurd (q (d .enough (ltb-false a (w .tries) t) .0 ∙ ap number p))

@@ -1,7 +1,8 @@
 -- Laws of the search's functions, one for each way through their code, in terms of the arrays' lists: the loop over a job's links, the loop
--- over the frames of its window, with the row as a running number, and the ways through one try. Assumes nothing.
+-- over the frames of its window, with the row as a running number, and the ways through one try. Of the tries: what is left with those of the
+-- whole search is what was allowed with those of the frames left. Assumes nothing.
 use mathlib.Core.Path.{_≡_, refl, sym, ap, subst, _∙_}
-use mathlib.Core.Bool.{Bool, true, false, _&&_, false≢true}
+use mathlib.Core.Bool.{Bool, true, false, _&&_}
 use mathlib.Core.List.{List, [], _∷_, _++_, List·Memᴰ}
 use Prim.Native.Nat.{ℕ, _+_, _-_, _*_, _≤_, _<_, _%_}
 use native.Mathlib.Nat.{mod-add-mod}
@@ -12,10 +13,13 @@ use lib.Seq.{length-take-le, take-suc, take-suc-set, take-take, take-set-le, dro
 use lib.Dec.{leb}
 use borrow.Author.Tests.{le-leb, lt-leb, leb-true, leb-false}
 use Rattle.cursor.specs.Padded.{padded, set-padded}
-use Rattle.search.specs.Placing.{Problem, linksAt, linksOf, partner, hasRoom, fits, plan, attempt, from, fold, earliest, latest, Bounds, Linked, LoadsKept}
-use Rattle.search.specs.PlacingLaws.{from-end, from-next, from-found, attempt-refused, attempt-made, plan-end, plan-more, put-loads, part, fold-end, fold-more, link-in, kept-between}
+use Rattle.search.specs.Search.{Found, none, at}
+use Rattle.search.specs.Walk.{Walk, goOn, on-none, on-found, one-more}
+use Rattle.search.specs.Counting.{planWalk, attemptWalk, fromWalk, walk-end, walk-more, walk-all, walk-next, walk-may, walk-not}
+use Rattle.search.specs.Placing.{Problem, linksAt, linksOf, partner, hasRoom, fits, fold, earliest, latest, Bounds, Linked, LoadsKept}
+use Rattle.search.specs.PlacingLaws.{put-loads, part, fold-end, fold-more, link-in, kept-between}
 use Rattle.search.specs.LoadLaws.{tested-by-load}
-use Rattle.place.specs.Arrays.{LinksBack, Ready, answer, TriedJob, TriedFrame}
+use Rattle.place.specs.Arrays.{LinksBack, Ready, number, Tried, TriedJob, TriedFrame}
 
 -- one number more in the first unused place
 pub one-stored : (xs : List ℕ) (j : ℕ) → j < length xs → j < 128 → set (padded 128 0 (take j xs)) j (getD xs j 0) ≡ padded 128 0 (take (j + 1) xs)
@@ -102,27 +106,63 @@ is-left h e = omega arith
 placed-before : {x : Problem} {n : ℕ} {place load : List ℕ} {i : ℕ} → Ready x n place load → i < n → length (take i place) ≡ i
 placed-before {x} {n} {place} {load} {i} r more = length-take-le i place (omega (arith, r .places))
 
--- no job is left
-pub all-placed : {x : Problem} {n : ℕ} {place load : List ℕ} {i : ℕ} → Ready x n place load → LoadsKept x (take i place) load → i ≡ n
-    → TriedJob x n place load i true place load
-unfolding answer
-all-placed {x} {n} {place} {load} {i} r loads h = rw h (record {
-  found = plan-end x (take n place) (length-take-le n place (r .places) ∙ sym (r .jobs));
-  kept = refl;
-  beyond = refl;
-  size = refl;
-  undone = λ _. refl;
-  loads = λ _. rw h at loads;
-})
+-- an answer 0 tells that the search has ended with none, within the tries
+module _ {x : Problem} {w : Walk} {n : ℕ} {place load : List ℕ} {i a r : ℕ} {place′ load′ : List ℕ} {a′ : ℕ} (d : Tried x w n place load i a r place′ load′ a′) where
+  none-of-zero : r ≡ 0 → (w .tries ≤ a) × (w .found ≡ none)
+  unfolding number
+  none-of-zero z = (reached, go (w .found) refl)
+    where
+      reached : w .tries ≤ a
+      reached = not-lt (λ t. zero-two (sym z ∙ d .out t .0))
+        where
+          zero-two : _≡_ {A = ℕ} 0 2 → ⊥
+          zero-two e = omega arith
 
--- the loop over the frames of job i: those before k came to nothing, and left things as they were, so what the rest come to is the answer;
--- `row` is the row of frame k
-pub record Trying (x : Problem) (n : ℕ) (place₀ load₀ : List ℕ) (i : ℕ) (place load : List ℕ) (k row : ℕ) : Type 0 where
+          not-lt : (a < w .tries → ⊥) → w .tries ≤ a
+          not-lt h = omega arith
+
+      go : (o : Found) → w .found ≡ o → w .found ≡ none
+      go none e = e
+      go (at q) e = absurd (one-zero (sym (ap number e) ∙ sym (d .enough reached .0) ∙ z))
+        where
+          one-zero : _≡_ {A = ℕ} 1 0 → ⊥
+          one-zero q = omega arith
+
+  -- any other answer, where it has none, that the tries ended first
+  out-of-none : (r ≡ 0 → ⊥) → w .found ≡ none → a < w .tries
+  unfolding number
+  out-of-none some e = not-le (λ t. some (d .enough t .0 ∙ ap number e))
+    where
+      not-le : (w .tries ≤ a → ⊥) → a < w .tries
+      not-le h = omega arith
+
+-- no job is left
+pub all-placed : {x : Problem} {n : ℕ} {place load : List ℕ} {i a : ℕ} → Ready x n place load → LoadsKept x (take i place) load → i ≡ n
+    → TriedJob x n place load i a 1 place load a
+unfolding number
+all-placed {x} {n} {place} {load} {i} {a} r loads h =
+    let d : planWalk x (take i place) ≡ record { found = at (take n place); tries = 0 } =
+    rw h (walk-all x (take n place) (length-take-le n place (r .places) ∙ sym (r .jobs))) in
+    record {
+      enough = rw d (λ _. (refl, omega arith));
+      out = rw d (λ q. absurd (omega arith));
+      found = λ _. rw d;
+      kept = refl;
+      beyond = refl;
+      size = refl;
+      undone = λ _. refl;
+      loads = λ _. rw h at loads;
+    }
+
+-- the loop over the frames of job i: those before k came to nothing, and left things as they were, so what the rest come to is the answer; of
+-- the a₀ tries a are left, and the frames before k took the others; `row` is the row of frame k
+pub record Trying (x : Problem) (n : ℕ) (place₀ load₀ : List ℕ) (i a₀ : ℕ) (place load : List ℕ) (a k row : ℕ) : Type 0 where
   pub kept : take i place ≡ take i place₀
   pub beyond : drop n place ≡ drop n place₀
   pub size : length place ≡ length place₀
   pub undone : load ≡ load₀
-  pub left : plan x (take i place₀) ≡ from x (take i place₀) k
+  pub rest : planWalk x (take i place₀) .found ≡ fromWalk x (take i place₀) k .found
+  pub spent : a + planWalk x (take i place₀) .tries ≡ a₀ + fromWalk x (take i place₀) k .tries
   pub at-row : row ≡ k % x .rows
 
 module _ {x : Problem} {n : ℕ} {place load : List ℕ} {i : ℕ} (more : i < n) (r : Ready x n place load) (loads : LoadsKept x (take i place) load) where
@@ -133,17 +173,20 @@ module _ {x : Problem} {n : ℕ} {place load : List ℕ} {i : ℕ} (more : i < n
   len = placed-before r more
 
   -- the loop begins
-  pub none-tried : {k : ℕ} → k ≡ getD (x .first) i 0 → Trying x n place load i place load k (k % x .rows)
-  none-tried e = record {
-    kept = refl;
-    beyond = refl;
-    size = refl;
-    undone = refl;
-    left = rw e (rw len at (plan-more x p (omega (arith, len, r .jobs))));
-    at-row = refl;
-  }
+  pub none-tried : {k a : ℕ} → k ≡ getD (x .first) i 0 → Trying x n place load i a place load a k (k % x .rows)
+  none-tried {k} {a} e =
+      let d : planWalk x p ≡ fromWalk x p k = rw e (rw len at (walk-next x p (omega (arith, len, r .jobs)))) in
+      record {
+        kept = refl;
+        beyond = refl;
+        size = refl;
+        undone = refl;
+        rest = ap (λ (w : Walk). w .found) d;
+        spent = ap (λ (w : Walk). a + w .tries) d;
+        at-row = refl;
+      }
 
-  module _ {k row : ℕ} {place′ load′ : List ℕ} (v : Trying x n place load i place′ load′ k row) where
+  module _ {k row a₀ a : ℕ} {place′ load′ : List ℕ} (v : Trying x n place load i a₀ place′ load′ a k row) where
     pub ready-again : Ready x n place′ load′
     ready-again = record {
       proper = r .proper;
@@ -160,44 +203,85 @@ module _ {x : Problem} {n : ℕ} {place load : List ℕ} {i : ℕ} (more : i < n
     kept-again = rw (v .undone, v .kept) loads
 
     -- the loop ends
-    pub none-left : {e : ℕ} → e ≡ getD (x .end) i 0 → e ≤ k → TriedJob x n place load i false place′ load′
-    unfolding answer
-    none-left is h = record {
-      found = v .left ∙ from-end x p k (rw (len, ← is) h);
-      kept = v .kept;
-      beyond = v .beyond;
-      size = v .size;
-      undone = λ _. v .undone;
-      loads = λ q. absurd (false≢true q);
-    }
+    pub none-left : {e : ℕ} → e ≡ getD (x .end) i 0 → e ≤ k → TriedJob x n place load i a₀ 0 place′ load′ a
+    unfolding number
+    none-left is h =
+        let d : fromWalk x p k ≡ record { found = none; tries = 0 } = walk-end x p k (rw (len, ← is) h) in
+        let t : fromWalk x p k .tries ≡ 0 = ap (λ (w : Walk). w .tries) d in
+        let f : planWalk x p .found ≡ none = v .rest ∙ ap (λ (w : Walk). w .found) d in
+        record {
+          enough = λ q. (rw f, omega (arith, v .spent));
+          out = λ q. absurd (omega (arith, v .spent));
+          found = λ q. absurd (omega arith);
+          kept = v .kept;
+          beyond = v .beyond;
+          size = v .size;
+          undone = λ _. v .undone;
+          loads = λ q. absurd (omega arith);
+        }
 
-    module _ {e : ℕ} (is : e ≡ getD (x .end) i 0) (h : k < e) {b : Bool} {place₂ load₂ : List ℕ} (d : TriedFrame x n place′ load′ i k b place₂ load₂) where
-      here : attempt x p k ≡ answer b (take n place₂)
-      here = rw (v .kept) at (d .found)
+    module _ {e : ℕ} (is : e ≡ getD (x .end) i 0) (h : k < e) {b : ℕ} {place₂ load₂ : List ℕ} {a₂ : ℕ} (d : TriedFrame x n place′ load′ i k a b place₂ load₂ a₂) where
+      abbrev here : Walk
+      here = attemptWalk x p k
+
+      abbrev behind : Walk
+      behind = fromWalk x p (k + 1)
+
+      of-here : Tried x (attemptWalk x p k) n place′ load′ i a b place₂ load₂ a₂
+      of-here = rw (v .kept) at d
+
+      turn : fromWalk x p k ≡ goOn (here .found) (here .tries) behind
+      turn = walk-more x p k (rw (len, ← is) h)
+
+      -- the frame has no placing, or one
+      goes-on : here .found ≡ none → fromWalk x p k ≡ record { found = behind .found; tries = here .tries + behind .tries }
+      goes-on e = turn ∙ on-none (here .tries) behind e
+
+      stops : {q : List ℕ} → here .found ≡ at q → fromWalk x p k ≡ record { found = at q; tries = here .tries }
+      stops e = turn ∙ on-found (here .tries) behind e
 
       -- the loop goes on
-      pub pass-on : b ≡ false → {row′ : ℕ} → row′ ≡ (row + 1) % x .rows → Trying x n place load i place₂ load₂ (k + 1) row′
-      unfolding answer
-      pass-on q w = record {
-        kept = d .kept ∙ v .kept;
-        beyond = d .beyond ∙ v .beyond;
-        size = d .size ∙ v .size;
-        undone = d .undone q ∙ v .undone;
-        left = v .left ∙ from-next x p k (rw (len, ← is) h) (rw q at here);
-        at-row = w ∙ rw (v .at-row) (mod-add-mod k (x .rows) 1);
-      }
+      pub pass-on : b ≡ 0 → {row′ : ℕ} → row′ ≡ (row + 1) % x .rows → Trying x n place load i a₀ place₂ load₂ a₂ (k + 1) row′
+      pass-on q w =
+          let (fit, e) = none-of-zero of-here q in
+          let u : fromWalk x p k .tries ≡ here .tries + behind .tries = ap (λ (w : Walk). w .tries) (goes-on e) in
+          record {
+            kept = d .kept ∙ v .kept;
+            beyond = d .beyond ∙ v .beyond;
+            size = d .size ∙ v .size;
+            undone = d .undone q ∙ v .undone;
+            rest = v .rest ∙ ap (λ (w : Walk). w .found) (goes-on e);
+            spent = omega (arith, v .spent, fit, of-here .enough fit .1);
+            at-row = w ∙ rw (v .at-row) (mod-add-mod k (x .rows) 1);
+          }
 
-      -- the job and those after it are placed
-      pub pass-found : b ≡ true → TriedJob x n place load i true place₂ load₂
-      unfolding answer
-      pass-found q = record {
-        found = v .left ∙ from-found x p k (rw (len, ← is) h) (take n place₂) (rw q at here);
+      -- the job and those after it are placed, or the tries have ended
+      pub pass-answer : (b ≡ 0 → ⊥) → TriedJob x n place load i a₀ b place₂ load₂ a₂
+      pass-answer some = record {
+        enough = λ t. reached t (here .found) refl;
+        out = λ t. exceeded t (here .found) refl;
+        found = λ q. v .rest ∙ ap (λ (w : Walk). w .found) (stops (of-here .found q));
         kept = d .kept ∙ v .kept;
         beyond = d .beyond ∙ v .beyond;
         size = d .size ∙ v .size;
-        undone = λ w. absurd (false≢true (sym w));
-        loads = λ _. d .loads q;
+        undone = λ q. absurd (some q);
+        loads = d .loads;
       }
+        where
+          reached : planWalk x p .tries ≤ a₀ → (o : Found) → here .found ≡ o → (b ≡ number (planWalk x p .found)) × (a₂ ≡ a₀ - planWalk x p .tries)
+          reached t none e =
+              let u : fromWalk x p k .tries ≡ here .tries + behind .tries = ap (λ (w : Walk). w .tries) (goes-on e) in
+              absurd (omega (arith, v .spent, out-of-none of-here some e))
+          reached t (at q) e =
+              let u : fromWalk x p k .tries ≡ here .tries = ap (λ (w : Walk). w .tries) (stops e) in
+              let fit : here .tries ≤ a = omega (arith, v .spent) in
+              (of-here .enough fit .0 ∙ ap number (e ∙ sym (v .rest ∙ ap (λ (w : Walk). w .found) (stops e))), omega (arith, v .spent, of-here .enough fit .1))
+
+          exceeded : a₀ < planWalk x p .tries → (o : Found) → here .found ≡ o → (b ≡ 2) × (a₂ ≡ 0)
+          exceeded t none e = of-here .out (out-of-none of-here some e)
+          exceeded t (at q) e =
+              let u : fromWalk x p k .tries ≡ here .tries = ap (λ (w : Walk). w .tries) (stops e) in
+              of-here .out (omega (arith, v .spent))
 
 -- job i, which takes c, is tested in frame k: its links leave it the frames from `low` to `high`
 pub record Testing (x : Problem) (n : ℕ) (place load : List ℕ) (i k row c low high : ℕ) : Type 0 where
@@ -224,22 +308,10 @@ module _ {x : Problem} {n : ℕ} {place load : List ℕ} {i k row c low high : �
       tested-by-load x before k load (s .ready .proper .some-row) (s .loads)
       ∙ rw (kept-between before k (linksOf x (length before)) (s .small), size, s .at-row, s .cost-is, s .bounds .0, s .bounds .1)
 
-  -- it may not stand there
-  pub refused : Test ≡ false → TriedFrame x n place load i k false place load
-  unfolding answer
-  refused e = record {
-    found = attempt-refused x before k (tested ∙ e);
-    kept = refl;
-    beyond = refl;
-    size = refl;
-    undone = λ _. refl;
-    loads = λ w. absurd (false≢true w);
-  }
+  snoc : take (i + 1) (set place i k) ≡ before ++ (k ∷ [])
+  snoc = rw add-one (take-suc-set place i k (omega (arith, s .more, s .ready .places)))
 
-  module _ (may : Test ≡ true) {v : ℕ} (v-is : v ≡ getD load row 0 + c) where
-    snoc : take (i + 1) (set place i k) ≡ before ++ (k ∷ [])
-    snoc = rw add-one (take-suc-set place i k (omega (arith, s .more, s .ready .places)))
-
+  module _ {v : ℕ} (v-is : v ≡ getD load row 0 + c) where
     -- it is put there
     pub put-ready : Ready x n (set place i k) (set load row v)
     put-ready = let r = s .ready in record {
@@ -257,34 +329,85 @@ module _ {x : Problem} {n : ℕ} {place load : List ℕ} {i k row c low high : �
         let w : v ≡ getD load (k % x .rows) 0 + getD (x .cost) (length before) 0 = v-is ∙ rw (s .at-row, s .cost-is, size) refl in
         rw (snoc, s .at-row) (put-loads x before load k v (s .ready .proper .some-row) (s .ready .row-room) (s .loads) w)
 
-    module _ {b : Bool} {place′ load′ : List ℕ} (d : TriedJob x n (set place i k) (set load row v) (i + 1) b place′ load′) where
-      found-here : attempt x before k ≡ answer b (take n place′)
-      found-here = attempt-made x before k (tested ∙ may) ∙ rw (← snoc) (d .found)
+  module _ {a : ℕ} where
+    -- no try is left for the test
+    pub none-allowed : a ≡ 0 → TriedFrame x n place load i k a 2 place load a
+    unfolding attemptWalk
+    none-allowed z =
+        let t : 1 ≤ attemptWalk x before k .tries = one-more (fits x before k) (planWalk x (before ++ (k ∷ []))) in
+        record {
+          enough = λ q. absurd (omega arith);
+          out = λ q. (refl, z);
+          found = λ q. absurd (omega arith);
+          kept = refl;
+          beyond = refl;
+          size = refl;
+          undone = λ q. absurd (omega arith);
+          loads = λ q. absurd (omega arith);
+        }
 
-      kept-here : take i place′ ≡ take i place
-      kept-here =
-          sym (take-take i (i + 1) place′ (omega arith)) ∙ ap (take i) (d .kept)
-          ∙ take-take i (i + 1) (set place i k) (omega arith) ∙ take-set-le i place i k (omega arith)
+    module _ (some : a ≡ 0 → ⊥) where
+      -- it may not stand there: the frame is passed over
+      pub refused : Test ≡ false → TriedFrame x n place load i k a 0 place load (a - 1)
+      unfolding number
+      refused e =
+          let d : attemptWalk x before k ≡ record { found = none; tries = 1 } = walk-not x before k (tested ∙ e) in
+          record {
+            enough = rw d (λ _. (refl, refl));
+            out = rw d (λ q. absurd (omega arith));
+            found = λ q. absurd (omega arith);
+            kept = refl;
+            beyond = refl;
+            size = refl;
+            undone = λ _. refl;
+            loads = λ q. absurd (omega arith);
+          }
 
-      -- the jobs after it were placed too
-      pub went : b ≡ true → TriedFrame x n place load i k true place′ load′
-      went q = record {
-        found = rw q at found-here;
-        kept = kept-here;
-        beyond = d .beyond ∙ drop-set-lt n place i k (s .more);
-        size = d .size ∙ length-set place i k;
-        undone = λ w. absurd (false≢true (sym w));
-        loads = λ _. d .loads q;
-      }
+      module _ (may : Test ≡ true) {v : ℕ} (v-is : v ≡ getD load row 0 + c) {b : ℕ} {place′ load′ : List ℕ} {a′ : ℕ}
+          (d : TriedJob x n (set place i k) (set load row v) (i + 1) (a - 1) b place′ load′ a′) where
+        abbrev sub : Walk
+        sub = planWalk x (before ++ (k ∷ []))
 
-      -- they were not: it is taken back, and its row has the load that it had
-      pub back : b ≡ false → TriedFrame x n place load i k false place′ (set load′ row (getD load row 0))
-      unfolding answer
-      back q = record {
-        found = rw q at found-here;
-        kept = kept-here;
-        beyond = d .beyond ∙ drop-set-lt n place i k (s .more);
-        size = d .size ∙ length-set place i k;
-        undone = λ _. ap (λ (l : List ℕ). set l row (getD load row 0)) (d .undone q) ∙ set-set load row v (getD load row 0) ∙ set-getD load row 0;
-        loads = λ w. absurd (false≢true w);
-      }
+        of-sub : Tried x sub n (set place i k) (set load row v) (i + 1) (a - 1) b place′ load′ a′
+        of-sub = subst (λ (l : List ℕ). Tried x (planWalk x l) n (set place i k) (set load row v) (i + 1) (a - 1) b place′ load′ a′) snoc d
+
+        walk-here : attemptWalk x before k ≡ record { found = sub .found; tries = 1 + sub .tries }
+        walk-here = walk-may x before k (tested ∙ may)
+
+        kept-here : take i place′ ≡ take i place
+        kept-here =
+            sym (take-take i (i + 1) place′ (omega arith)) ∙ ap (take i) (d .kept)
+            ∙ take-take i (i + 1) (set place i k) (omega arith) ∙ take-set-le i place i k (omega arith)
+
+        enough-here : attemptWalk x before k .tries ≤ a → (b ≡ number (attemptWalk x before k .found)) × (a′ ≡ a - attemptWalk x before k .tries)
+        enough-here =
+            rw walk-here (λ t. let fit : sub .tries ≤ a - 1 = omega arith in (of-sub .enough fit .0, omega (arith, of-sub .enough fit .1)))
+
+        out-here : a < attemptWalk x before k .tries → (b ≡ 2) × (a′ ≡ 0)
+        out-here = rw walk-here (λ t. of-sub .out (omega arith))
+
+        -- the jobs after it were placed too, or the tries have ended
+        pub went : (b ≡ 0 → ⊥) → TriedFrame x n place load i k a b place′ load′ a′
+        went q = record {
+          enough = enough-here;
+          out = out-here;
+          found = λ w. rw walk-here (of-sub .found w);
+          kept = kept-here;
+          beyond = d .beyond ∙ drop-set-lt n place i k (s .more);
+          size = d .size ∙ length-set place i k;
+          undone = λ w. absurd (q w);
+          loads = d .loads;
+        }
+
+        -- they were not: it is taken back, and its row has the load that it had
+        pub back : b ≡ 0 → TriedFrame x n place load i k a 0 place′ (set load′ row (getD load row 0)) a′
+        back q = record {
+          enough = λ t. (sym q ∙ enough-here t .0, enough-here t .1);
+          out = λ t. (sym q ∙ out-here t .0, out-here t .1);
+          found = λ w. absurd (omega arith);
+          kept = kept-here;
+          beyond = d .beyond ∙ drop-set-lt n place i k (s .more);
+          size = d .size ∙ length-set place i k;
+          undone = λ _. ap (λ (l : List ℕ). set l row (getD load row 0)) (d .undone q) ∙ set-set load row v (getD load row 0) ∙ set-getD load row 0;
+          loads = λ w. absurd (omega arith);
+        }

@@ -1,13 +1,16 @@
 -- What the search is given in arrays: the problem that they stand for, and what its functions require and ensure. A placing has the first n
 -- entries of the array of frames, one for each job. Assumes nothing.
 use mathlib.Core.Path.{_≡_}
-use mathlib.Core.Bool.{Bool, true, false}
 use mathlib.Core.List.{List, [], List·Memᴰ}
-use Prim.Native.Nat.{ℕ, _+_, _*_, _≤_, _<_}
+use Prim.Native.Nat.{ℕ, _+_, _-_, _*_, _≤_, _<_}
 use lib.ListN.{length, getD, take, drop, replicate}
+use lib.Dec.{ltb}
+use Rattle.cursor.specs.Choice.{pick}
 use Rattle.cursor.specs.Padded.{padded}
 use Rattle.search.specs.Search.{Found, none, at}
-use Rattle.search.specs.Placing.{Problem, problem, linksAt, partner, plan, attempt, Proper, LoadsKept}
+use Rattle.search.specs.Walk.{Walk}
+use Rattle.search.specs.Counting.{planWalk, attemptWalk}
+use Rattle.search.specs.Placing.{Problem, problem, linksAt, partner, Proper, LoadsKept}
 use Rattle.place.specs.declared.Placed.{Placed}
 
 -- the problem of the first n entries of these arrays
@@ -27,10 +30,14 @@ pub record Small (xs : List ℕ) (n : ℕ) : Type 0 where
   pub all : n ≤ length xs
   pub small : (j : ℕ) → j < n → getD xs j 0 ≤ 65535
 
--- what is found, as it is answered
-unfoldable pub placedAnswer : Found → Placed
-placedAnswer (at frames) = record { found = true; frames = padded 128 0 frames }
-placedAnswer none = record { found = false; frames = replicate 128 0 }
+-- what is found, as it is answered, with what is left of the tries
+unfoldable pub placedAnswer : Found → ℕ → Placed
+placedAnswer (at frames) left = record { answer = 1; left = left; frames = padded 128 0 frames }
+placedAnswer none left = record { answer = 0; left = left; frames = replicate 128 0 }
+
+-- what is answered where a tries are allowed: 2 "exactly when the full search needs more tries than allowed"
+unfoldable pub placedWithin : ℕ → Walk → Placed
+placedWithin a w = pick (ltb a (w .tries)) (record { answer = 2; left = 0; frames = replicate 128 0 }) (placedAnswer (w .found) (a - w .tries))
 
 -- what is given in one array: its parts
 abbrev pub partIn : List (List ℕ) → ℕ → List ℕ
@@ -67,25 +74,28 @@ pub record Ready (x : Problem) (n : ℕ) (place load : List ℕ) : Type 0 where
   pub places : n ≤ length place
   pub row-room : x .rows ≤ length load
 
--- the placing that an answer stands for
-unfoldable pub answer : Bool → List ℕ → Found
-answer true q = at q
-answer false q = none
+-- the answer for a placing or none
+unfoldable pub number : Found → ℕ
+number none = 0
+number (at p) = 1
 
--- how things are left where the search came to o: true answers the placing that `place` then has, with its loads; false answers that there is
--- none, and every load is as before; the jobs before i keep their frames, and what stands behind the n jobs is left alone
-pub record Tried (x : Problem) (o : Found) (n : ℕ) (place load : List ℕ) (i : ℕ) (r : Bool) (place′ load′ : List ℕ) : Type 0 where
-  pub found : o ≡ answer r (take n place′)
+-- how things are left where the search is w, a tries were left before it and a′ are after it: if a reaches the tries of w, the answer is the
+-- search's, and exactly those are taken off; else it is 2, and none is left. 1 leaves the placing in `place`, with its loads; 0 leaves every load
+-- as before; the jobs before i keep their frames, and what stands behind the n jobs is left alone
+pub record Tried (x : Problem) (w : Walk) (n : ℕ) (place load : List ℕ) (i a r : ℕ) (place′ load′ : List ℕ) (a′ : ℕ) : Type 0 where
+  pub enough : w .tries ≤ a → (r ≡ number (w .found)) × (a′ ≡ a - w .tries)
+  pub out : a < w .tries → (r ≡ 2) × (a′ ≡ 0)
+  pub found : r ≡ 1 → w .found ≡ at (take n place′)
   pub kept : take i place′ ≡ take i place
   pub beyond : drop n place′ ≡ drop n place
   pub size : length place′ ≡ length place
-  pub undone : r ≡ false → load′ ≡ load
-  pub loads : r ≡ true → LoadsKept x (take n place′) load′
+  pub undone : r ≡ 0 → load′ ≡ load
+  pub loads : r ≡ 1 → LoadsKept x (take n place′) load′
 
--- job i was tried in every frame of its window
-abbrev pub TriedJob : Problem → ℕ → List ℕ → List ℕ → ℕ → Bool → List ℕ → List ℕ → Type 0
-TriedJob x n place load i r place′ load′ = Tried x (plan x (take i place)) n place load i r place′ load′
+-- job i was tried in the frames of its window
+abbrev pub TriedJob : Problem → ℕ → List ℕ → List ℕ → ℕ → ℕ → ℕ → List ℕ → List ℕ → ℕ → Type 0
+TriedJob x n place load i a r place′ load′ a′ = Tried x (planWalk x (take i place)) n place load i a r place′ load′ a′
 
 -- job i was tried in frame k
-abbrev pub TriedFrame : Problem → ℕ → List ℕ → List ℕ → ℕ → ℕ → Bool → List ℕ → List ℕ → Type 0
-TriedFrame x n place load i k r place′ load′ = Tried x (attempt x (take i place) k) n place load i r place′ load′
+abbrev pub TriedFrame : Problem → ℕ → List ℕ → List ℕ → ℕ → ℕ → ℕ → ℕ → List ℕ → List ℕ → ℕ → Type 0
+TriedFrame x n place load i k a r place′ load′ a′ = Tried x (attemptWalk x (take i place) k) n place load i a r place′ load′ a′

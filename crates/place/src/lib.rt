@@ -2,6 +2,9 @@
 // kept. `place_job` tries the frames of one job, with the row as a running number; `try_frame` tests one of them, puts the job there and hands
 // over to `place_job` for the next. The load of each row is kept as jobs are put and taken back. Jobs are numbered in the order of placing.
 //
+// `left` is the number of tries that are left: one try is one job tested in one frame of its window, passed over or not. Both functions answer
+// 1: the jobs are placed; 0: there is no way to place them; 2: one more try was needed than were left.
+//
 // All that is given stands in one array, so that a call passes what it needs in registers. Its parts are the jobs' costs, the first frames of
 // their windows, the frames where these end, and the numbers of their links; the last part has the number of rows, the length of a frame and
 // the number of jobs.
@@ -10,12 +13,15 @@ ghost use mathlib.Core.List.{[]};
 ghost use Prim.Native.Nat.{_+_, _≤_, _<_, _%_};
 ghost use lib.ListN.{take, getD};
 ghost use Rattle.cursor.specs.Padded.{padded};
-ghost use Rattle.search.specs.Placing.{partner, raise, lower, linksAt, earliest, latest, hasRoom, plan, LoadsKept, Bounds};
-ghost use Rattle.place.specs.Arrays.{Small, Placeable, problemOf, jobsIn, rowsIn, countsIn, problemIn, LinksBack, Ready, TriedJob, TriedFrame, placedAnswer};
+ghost use Rattle.search.specs.Placing.{partner, raise, lower, linksAt, earliest, latest, hasRoom, LoadsKept, Bounds};
+ghost use Rattle.search.specs.Counting.{planWalk};
+ghost use Rattle.place.specs.Arrays.{Small, Placeable, problemOf, jobsIn, rowsIn, countsIn, problemIn, LinksBack, Ready, TriedJob, TriedFrame, placedWithin};
 
-// Whether a placing was found, and the frame of each job.
+// 1, and the frame of each job; 0, where there is no placing; or 2, where finding out takes more tries than are allowed. And how many tries are
+// left of those allowed.
 pub struct Placed {
-    pub found: bool,
+    pub answer: u8,
+    pub left: u64,
     pub frames: [u16; 128],
 }
 
@@ -114,24 +120,24 @@ fn next_row(row: usize, rows: u16) -> usize
     row + 1
 }
 
-// Places job i and those after it: tries the frames of its window, the earliest first. False: there is no way to place them after
-// the jobs before i, as those stand.
+// Places job i and those after it: tries the frames of its window, the earliest first. The jobs before i stay as they stand.
 fn place_job(
     given: &[[u16; 128]; 5],
     links: &[u8; 2048],
     place: &mut [u16; 128],
     load: &mut [u16; 256],
+    left: &mut u64,
     i: usize,
-) -> bool
+) -> u8
     requires { ⌜ i ≤ jobsIn (now given) ⌝ }
     requires { ⌜ Ready (problemIn (now given) (now links)) (jobsIn (now given)) (now place) (now load) ⌝ }
     requires { ⌜ LoadsKept (problemIn (now given) (now links)) (take i (now place)) (now load) ⌝ }
     ensures { λ r. ⌜ TriedJob (problemIn (now (given .entry)) (now (links .entry))) (jobsIn (now (given .entry)))
-        (now (place .entry)) (now (load .entry)) i r (now (place .exit)) (now (load .exit)) ⌝ }
+        (now (place .entry)) (now (load .entry)) i (now (left .entry)) r (now (place .exit)) (now (load .exit)) (now (left .exit)) ⌝ }
 {
     let n = given[4][2] as usize;
     if i == n {
-        return true;
+        return 1;
     }
     let low = lower_bound(given, links, place, i);
     let high = upper_bound(given, links, place, i);
@@ -140,56 +146,64 @@ fn place_job(
     let mut k = given[1][i];
     let mut row = (k % rows) as usize;
     while k < e {
-        if try_frame(given, links, place, load, i, k, row, low, high) {
-            return true;
+        let r = try_frame(given, links, place, load, left, i, k, row, low, high);
+        if r != 0 {
+            return r;
         }
         k += 1;
         row = next_row(row, rows);
     }
-    false
+    0
 }
 
-// Tests job i in frame k, and where it may stand there puts it there, with the jobs after it. Its links leave it the frames from `low` to `high`.
+// One try: tests job i in frame k, and where it may stand there puts it there, with the jobs after it. Its links leave it the frames from `low`
+// to `high`.
 fn try_frame(
     given: &[[u16; 128]; 5],
     links: &[u8; 2048],
     place: &mut [u16; 128],
     load: &mut [u16; 256],
+    left: &mut u64,
     i: usize,
     k: u16,
     row: usize,
     low: u16,
     high: u16,
-) -> bool
+) -> u8
     requires { ⌜ i < jobsIn (now given) ⌝ }
     requires { ⌜ Ready (problemIn (now given) (now links)) (jobsIn (now given)) (now place) (now load) ⌝ }
     requires { ⌜ LoadsKept (problemIn (now given) (now links)) (take i (now place)) (now load) ⌝ }
     requires { ⌜ row ≡ k % rowsIn (now given) ⌝ }
     requires { ⌜ Bounds (problemIn (now given) (now links)) (take i (now place)) i low high ⌝ }
     ensures { λ r. ⌜ TriedFrame (problemIn (now (given .entry)) (now (links .entry))) (jobsIn (now (given .entry)))
-        (now (place .entry)) (now (load .entry)) i k r (now (place .exit)) (now (load .exit)) ⌝ }
+        (now (place .entry)) (now (load .entry)) i k (now (left .entry)) r (now (place .exit)) (now (load .exit)) (now (left .exit)) ⌝ }
 {
+    if *left == 0 {
+        return 2;
+    }
+    *left -= 1;
     let l = load[row];
     let c = given[0][i];
     if !has_room(l, given[4][1], c) {
-        return false;
+        return 0;
     }
     if k < low {
-        return false;
+        return 0;
     }
     if k > high {
-        return false;
+        return 0;
     }
     load[row] = l + c;
     place[i] = k;
-    if place_job(given, links, place, load, i + 1) {
-        return true;
+    let r = place_job(given, links, place, load, left, i + 1);
+    if r != 0 {
+        return r;
     }
     load[row] = l;
-    false
+    0
 }
 
-// The first placing of n jobs in frames of length f.
+// The first placing of n jobs in frames of length f, if it is found within the tries allowed.
 pub fn place_all(
     cost: [u32; 128],
     first: [u16; 128],
@@ -199,9 +213,10 @@ pub fn place_all(
     n: usize,
     rows: u16,
     f: u16,
+    allowed: u64,
 ) -> Placed
     requires { ⌜ Placeable cost first end counts links n rows f ⌝ }
-    ensures { λ r. ⌜ r ≡ placedAnswer (plan (problemOf cost first end counts links n rows f) []) ⌝ }
+    ensures { λ r. ⌜ r ≡ placedWithin allowed (planWalk (problemOf cost first end counts links n rows f) []) ⌝ }
 {
     let costs = narrow(cost, n);
     let mut sizes = [0u16; 128];
@@ -211,14 +226,18 @@ pub fn place_all(
     let given = [costs, first, end, counts, sizes];
     let mut frames = [0u16; 128];
     let mut load = [0u16; 256];
-    if place_job(&given, &links, &mut frames, &mut load, 0) {
+    let mut left = allowed;
+    let answer = place_job(&given, &links, &mut frames, &mut load, &mut left, 0);
+    if answer == 1 {
         return Placed {
-            found: true,
+            answer,
+            left,
             frames,
         };
     }
     Placed {
-        found: false,
+        answer,
+        left,
         frames: [0; 128],
     }
 }

@@ -3,14 +3,14 @@
 use libc::STDERR_FILENO;
 use libc::STDIN_FILENO;
 use libc::STDOUT_FILENO;
-use table::Written;
+use planner::Searched;
 ghost use Rattle.io.specs.Counts.{Counts};
 
-// The planner's answer, whose length is within the buffer.
-fn plan(request: &[u8], out: &mut [u8]) -> Written
+// The planner's answer within the tries that a program allows; its length is within the buffer.
+fn plan(request: &[u8], out: &mut [u8]) -> Searched
     ensures { λ r. ⌜ Counts (r .length) (now (out .exit)) ⌝ }
 {
-    planner::plan(request, out)
+    planner::plan(request, planner::PROGRAM_TRIES, out)
 }
 
 // A request has at most 162 bytes: what longer input is refused with is decided by its first 163.
@@ -18,12 +18,12 @@ fn main() {
     let mut input = io::buffer();
     let n = io::read_full(STDIN_FILENO, &mut input);
     let mut out = io::buffer();
-    let written = plan(&input[..n], &mut out);
-    if written.refusal != 0 {
-        let end = listing::refused(written.refusal, &mut out);
+    let planned = plan(&input[..n], &mut out);
+    if planned.refusal != 0 {
+        let end = listing::refused(planned.refusal, &mut out);
         io::write_all(STDERR_FILENO, &out[..end]);
         return;
     }
-    let length = written.length;
+    let length = planned.length;
     io::write_all(STDOUT_FILENO, &out[..length]);
 }

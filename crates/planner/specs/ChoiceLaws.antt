@@ -1,27 +1,31 @@
--- The loop over the numbers of rows: with those left to try, it comes to the definition's choice.
+-- The loop over the numbers of rows: with those left to try, it comes to the definition's choice, and to its tries.
 use Prim.Native.Nat.{ℕ, suc, _+_, _-_, _/_, _%_, _≤_, _<_}
-use mathlib.Core.Path.{_≡_, refl, sym, ap, _∙_}
+use mathlib.Core.Path.{_≡_, refl, ap, _∙_}
 use mathlib.Core.Bool.{Bool, true, false}
 use mathlib.Core.List.{List, []}
 use native.Mathlib.Nat.{div-zero}
 use native.Mathlib.Omega.{arith}
-use lib.Dec.{eqb}
+use lib.ListN.{replicate}
+use lib.Dec.{ltb, eqb}
+use borrow.Author.Tests.{le-ltb, lt-ltb, ltb-true, ltb-false}
 use Rattle.cursor.specs.Choice.{pick, both}
-use Rattle.cursor.specs.ParsedLaws.{never, both-true}
+use Rattle.cursor.specs.ParsedLaws.{both-true}
 use Rattle.cursor.specs.Padded.{padded}
 use Rattle.cycle.specs.declared.Cycle.{Cycle}
 use Rattle.search.specs.Search.{Found, none, at}
-use Rattle.search.specs.Placing.{plan}
+use Rattle.search.specs.Walk.{Walk}
+use Rattle.search.specs.Counting.{planWalk}
 use Rattle.model.specs.Plan.{Instance, costs}
 use Rattle.model.specs.Answers.{instanceOf}
 use Rattle.model.specs.Plausible.{plausibleBy, plausible}
-use Rattle.model.specs.Chosen.{Choice, noPlan, noPlausible, isTried, foundOr, chooseFrom, problemAt}
-use Rattle.model.specs.ChosenLaws.{choose-end, choose-skipped, choose-tried}
+use Rattle.model.specs.Chosen.{chosen, noPlan, noPlausible, isTried, problemAt}
+use Rattle.model.specs.ChosenTries.{ChoiceWalk, goOnLengths, walkLengths, chooseWalk, fullTries, walkWith}
+use Rattle.model.specs.ChosenTries.{lengths-end, lengths-skipped, lengths-tried, lengths-found, lengths-none, lengths-more}
 use Rattle.problem.specs.Answers.{linksAnswer}
 use Rattle.problem.specs.declared.JobLinks.{JobLinks}
-use Rattle.place.specs.Arrays.{placedAnswer}
+use Rattle.place.specs.Arrays.{placedAnswer, placedWithin}
 use Rattle.place.specs.declared.Placed.{Placed}
-use Rattle.planner.specs.Choices.{Planned, Searchable, noneChosen, choiceAnswer}
+use Rattle.planner.specs.Choices.{Planned, Searchable, noneChosen, choiceAnswer, choiceWithin}
 use Rattle.planner.specs.declared.choose.ChosenPlan.{ChosenPlan}
 
 both-false : (b : Bool) → both b false ≡ false
@@ -42,60 +46,131 @@ pub searchable : (c : Cycle) (cost : List ℕ) (links : JobLinks) (rows : ℕ) �
 unfolding instanceOf
 searchable c cost links rows p e l t = record { planned = p; plausible-is = tried-plausible (instanceOf c) rows t; cost-is = e; links-are = l }
 
-module _ (x : Instance) (rows : ℕ) (few : rows ≤ 256) (some : Bool) where
-  left : 257 - rows ≡ suc (257 - (rows + 1))
-  left = omega arith
+-- what an answer within an allowance says of the search
+module _ (a : ℕ) (w : Walk) {r : Placed} (is : r ≡ placedWithin a w) where
+  abbrev Says : Type 0
+  Says =
+      (r .answer ≡ 2 → a < w .tries)
+      × (r .answer ≡ 1 → (frames : List ℕ) × (w .found ≡ at frames) × (r .frames ≡ padded 128 0 frames))
+      × ((r .answer ≡ 2 → ⊥) → (r .answer ≡ 1 → ⊥) → w .found ≡ none)
+      × ((r .answer ≡ 2 → ⊥) → (w .tries ≤ a) × (r .left ≡ a - w .tries))
 
-  -- a length that is not tried
-  pub skipped : isTried x rows ≡ false → chooseFrom x (257 - (rows + 1)) (rows + 1) some ≡ chooseFrom x (257 - rows) rows some
-  skipped e = rw left (sym (choose-skipped x (257 - (rows + 1)) rows some e))
+  says : Says
+  unfolding placedWithin placedAnswer
+  says = go (ltb a (w .tries)) refl (w .found) refl
+    where
+      go : (b : Bool) → ltb a (w .tries) ≡ b → (o : Found) → w .found ≡ o → Says
+      go true t o p =
+          let q : r ≡ record { answer = 2; left = 0; frames = replicate 128 0 } = is ∙ rw t in
+          let z : r .answer ≡ 2 = ap (λ (y : Placed). y .answer) q in
+          (λ e. ltb-true a (w .tries) t, λ e. absurd (omega arith), λ h _. absurd (h z), λ h. absurd (h z))
+      go false t none p =
+          let q : r ≡ record { answer = 0; left = a - w .tries; frames = replicate 128 0 } = is ∙ rw (t, p) in
+          let z : r .answer ≡ 0 = ap (λ (y : Placed). y .answer) q in
+          (λ e. absurd (omega arith), λ e. absurd (omega arith), λ _ _. p, λ _. (ltb-false a (w .tries) t, ap (λ (y : Placed). y .left) q))
+      go false t (at frames) p =
+          let q : r ≡ record { answer = 1; left = a - w .tries; frames = padded 128 0 frames } = is ∙ rw (t, p) in
+          let z : r .answer ≡ 1 = ap (λ (y : Placed). y .answer) q in
+          (λ e. absurd (omega arith), λ e. (frames, p, ap (λ (y : Placed). y .frames) q), λ _ h. absurd (h z), λ _. (ltb-false a (w .tries) t, ap (λ (y : Placed). y .left) q))
 
-  -- the length, and the choice among those behind it
-  abbrev f : ℕ
-  f = x .h / rows
+-- the loop: what the lengths left come to is the choice, and what is left of the tries with those of the whole search is what was allowed with
+-- those of the lengths left
+pub record Choosing (x : Instance) (allowed left rows : ℕ) (some : Bool) : Type 0 where
+  pub begun : 1 ≤ rows
+  pub most : rows ≤ 257
+  pub within : left ≤ allowed
+  pub rest : chooseWalk x .choice ≡ walkLengths x (257 - rows) rows some .choice
+  pub spent : left + fullTries x ≡ allowed + walkLengths x (257 - rows) rows some .tries
 
-  abbrev after : Choice
-  after = chooseFrom x (257 - (rows + 1)) (rows + 1) true
+pub choosing-start : (x : Instance) (allowed : ℕ) → Choosing x allowed allowed 1 false
+unfolding chooseWalk
+choosing-start x allowed = record { begun = omega arith; most = omega arith; within = omega arith; rest = refl; spent = refl }
 
-  module _ (tried : isTried x rows ≡ true) (r : Placed) (is : r ≡ placedAnswer (plan (problemAt x f) [])) where
-    turn : chooseFrom x (257 - rows) rows some ≡ foundOr f (plan (problemAt x f) []) after
-    turn = rw left (choose-tried x (257 - (rows + 1)) rows some tried)
+module _ {x : Instance} {allowed left rows : ℕ} {some : Bool} (v : Choosing x allowed left rows some) where
+  abbrev here : ChoiceWalk
+  here = walkLengths x (257 - rows) rows some
 
-    -- a length without a plan
-    pub none-with : r .found ≡ false → after ≡ chooseFrom x (257 - rows) rows some
-    unfolding placedAnswer foundOr
-    none-with e = go (plan (problemAt x f) []) is ∙ sym turn
-      where
-        go : (o : Found) → r ≡ placedAnswer o → after ≡ foundOr f o after
-        go (at frames) q = absurd (never (no-bool (sym (ap (λ (p : Placed). p .found) q) ∙ e)))
-          where
-            no-bool : true ≡ false → _≡_ {A = ℕ} 0 1
-            no-bool w = cc
-        go none q = refl
+  module _ (few : rows ≤ 256) where
+    count : 257 - rows ≡ suc (257 - (rows + 1))
+    count = omega arith
 
-    -- a length with one
-    pub one-with : r .found ≡ true
-        → _≡_ {A = ChosenPlan} (record { refusal = 0; f = f; frames = r .frames }) (choiceAnswer (chooseFrom x (257 - rows) rows some))
-    unfolding placedAnswer foundOr choiceAnswer
-    one-with e = go (plan (problemAt x f) []) is ∙ ap choiceAnswer (sym turn)
-      where
-        go : (o : Found) → r ≡ placedAnswer o
-            → _≡_ {A = ChosenPlan} (record { refusal = 0; f = f; frames = r .frames }) (choiceAnswer (foundOr f o after))
-        go (at frames) q = λ i. record { refusal = 0; f = f; frames = q i .frames }
-        go none q = absurd (never (no-bool (sym (ap (λ (p : Placed). p .found) q) ∙ e)))
-          where
-            no-bool : false ≡ true → _≡_ {A = ℕ} 0 1
-            no-bool w = cc
+    -- a length that is not tried
+    pub skipped : isTried x rows ≡ false → Choosing x allowed left (rows + 1) some
+    skipped e =
+        let d : here ≡ walkLengths x (257 - (rows + 1)) (rows + 1) some = rw count (lengths-skipped x (257 - (rows + 1)) rows some e) in
+        record {
+          begun = omega arith;
+          most = omega arith;
+          within = v .within;
+          rest = v .rest ∙ ap (λ (y : ChoiceWalk). y .choice) d;
+          spent = v .spent ∙ ap (λ (y : ChoiceWalk). allowed + y .tries) d;
+        }
 
--- all lengths are passed
-module _ (x : Instance) (rows : ℕ) (all : 256 < rows) (some : Bool) where
-  pub passed : chooseFrom x (257 - rows) rows some ≡ pick some noPlan noPlausible
-  passed = let none-left : 257 - rows ≡ 0 = omega arith in rw none-left (choose-end x rows some)
+    module _ (tried : isTried x rows ≡ true) {r : Placed} (is : r ≡ placedWithin left (planWalk (problemAt x (x .h / rows)) [])) where
+      abbrev w : Walk
+      w = walkWith x rows
 
-  pub some-passed : some ≡ true → noneChosen 10 ≡ choiceAnswer (chooseFrom x (257 - rows) rows some)
-  unfolding choiceAnswer
-  some-passed e = sym (ap choiceAnswer (passed ∙ ap (λ (b : Bool). pick b noPlan noPlausible) e))
+      abbrev after : ChoiceWalk
+      after = walkLengths x (257 - (rows + 1)) (rows + 1) true
 
-  pub none-passed : some ≡ false → noneChosen 9 ≡ choiceAnswer (chooseFrom x (257 - rows) rows some)
-  unfolding choiceAnswer
-  none-passed e = sym (ap choiceAnswer (passed ∙ ap (λ (b : Bool). pick b noPlan noPlausible) e))
+      turn : here ≡ goOnLengths (x .h / rows) (w .found) (w .tries) after
+      turn = rw count (lengths-tried x (257 - (rows + 1)) rows some tried)
+
+      -- what is left after it
+      pub left-less : (r .answer ≡ 2 → ⊥) → r .left ≤ allowed
+      left-less h = omega (arith, says left w is .3 h .1, v .within)
+
+      -- a length without a plan
+      pub none-with : (r .answer ≡ 2 → ⊥) → (r .answer ≡ 1 → ⊥) → Choosing x allowed (r .left) (rows + 1) true
+      none-with h₂ h₁ =
+          let (reached, left-is) = says left w is .3 h₂ in
+          let d : here ≡ record { choice = after .choice; tries = w .tries + after .tries } = turn ∙ lengths-none (x .h / rows) (w .tries) after (says left w is .2 h₂ h₁) in
+          let t : here .tries ≡ w .tries + after .tries = ap (λ (y : ChoiceWalk). y .tries) d in
+          record {
+            begun = omega arith;
+            most = omega arith;
+            within = left-less h₂;
+            rest = v .rest ∙ ap (λ (y : ChoiceWalk). y .choice) d;
+            spent = omega (arith, v .spent, reached, left-is);
+          }
+
+      -- a length with one
+      pub one-with : (r .answer ≡ 2 → ⊥) → r .answer ≡ 1
+          → _≡_ {A = ChosenPlan} (record { refusal = 0; f = x .h / rows; frames = r .frames; tries = allowed - r .left }) (choiceWithin allowed (chooseWalk x))
+      unfolding choiceWithin choiceAnswer
+      one-with h₂ h =
+          let (frames, found, frames-are) = says left w is .1 h in
+          let (reached, left-is) = says left w is .3 h₂ in
+          let d : here ≡ record { choice = chosen (x .h / rows) frames; tries = w .tries } = turn ∙ lengths-found (x .h / rows) (w .tries) after found in
+          let t : here .tries ≡ w .tries = ap (λ (y : ChoiceWalk). y .tries) d in
+          let whole : fullTries x ≤ allowed = omega (arith, v .spent) in
+          let c : chooseWalk x .choice ≡ chosen (x .h / rows) frames = v .rest ∙ ap (λ (y : ChoiceWalk). y .choice) d in
+          let tries-are : allowed - r .left ≡ fullTries x = omega (arith, v .spent, v .within) in
+          rw (le-ltb allowed (fullTries x) whole, c) (λ i. record { refusal = 0; f = x .h / rows; frames = frames-are i; tries = tries-are i })
+
+      -- a length at which the tries end
+      pub out-with : r .answer ≡ 2 → noneChosen 23 allowed ≡ choiceWithin allowed (chooseWalk x)
+      unfolding choiceWithin
+      out-with h =
+          let t : w .tries ≤ here .tries = rw turn (lengths-more (x .h / rows) (w .found) (w .tries) after) in
+          let more : allowed < fullTries x = omega (arith, v .spent, says left w is .0 h) in
+          rw (lt-ltb allowed (fullTries x) more)
+
+  -- all lengths are passed
+  module _ (all : 256 < rows) where
+    passed : here ≡ record { choice = pick some noPlan noPlausible; tries = 0 }
+    passed = let none-left : 257 - rows ≡ 0 = omega arith in rw none-left (lengths-end x rows some)
+
+    tries-are : allowed - left ≡ fullTries x
+    tries-are = let t : here .tries ≡ 0 = ap (λ (y : ChoiceWalk). y .tries) passed in omega (arith, v .spent, v .within)
+
+    reached : (ltb allowed (fullTries x) ≡ false) × (chooseWalk x .choice ≡ pick some noPlan noPlausible)
+    reached = (le-ltb allowed (fullTries x) (omega (arith, tries-are)), v .rest ∙ ap (λ (y : ChoiceWalk). y .choice) passed)
+
+    pub some-passed : some ≡ true → noneChosen 10 (allowed - left) ≡ choiceWithin allowed (chooseWalk x)
+    unfolding choiceWithin choiceAnswer
+    some-passed e = rw (reached .0, reached .1, e, tries-are)
+
+    pub none-passed : some ≡ false → noneChosen 9 (allowed - left) ≡ choiceWithin allowed (chooseWalk x)
+    unfolding choiceWithin choiceAnswer
+    none-passed e = rw (reached .0, reached .1, e, tries-are)

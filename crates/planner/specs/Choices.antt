@@ -4,6 +4,8 @@ use mathlib.Core.Path.{_≡_}
 use mathlib.Core.Bool.{true}
 use mathlib.Core.List.{List}
 use lib.ListN.{replicate}
+use lib.Dec.{ltb}
+use Rattle.cursor.specs.Choice.{pick}
 use Rattle.cursor.specs.Padded.{padded}
 use Rattle.cycle.specs.declared.Cycle.{Cycle}
 use Rattle.model.specs.Plan.{costs}
@@ -11,17 +13,23 @@ use Rattle.model.specs.Good.{Good}
 use Rattle.model.specs.Answers.{instanceOf}
 use Rattle.model.specs.Plausible.{plausible}
 use Rattle.model.specs.Chosen.{Choice, chosen, noPlan, noPlausible}
+use Rattle.model.specs.ChosenTries.{ChoiceWalk}
 use Rattle.problem.specs.Answers.{linksAnswer}
 use Rattle.problem.specs.declared.JobLinks.{JobLinks}
 use Rattle.planner.specs.declared.choose.ChosenPlan.{ChosenPlan}
 
-abbrev pub noneChosen : ℕ → ChosenPlan
-noneChosen number = record { refusal = number; f = 0; frames = replicate 128 0 }
+-- number after so many tries
+abbrev pub noneChosen : ℕ → ℕ → ChosenPlan
+noneChosen number tries = record { refusal = number; f = 0; frames = replicate 128 0; tries = tries }
 
-unfoldable pub choiceAnswer : Choice → ChosenPlan
-choiceAnswer (chosen f frames) = record { refusal = 0; f = f; frames = padded 128 0 frames }
-choiceAnswer noPlan = noneChosen 10
-choiceAnswer noPlausible = noneChosen 9
+unfoldable pub choiceAnswer : Choice → ℕ → ChosenPlan
+choiceAnswer (chosen f frames) tries = record { refusal = 0; f = f; frames = padded 128 0 frames; tries = tries }
+choiceAnswer noPlan tries = noneChosen 10 tries
+choiceAnswer noPlausible tries = noneChosen 9 tries
+
+-- the choice where a tries are allowed: "23 .. in place of a table or 10, exactly when the full search needs more tries than allowed"
+unfoldable pub choiceWithin : ℕ → ChoiceWalk → ChosenPlan
+choiceWithin a w = pick (ltb a (w .tries)) (noneChosen 23 a) (choiceAnswer (w .choice) (w .tries))
 
 -- the cycle of a request within the limits
 pub record Planned (c : Cycle) : Type 0 where

@@ -1,9 +1,12 @@
--- The laws by which a request is planned: it is refused, or its choice decides.
-use Prim.Native.Nat.{ℕ}
+-- The laws by which a request is planned: it is refused, or its choice decides, or the tries end first.
+use Prim.Native.Nat.{ℕ, _≤_, _<_, min}
 use mathlib.Core.Path.{_≡_, refl, sym, ap, _∙_}
+use mathlib.Core.Bool.{Bool, true, false}
 use mathlib.Core.List.{List}
 use native.Mathlib.Omega.{arith}
 use lib.ListN.{length}
+use lib.Dec.{ltb}
+use borrow.Author.Tests.{le-ltb, lt-ltb, ltb-true, ltb-false}
 use Rattle.cycle.specs.Cycle.{Cycle, noCycle, cycleOf}
 use Rattle.cycle.specs.declared.Cycle as c
 use Rattle.table.specs.declared.Written.{Written}
@@ -12,28 +15,42 @@ use Rattle.model.specs.Answers.{instanceOf}
 use Rattle.model.specs.Within.{Taken}
 use Rattle.model.specs.Chosen.{Choice, chosen, noPlan, noPlausible, choose, RightBy, RightChoice}
 use Rattle.model.specs.ChosenLaws.{choose-right}
+use Rattle.model.specs.ChosenTries.{chooseWalk, fullTries, walk-chooses}
 use Rattle.planned_table.specs.Written.{planWritten, planBuffer}
 use Rattle.planned_table.specs.WriteLaws.{plan-written}
 use Rattle.planned_table.specs.Outcome.{refusal, outcomeAnswer, outcomeBuffer}
-use Rattle.planner.specs.Outcome.{byChoice, inCycle, outcome}
-use Rattle.planner.specs.Choices.{Planned, choiceAnswer}
+use Rattle.planner.specs.Outcome.{byChoice, inCycle, outcome, triesIn, requestTries, outcomeWithin, searchedAnswer}
+use Rattle.planner.specs.Choices.{Planned, noneChosen, choiceAnswer, choiceWithin}
+use Rattle.planner.specs.declared.Searched.{Searched}
 use Rattle.planner.specs.declared.choose.ChosenPlan.{ChosenPlan}
 
--- what is answered, and left in the buffer, is the outcome's
-abbrev pub Hands : List ℕ → List ℕ → Written → List ℕ → Type 0
-Hands s out w out′ = (w ≡ outcomeAnswer (outcome s) out) × (out′ ≡ outcomeBuffer (outcome s) out)
+-- the allowance reaches the full search's tries, or it does not
+module _ (a : ℕ) (s : List ℕ) where
+  pub within-reached : requestTries s ≤ a → outcomeWithin a s ≡ outcome s
+  unfolding outcomeWithin
+  within-reached h = rw (le-ltb a (requestTries s) h)
+
+  pub within-exceeded : a < requestTries s → outcomeWithin a s ≡ refusal 23
+  unfolding outcomeWithin
+  within-exceeded h = rw (lt-ltb a (requestTries s) h)
+
+-- what is answered, and left in the buffer
+abbrev pub Hands : ℕ → List ℕ → List ℕ → Searched → List ℕ → Type 0
+Hands a s out r out′ = (r ≡ searchedAnswer a s out) × (out′ ≡ outcomeBuffer (outcomeWithin a s) out)
 
 -- a refusal's answer, from its parts
-refusal-handed : (s : List ℕ) (number : ℕ) → outcome s ≡ refusal number → (w : Written) → (w .refusal ≡ number) × (w .length ≡ 0)
-    → (out : List ℕ) → Hands s out w out
-unfolding outcomeAnswer outcomeBuffer
-refusal-handed s number e w parts out = rw e (λ i. record { refusal = parts .0 i; length = parts .1 i }, refl)
+refusal-handed : (a : ℕ) (s : List ℕ) (number tries : ℕ) → outcomeWithin a s ≡ refusal number → tries ≡ min a (requestTries s)
+    → (r : Searched) → (r .refusal ≡ number) × (r .length ≡ 0) × (r .tries ≡ tries) → (out : List ℕ) → Hands a s out r out
+unfolding outcomeAnswer outcomeBuffer searchedAnswer
+refusal-handed a s number tries e t r parts out = rw e (λ i. record { refusal = parts .0 i; length = parts .1 i; tries = (parts .2 ∙ t) i }, refl)
 
 -- the request is refused
-pub not-within : (s : List ℕ) (number : ℕ) → cycleOf s ≡ noCycle number → (w : Written) → (w .refusal ≡ number) × (w .length ≡ 0)
-    → (out : List ℕ) → Hands s out w out
-unfolding outcome
-not-within s number e = refusal-handed s number (ap inCycle e)
+pub not-within : (a : ℕ) (s : List ℕ) (number : ℕ) → cycleOf s ≡ noCycle number
+    → (r : Searched) → (r .refusal ≡ number) × (r .length ≡ 0) × (r .tries ≡ 0) → (out : List ℕ) → Hands a s out r out
+unfolding outcome requestTries
+not-within a s number e =
+    let none : requestTries s ≡ 0 = ap triesIn e in
+    refusal-handed a s number 0 (within-reached a s (omega arith) ∙ ap inCycle e) (omega arith)
 
 -- it is within the limits
 module _ (s : List ℕ) (d : c.Cycle) (t : Taken s d) where
@@ -47,26 +64,62 @@ module _ (s : List ℕ) (d : c.Cycle) (t : Taken s d) where
   unfolding outcome
   outcome-is = ap inCycle (t .within)
 
-  module _ (p : ChosenPlan) (p-is : p ≡ choiceAnswer (choose x)) where
-    -- 9 or 10
-    pub none-chosen : (p .refusal ≡ 0 → ⊥) → (w : Written) → (w .refusal ≡ p .refusal) × (w .length ≡ 0) → (out : List ℕ) → Hands s out w out
-    unfolding choiceAnswer
-    none-chosen ne = refusal-handed s (p .refusal) (outcome-is ∙ go (choose x) p-is)
+  tries-are : requestTries s ≡ fullTries x
+  unfolding requestTries
+  tries-are = ap triesIn (t .within)
+
+  module _ (a : ℕ) (p : ChosenPlan) (p-is : p ≡ choiceWithin a (chooseWalk x)) where
+    -- the choice was searched to its end
+    reached-is : fullTries x ≤ a → p ≡ choiceAnswer (choose x) (fullTries x)
+    unfolding choiceWithin
+    reached-is h = p-is ∙ rw (le-ltb a (fullTries x) h, walk-chooses x)
+
+    -- 9, 10 or 23
+    pub none-chosen : (p .refusal ≡ 0 → ⊥) → (r : Searched) → (r .refusal ≡ p .refusal) × (r .length ≡ 0) × (r .tries ≡ p .tries)
+        → (out : List ℕ) → Hands a s out r out
+    unfolding choiceAnswer choiceWithin
+    none-chosen ne = go (ltb a (fullTries x)) refl
       where
-        go : (o : Choice) → p ≡ choiceAnswer o → byChoice x o ≡ refusal (p .refusal)
-        go (chosen f frames) q = absurd (ne (ap (λ (y : ChosenPlan). y .refusal) q))
-        go noPlan q = ap refusal (sym (ap (λ (y : ChosenPlan). y .refusal) q))
-        go noPlausible q = ap refusal (sym (ap (λ (y : ChosenPlan). y .refusal) q))
+        by-choice : fullTries x ≤ a → (o : Choice) → p ≡ choiceAnswer o (fullTries x)
+            → (byChoice x o ≡ refusal (p .refusal)) × (p .tries ≡ fullTries x)
+        by-choice h (chosen f frames) q = absurd (ne (ap (λ (y : ChosenPlan). y .refusal) q))
+        by-choice h noPlan q = (ap refusal (sym (ap (λ (y : ChosenPlan). y .refusal) q)), ap (λ (y : ChosenPlan). y .tries) q)
+        by-choice h noPlausible q = (ap refusal (sym (ap (λ (y : ChosenPlan). y .refusal) q)), ap (λ (y : ChosenPlan). y .tries) q)
+
+        go : (b : Bool) → ltb a (fullTries x) ≡ b → (r : Searched) → (r .refusal ≡ p .refusal) × (r .length ≡ 0) × (r .tries ≡ p .tries)
+            → (out : List ℕ) → Hands a s out r out
+        go true e =
+            let h = ltb-true a (fullTries x) e in
+            let q : p ≡ noneChosen 23 a = p-is ∙ rw e in
+            refusal-handed a s (p .refusal) (p .tries)
+            (within-exceeded a s (omega (arith, tries-are)) ∙ ap refusal (sym (ap (λ (y : ChosenPlan). y .refusal) q)))
+            (omega (arith, ap (λ (y : ChosenPlan). y .tries) q, tries-are))
+        go false e =
+            let h = ltb-false a (fullTries x) e in
+            let o = by-choice h (choose x) (reached-is h) in
+            refusal-handed a s (p .refusal) (p .tries) (within-reached a s (omega (arith, tries-are)) ∙ outcome-is ∙ o .0) (omega (arith, o .1, tries-are))
 
     -- the chosen plan is written
-    pub plan-chosen : p .refusal ≡ 0 → (out : List ℕ)
-        → Hands s out (planWritten (cycleOf s) (p .f) (p .frames) out) (planBuffer (cycleOf s) (p .f) (p .frames) out)
-    unfolding choiceAnswer outcomeAnswer outcomeBuffer RightBy
-    plan-chosen z out = rw outcome-is (go (choose x) p-is (choose-right x (t .good)))
+    pub plan-chosen : p .refusal ≡ 0 → (out : List ℕ) {w : Written} {out′ : List ℕ} → w ≡ planWritten (cycleOf s) (p .f) (p .frames) out
+        → out′ ≡ planBuffer (cycleOf s) (p .f) (p .frames) out → Hands a s out (record { refusal = w .refusal; length = w .length; tries = p .tries }) out′
+    unfolding choiceAnswer choiceWithin searchedAnswer outcomeAnswer outcomeBuffer RightBy
+    plan-chosen z out {w} {out′} w-is out-is = go (ltb a (fullTries x)) refl
       where
-        go : (o : Choice) → p ≡ choiceAnswer o → RightChoice x o
-            → (planWritten (cycleOf s) (p .f) (p .frames) out ≡ outcomeAnswer (byChoice x o) out)
-            × (planBuffer (cycleOf s) (p .f) (p .frames) out ≡ outcomeBuffer (byChoice x o) out)
-        go (chosen f frames) q r = rw q (plan-written s x (t .within) f frames out (r .is-plan .all))
-        go noPlan q r = absurd (omega (arith, ap (λ (y : ChosenPlan). y .refusal) q))
-        go noPlausible q r = absurd (omega (arith, ap (λ (y : ChosenPlan). y .refusal) q))
+        by-choice : (o : Choice) → p ≡ choiceAnswer o (fullTries x) → RightChoice x o
+            → (w ≡ outcomeAnswer (byChoice x o) out) × (out′ ≡ outcomeBuffer (byChoice x o) out) × (p .tries ≡ fullTries x)
+        by-choice (chosen f frames) q r =
+            let written = plan-written s x (t .within) f frames out (r .is-plan .all) in
+            (w-is ∙ rw q (written .0), out-is ∙ rw q (written .1), ap (λ (y : ChosenPlan). y .tries) q)
+        by-choice noPlan q r = absurd (omega (arith, ap (λ (y : ChosenPlan). y .refusal) q))
+        by-choice noPlausible q r = absurd (omega (arith, ap (λ (y : ChosenPlan). y .refusal) q))
+
+        go : (b : Bool) → ltb a (fullTries x) ≡ b → Hands a s out (record { refusal = w .refusal; length = w .length; tries = p .tries }) out′
+        go true e =
+            let q : p ≡ noneChosen 23 a = p-is ∙ rw e in
+            absurd (omega (arith, ap (λ (y : ChosenPlan). y .refusal) q))
+        go false e =
+            let h = ltb-false a (fullTries x) e in
+            let o = by-choice (choose x) (reached-is h) (choose-right x (t .good)) in
+            let is : outcomeWithin a s ≡ byChoice x (choose x) = within-reached a s (omega (arith, tries-are)) ∙ outcome-is in
+            let tries : p .tries ≡ min a (requestTries s) = omega (arith, o .2, tries-are) in
+            rw is (λ i. record { refusal = o .0 i .refusal; length = o .0 i .length; tries = tries i }, o .1)

@@ -1,4 +1,4 @@
--- What planning comes to: a table of the right form with at most 256 rows and 128 entries, so of at most 519 bytes, or a number from 1 to 10. And how it
+-- What planning comes to: a table of the right form with at most 256 rows and 128 entries, so of at most 519 bytes, or a number from 1 to 23. And how it
 -- stands in a buffer of 519 bytes or more, for a caller that reads it there.
 use Prim.Native.Nat.{ℕ, _≤_, _<_}
 use mathlib.Core.Path.{_≡_, refl, sym, ap, _∙_}
@@ -26,7 +26,8 @@ use Rattle.model.specs.ChosenLaws.{choose-right}
 use Rattle.model.specs.PlanTable.{plan-entries, plan-table-describes, plan-table-length}
 use Rattle.model.specs.Within.{Within}
 use Rattle.planned_table.specs.Outcome.{Outcome, handed, refusal, outcomeAnswer, outcomeBuffer}
-use Rattle.planner.specs.Outcome.{byChoice, inCycle, outcome}
+use Rattle.planner.specs.Outcome.{byChoice, inCycle, outcome, requestTries, outcomeWithin, searchedAnswer}
+use Rattle.planner.specs.declared.Searched.{Searched}
 
 pub record GoodTable (t : Table) : Type 0 where
   pub form : WellFormed t
@@ -35,7 +36,7 @@ pub record GoodTable (t : Table) : Type 0 where
 
 abbrev pub GoodOutcome : Outcome → Type 0
 GoodOutcome (handed t) = GoodTable t
-GoodOutcome (refusal number) = (0 < number) × (number ≤ 17)
+GoodOutcome (refusal number) = (0 < number) × (number ≤ 23)
 
 pub outcome-good : (request : List ℕ) → GoodOutcome (outcome request)
 unfolding outcome RightBy
@@ -58,7 +59,25 @@ outcome-good request = by-cycle (cycleOf request) refl
         let x = instance tasks pairs g h jobs in
         let good = instance-good tasks pairs g h jobs within in
         by-choice x good (within .h-few) (choose x) (choose-right x good)
-    by-cycle (noCycle number) e = let own = no-cycle-number request number e in (request-number-pos own, request-number-few own)
+    by-cycle (noCycle number) e = let own = no-cycle-number request number e in (request-number-pos own, omega (arith, request-number-few own))
+
+-- within an allowance it comes to the same, or to 23
+pub outcome-within-good : (allowance : ℕ) (request : List ℕ) → GoodOutcome (outcomeWithin allowance request)
+unfolding outcomeWithin
+outcome-within-good allowance request = go (ltb allowance (requestTries request))
+  where
+    go : (b : Bool) → GoodOutcome (pick b (refusal 23) (outcome request))
+    go true = (omega arith, omega arith)
+    go false = outcome-good request
+
+-- so a table that is handed out is the full search's
+pub handed-within : (allowance : ℕ) (request : List ℕ) (t : Table) → outcomeWithin allowance request ≡ handed t → outcome request ≡ handed t
+unfolding outcomeWithin
+handed-within allowance request t e = go (ltb allowance (requestTries request)) e
+  where
+    go : (b : Bool) → pick b (refusal 23) (outcome request) ≡ handed t → outcome request ≡ handed t
+    go true q = absurd (never (cc))
+    go false q = q
 
 -- a table that fits is written, with the old bytes behind it
 module _ (t : Table) (out : List ℕ) (fits : length (encode t) ≤ length out) where
@@ -117,3 +136,18 @@ handed-cycle request t e = go (cycleOf request) refl e
     go : (c : Cycle) → cycleOf request ≡ c → inCycle c ≡ handed t → (x : Instance) × Within request x
     go (cycle tasks pairs g h jobs) is q = (instance tasks pairs g h jobs, is)
     go (noCycle number) is q = absurd (never (cc))
+
+pub handed-within-cycle : (allowance : ℕ) (request : List ℕ) (t : Table) → outcomeWithin allowance request ≡ handed t → (x : Instance) × Within request x
+handed-within-cycle allowance request t e = handed-cycle request t (handed-within allowance request t e)
+
+-- an answer without its count is the outcome's
+abbrev pub writtenOf : Searched → Written
+writtenOf r = record { refusal = r .refusal; length = r .length }
+
+module _ (allowance : ℕ) (request out : List ℕ) {r : Searched} (e : r ≡ searchedAnswer allowance request out) where
+  pub searched-written : writtenOf r ≡ outcomeAnswer (outcomeWithin allowance request) out
+  unfolding searchedAnswer
+  searched-written = ap writtenOf e
+
+  pub searched-length : r .length ≤ length out
+  searched-length = rw (ap (λ (w : Written). w .length) searched-written) (answer-within (outcomeWithin allowance request) out)

@@ -1,26 +1,29 @@
-// The choice of the frame length: plausible lengths are tried from the largest down, that is by 1, 2, .. 256 rows.
+// The choice of the frame length: plausible lengths are tried from the largest down, that is by 1, 2, .. 256 rows. One allowance of tries goes
+// through all of them.
 use cycle::Cycle;
 use place::Placed;
 use problem::JobLinks;
 ghost use mathlib.Core.Path.{_≡_};
 ghost use mathlib.Core.List.{[]};
 ghost use Rattle.model.specs.Answers.{instanceOf};
-ghost use Rattle.model.specs.Chosen.{problemAt, choose, isTried};
-ghost use Rattle.search.specs.Placing.{plan};
-ghost use Rattle.place.specs.Arrays.{placedAnswer};
-ghost use Rattle.planner.specs.Choices.{Planned, Searchable, choiceAnswer, noneChosen};
+ghost use Rattle.model.specs.Chosen.{problemAt, isTried};
+ghost use Rattle.model.specs.ChosenTries.{chooseWalk};
+ghost use Rattle.search.specs.Counting.{planWalk};
+ghost use Rattle.place.specs.Arrays.{placedWithin};
+ghost use Rattle.planner.specs.Choices.{Planned, Searchable, choiceWithin, noneChosen};
 
-// The frame length and the frame of each job of the chosen plan; or 9 or 10.
+// The frame length and the frame of each job of the chosen plan; or 9, 10 or 23. And the tries that were made.
 pub(super) struct ChosenPlan {
     pub refusal: u8,
     pub f: u16,
     pub frames: [u16; 128],
+    pub tries: u64,
 }
 
-// The first plan with frames of length f.
-fn plan_with(cycle: Cycle, cost: [u32; 128], links: JobLinks, f: u16) -> Placed
+// The first plan with frames of length f, if it is found within the tries allowed.
+fn plan_with(cycle: Cycle, cost: [u32; 128], links: JobLinks, f: u16, allowed: u64) -> Placed
     requires { ⌜ Searchable cycle cost links f ⌝ }
-    ensures { λ r. ⌜ r ≡ placedAnswer (plan (problemAt (instanceOf cycle) f) []) ⌝ }
+    ensures { λ r. ⌜ r ≡ placedWithin allowed (planWalk (problemAt (instanceOf cycle) f) []) ⌝ }
 {
     let first = problem::first_frames(cycle, f);
     let end = problem::end_frames(cycle, f);
@@ -35,6 +38,7 @@ fn plan_with(cycle: Cycle, cost: [u32; 128], links: JobLinks, f: u16) -> Placed
         cycle.count,
         cycle.h / f,
         f,
+        allowed,
     )
 }
 
@@ -51,24 +55,26 @@ fn is_tried(cycle: Cycle, rows: u16) -> bool
     model::plausible(cycle, cycle.h / rows)
 }
 
-fn none_chosen(refusal: u8) -> ChosenPlan
-    ensures { λ r. ⌜ r ≡ noneChosen refusal ⌝ }
+fn none_chosen(refusal: u8, tries: u64) -> ChosenPlan
+    ensures { λ r. ⌜ r ≡ noneChosen refusal tries ⌝ }
 {
     ChosenPlan {
         refusal,
         f: 0,
         frames: [0; 128],
+        tries,
     }
 }
 
-// The chosen plan: that of the first length with a plan.
-pub(super) fn choose(cycle: Cycle) -> ChosenPlan
+// The chosen plan: that of the first length with a plan; or 23, where the search takes more tries than are allowed.
+pub(super) fn choose(cycle: Cycle, allowed: u64) -> ChosenPlan
     requires { ⌜ Planned cycle ⌝ }
-    ensures { λ r. ⌜ r ≡ choiceAnswer (choose (instanceOf cycle)) ⌝ }
+    ensures { λ r. ⌜ r ≡ choiceWithin allowed (chooseWalk (instanceOf cycle)) ⌝ }
 {
     let cost = problem::costs(cycle);
     let links = problem::links(cycle);
     let mut some = false;
+    let mut left = allowed;
     let mut rows: u16 = 1;
     while rows <= 256 {
         if !is_tried(cycle, rows) {
@@ -77,19 +83,24 @@ pub(super) fn choose(cycle: Cycle) -> ChosenPlan
         }
         some = true;
         let f = cycle.h / rows;
-        let plan = plan_with(cycle, cost, links, f);
-        if plan.found {
+        let plan = plan_with(cycle, cost, links, f, left);
+        if plan.answer == 2 {
+            return none_chosen(23, allowed);
+        }
+        left = plan.left;
+        if plan.answer == 1 {
             let frames = plan.frames;
             return ChosenPlan {
                 refusal: 0,
                 f,
                 frames,
+                tries: allowed - left,
             };
         }
         rows += 1;
     }
     if some {
-        return none_chosen(10);
+        return none_chosen(10, allowed - left);
     }
-    none_chosen(9)
+    none_chosen(9, allowed - left)
 }

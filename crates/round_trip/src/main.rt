@@ -16,7 +16,7 @@ fn print(name: &[u8], refusal: u8, same: bool) {
 fn show(name: &[u8], request: &[u8]) {
     let mut table = [0u8; 1024];
     let mut again = [0u8; 1024];
-    let planned = planner::plan(request, &mut table);
+    let planned = planner::plan(request, planner::PROGRAM_TRIES, &mut table);
     let end = arith::at_most(planned.length, 1024);
     let refusal = checker::check(request, &table[..end]);
     let written = rewriter::rewrite(request, &table[..end], &mut again);

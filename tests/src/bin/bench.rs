@@ -1,15 +1,16 @@
 //! Run times of the library beside the same search in C, written for speed (bench/search.c), and
 //! beside a plain Rust version of its calls. Before a call is timed the sides are compared: where
-//! an answer, a table or a number of tries differs, the run ends with a failure.
+//! an answer, a table or a number of tries differs, the run ends with a failure. All of them count
+//! their tries, and are allowed more than any search here makes.
 
 use std::hint::black_box;
 
-use bus_tests::bus::{Bus, ENTRIES_LEN, STATE_LEN};
+use bus_tests::bus::{Bus, ENTRIES_LEN, STATE_LEN, TRIES_LEN};
 use bus_tests::hard;
 use bus_tests::library::Library;
 use bus_tests::plain::{self, Effort};
 use bus_tests::reference::{read_cycle, table};
-use bus_tests::sheet::{self, request, silent_request, Short};
+use bus_tests::sheet::{self, pigeons, request, Short};
 use bus_tests::timing::{least, measure, median, quantile, Turns};
 
 /// More than the longest table.
@@ -31,6 +32,7 @@ mod c {
         pub fn search_plan(
             request: *const u8,
             request_len: usize,
+            allowance: u64,
             f: *mut u16,
             frames: *mut [u16; 128],
             tries: *mut u64,
@@ -46,11 +48,11 @@ struct Searched {
     tries: u64,
 }
 
-/// The request is one that the library plans or refuses with 9 or 10, as all here are.
-fn search_in_c(request: &[u8]) -> Searched {
+/// The request is one that the library plans or refuses with 9, 10 or 23, as all here are.
+fn search_in_c(request: &[u8], allowance: u64) -> Searched {
     let (mut f, mut frames, mut tries) = (0, [0; 128], 0);
     let (start, len) = (request.as_ptr(), request.len());
-    let answer = unsafe { c::search_plan(start, len, &mut f, &mut frames, &mut tries) };
+    let answer = unsafe { c::search_plan(start, len, allowance, &mut f, &mut frames, &mut tries) };
     Searched {
         answer,
         f,
@@ -82,6 +84,38 @@ fn written(call: impl Fn(&mut [u8]) -> i32) -> Result<Vec<u8>, i32> {
     Ok(out)
 }
 
+/// The bytes that planning writes, or its refusal; and its count of tries.
+fn planned(
+    plan: impl Fn(&[u8], u64, &mut [u8], &mut [u8]) -> i32,
+    request: &[u8],
+    allowance: u64,
+) -> (Result<Vec<u8>, i32>, u64) {
+    let mut tries = [0; TRIES_LEN];
+    let mut out = vec![0; TABLE_LEN];
+    let answer = plan(request, allowance, &mut out, &mut tries);
+    out.truncate(answer.max(0) as usize);
+    let table = if answer < 0 { Err(-answer) } else { Ok(out) };
+    (table, u64::from_le_bytes(tries))
+}
+
+fn planned_by_library(request: &[u8], allowance: u64) -> (Result<Vec<u8>, i32>, u64) {
+    let plan = |request: &[u8], allowance, out: &mut [u8], tries: &mut [u8]| {
+        Library.plan(request, allowance, out, tries)
+    };
+    planned(plan, request, allowance)
+}
+
+/// Library, Rust and C come to the same within so many tries, and with the same count.
+fn compare(name: &str, request: &[u8], allowance: u64) -> (Result<Vec<u8>, i32>, u64) {
+    let library = planned_by_library(request, allowance);
+    let rust = planned(plain::plan, request, allowance);
+    assert_eq!(library, rust, "{name}: library and plain Rust differ");
+    let found = search_in_c(request, allowance);
+    let c = (table_by_c(request, &found), found.tries);
+    assert_eq!(library, c, "{name}: library and C differ");
+    library
+}
+
 /// A request whose search is timed.
 struct Search {
     name: String,
@@ -91,17 +125,14 @@ struct Search {
     answer: String,
 }
 
-/// The request, after the three sides were compared on it.
+/// The request, after the three sides were compared on it, with tries enough and with one too few.
 fn compared(name: &str, request: Vec<u8>, effort: Effort, turns: usize) -> Search {
-    let library = written(|out| Library.plan(&request, out));
-    let rust = written(|out| plain::plan(&request, out));
-    assert_eq!(library, rust, "{name}: library and plain Rust differ");
-    let found = search_in_c(&request);
-    let c = table_by_c(&request, &found);
-    assert_eq!(library, c, "{name}: library and C differ");
-    assert_eq!(effort.tries, found.tries, "{name}: Rust and C count");
-    let answer = match library {
-        Ok(_) => format!("f {}", found.f),
+    let (table, tries) = compare(name, &request, u64::MAX);
+    assert_eq!(tries, effort.tries, "{name}");
+    let ended = compare(name, &request, tries - 1);
+    assert_eq!(ended, (Err(23), tries - 1), "{name}");
+    let answer = match table {
+        Ok(bytes) => format!("f {}", u16::from_le_bytes([bytes[1], bytes[2]])),
         Err(number) => format!("refused {number}"),
     };
     Search {
@@ -116,13 +147,6 @@ fn compared(name: &str, request: Vec<u8>, effort: Effort, turns: usize) -> Searc
 fn by_hand(name: &str, request: Vec<u8>, turns: usize) -> Search {
     let effort = plain::effort_within(&request, u64::MAX - 1).expect("no search is that long");
     compared(name, request, effort, turns)
-}
-
-/// `count` jobs that take 13 ticks of their row, g of them silent, for `holes` frames of 13 ticks:
-/// one too many.
-fn pigeons(count: usize, holes: i64, g: i64) -> Vec<u8> {
-    let tasks = vec![(13 - g, 13 * holes, 13 * holes, 0); count];
-    silent_request(&tasks, &[], g)
 }
 
 /// 128 jobs and 16 pairs in 64 rows: 118 jobs fill the even frames, and 10 jobs, in pairs and
@@ -168,14 +192,17 @@ fn hard_searches() -> Vec<Search> {
 /// The other side of planning: its name and its call.
 type Other = (&'static str, fn(&[u8]) -> i32);
 
-const IN_C: Other = ("C", |request| search_in_c(request).answer);
-const IN_RUST: Other = ("Rust", |request| plain::plan(request, &mut [0; TABLE_LEN]));
+const IN_C: Other = ("C", |request| search_in_c(request, u64::MAX).answer);
+const IN_RUST: Other = ("Rust", |request| {
+    let mut out = [0; TABLE_LEN];
+    plain::plan(request, u64::MAX, &mut out, &mut [0; TRIES_LEN])
+});
 
 fn timed(search: &Search, other: Other) -> Turns {
     let mut out = [0; TABLE_LEN];
     measure(
         search.turns,
-        &mut || Library.plan(black_box(&search.request), &mut out),
+        &mut || Library.plan_freely(black_box(&search.request), &mut out),
         &mut || other.1(black_box(&search.request)),
     )
 }
@@ -243,30 +270,60 @@ fn print_search(search: &Search, times: &Turns) {
     print_row(&SEARCH_WIDTHS, &row);
 }
 
-/// The sums of one figure of each search, and their ratio.
-fn print_sum(name: &str, tries: u64, all: &[Turns], figure: fn(&[f64]) -> f64) {
+/// The sums of one figure of each search; their ratio.
+fn print_sum(name: &str, tries: u64, all: &[Turns], figure: fn(&[f64]) -> f64) -> f64 {
     let library: f64 = all.iter().map(|times| figure(&times.library)).sum();
     let other: f64 = all.iter().map(|times| figure(&times.other)).sum();
     let mut row = cells(&[name, "", &tries.to_string(), "", ""]);
     row.extend(rate_cells(tries, library, other));
     row.push(format!("{:.2}", library / other));
     print_row(&SEARCH_WIDTHS, &row);
+    library / other
 }
 
-fn print_searches(other: Other, by_hand: &[Search], hard: &[Search]) {
+/// What the budgets speak of.
+struct Figures {
+    /// Library / other over all with seeds, by the least times.
+    ratio: f64,
+    /// Million tries a second of the library with the slowest request, by the least times.
+    slowest: f64,
+}
+
+fn print_searches(other: Other, by_hand: &[Search], hard: &[Search]) -> Figures {
     print_search_header(other.0);
-    for search in by_hand {
-        print_search(search, &timed(search, other));
-    }
-    let mut all = Vec::new();
-    for search in hard {
+    let mut slowest = f64::INFINITY;
+    let mut timed_and_printed = |search: &Search| {
         let times = timed(search, other);
         print_search(search, &times);
-        all.push(times);
+        let rate = search.effort.tries as f64 / least(&times.library) / 1e6;
+        slowest = slowest.min(rate);
+        times
+    };
+    for search in by_hand {
+        timed_and_printed(search);
     }
+    let all: Vec<Turns> = hard.iter().map(timed_and_printed).collect();
     let tries = hard.iter().map(|search| search.effort.tries).sum();
-    print_sum("all with seeds, least times", tries, &all, least);
+    let ratio = print_sum("all with seeds, least times", tries, &all, least);
     print_sum("all with seeds, median times", tries, &all, median);
+    Figures { ratio, slowest }
+}
+
+const MOST_TIMES_C: f64 = 1.2;
+const LEAST_MILLIONS: f64 = 150.0;
+
+fn print_budgets(beside_c: &Figures) {
+    let met = |holds: bool| if holds { "met" } else { "not met" };
+    let Figures { ratio, slowest } = beside_c;
+    println!("\nBudgets of the search");
+    println!(
+        "at most {MOST_TIMES_C:.2} times C over all with seeds, least times: {ratio:.2}, {}",
+        met(*ratio <= MOST_TIMES_C)
+    );
+    println!(
+        "at least {LEAST_MILLIONS:.0} million tries a second with every request: {slowest:.0}, {}",
+        met(*slowest >= LEAST_MILLIONS)
+    );
 }
 
 const CALL_WIDTHS: [usize; 7] = [40, 5, 10, 8, 5, 6, 12];
@@ -280,21 +337,22 @@ fn print_call(name: &str, times: &Turns) {
 }
 
 fn time_plan(name: &str, request: &[u8]) {
-    let library = written(|out| Library.plan(request, out));
-    let rust = written(|out| plain::plan(request, out));
+    let library = planned_by_library(request, u64::MAX);
+    let rust = planned(plain::plan, request, u64::MAX);
     assert_eq!(library, rust, "plan, {name}");
     let mut outs = [[0; TABLE_LEN]; 2];
     let [first, second] = &mut outs;
     let times = measure(
         TURNS,
-        &mut || Library.plan(black_box(request), first),
-        &mut || plain::plan(black_box(request), second),
+        &mut || Library.plan_freely(black_box(request), first),
+        &mut || plain::plan(black_box(request), u64::MAX, second, &mut [0; TRIES_LEN]),
     );
     print_call(&format!("plan: {name}"), &times);
 }
 
 fn table_of(request: &[u8]) -> Vec<u8> {
-    written(|out| plain::plan(request, out)).expect("there is a plan")
+    let (table, _) = planned(plain::plan, request, u64::MAX);
+    table.expect("there is a plan")
 }
 
 fn time_check(name: &str, request: &[u8]) {
@@ -408,7 +466,8 @@ fn main() {
     println!("{LEGEND}");
     let by_hand = searches_by_hand();
     let hard = hard_searches();
-    print_searches(IN_C, &by_hand, &hard);
+    let beside_c = print_searches(IN_C, &by_hand, &hard);
     print_searches(IN_RUST, &by_hand, &hard);
     print_calls();
+    print_budgets(&beside_c);
 }

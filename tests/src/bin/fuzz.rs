@@ -8,7 +8,7 @@ use std::env;
 use std::process::exit;
 use std::time::{Duration, Instant};
 
-use bus_tests::bus::{count_bytes, ENTRIES_LEN, STATE_LEN, STATE_USED, TASKS};
+use bus_tests::bus::{count_bytes, ENTRIES_LEN, STATE_LEN, STATE_USED, TASKS, TRIES_LEN};
 use bus_tests::call::{compare, Call};
 use bus_tests::generate;
 use bus_tests::joining;
@@ -16,8 +16,8 @@ use bus_tests::library::Library;
 use bus_tests::one_off;
 use bus_tests::random::Random;
 use bus_tests::reference::table::encode;
-use bus_tests::reference::{planned, read_cycle, tries_within};
-use bus_tests::rounds::{Tally, MOST_TRIES};
+use bus_tests::reference::{planned_within, read_cycle, tries_within};
+use bus_tests::rounds::{allowances, Tally, MOST_TRIES};
 
 /// Requests and tables seen lately, from which new ones are made.
 struct Corpus {
@@ -75,23 +75,22 @@ impl Corpus {
         corpus
     }
 
-    /// Adds a new request, and its table if it has one; false if its search is too long.
+    /// Adds a new request, and its table if one is found; false if its search is too long for that.
     fn learn(&mut self, rng: &mut Random) -> bool {
         let request = generate::valid_bytes(rng);
-        if tries_within(&request, MOST_TRIES).is_none() {
-            return false;
-        }
-        if let Ok(table) = planned(&request) {
+        let (chosen, _) = planned_within(&request, MOST_TRIES);
+        keep(&mut self.requests, request);
+        let short = chosen != Err(23);
+        if let Ok(table) = chosen {
             let mut disturbed = table.clone();
             generate::disturb(rng, &mut disturbed);
             keep(&mut self.tables, encode(&table));
             keep(&mut self.tables, encode(&disturbed));
         }
-        keep(&mut self.requests, request);
         if self.tables.is_empty() {
             keep(&mut self.tables, vec![2]);
         }
-        true
+        short
     }
 
     /// A request and a table that may belong together.
@@ -157,12 +156,29 @@ fn one_off_call(rng: &mut Random, request: Vec<u8>, table: Vec<u8>) -> Call {
     }
 }
 
+/// An allowance about the tries that the full search makes, or any; a small one for a long search.
+fn allowance(rng: &mut Random, request: &[u8]) -> u64 {
+    match tries_within(request, MOST_TRIES) {
+        Some(full) if rng.chance(80) => rng.pick(&allowances(full)),
+        Some(_) => rng.draw(),
+        None => rng.below(MOST_TRIES as usize) as u64,
+    }
+}
+
+fn plan(rng: &mut Random, corpus: &Corpus) -> Call {
+    let request = mutated(rng, &corpus.requests);
+    let length = length(rng, TRIES_LEN);
+    Call::Plan {
+        allowance: allowance(rng, &request),
+        request,
+        out: room(rng),
+        tries: rng.bytes(length),
+    }
+}
+
 fn some_call(rng: &mut Random, corpus: &Corpus) -> Call {
     match rng.below(17) {
-        0..=2 => Call::Plan {
-            request: mutated(rng, &corpus.requests),
-            out: room(rng),
-        },
+        0..=2 => plan(rng, corpus),
         3 | 4 => {
             let (request, table) = corpus.matched(rng);
             Call::Check { request, table }
@@ -221,14 +237,6 @@ fn some_call(rng: &mut Random, corpus: &Corpus) -> Call {
     }
 }
 
-/// Whether the call may be made: no search that takes too long.
-fn bounded(call: &Call) -> bool {
-    match call {
-        Call::Plan { request, .. } => tries_within(request, MOST_TRIES).is_some(),
-        _ => true,
-    }
-}
-
 fn argument(place: usize, name: &str) -> u64 {
     match env::args().nth(place).and_then(|word| word.parse().ok()) {
         Some(number) => number,
@@ -253,10 +261,6 @@ fn main() {
             tally.left_out += u64::from(!learnt);
         }
         let call = some_call(&mut rng, &corpus);
-        if !bounded(&call) {
-            tally.left_out += 1;
-            continue;
-        }
         match compare(&Library, &call) {
             Ok(outcome) => tally.note(&call, &outcome),
             Err(fault) => {

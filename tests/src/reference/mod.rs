@@ -12,8 +12,9 @@ pub mod printed;
 pub mod request;
 pub mod search;
 pub mod table;
+pub mod tries;
 
-use crate::bus::{count_bytes, counts, Asked, Bus, ENTRIES_LEN, NOT_A_STATE, STATE_LEN};
+use crate::bus::{count_bytes, counts, Asked, Bus, ENTRIES_LEN, NOT_A_STATE, STATE_LEN, TRIES_LEN};
 use cycle::Cycle;
 use dispatch::State;
 use search::{Choice, Effort};
@@ -36,19 +37,26 @@ pub fn planned(bytes: &[u8]) -> Result<Table, i32> {
 
 /// The tries that planning needs, if at most `limit`; 0 for a request refused before the search.
 pub fn tries_within(bytes: &[u8], limit: u64) -> Option<u64> {
-    let Ok(cycle) = read_cycle(bytes) else {
-        return Some(0);
-    };
-    let mut effort = Effort::up_to(limit);
-    match search::choose(&cycle, &mut effort) {
-        Choice::TooHard => None,
-        _ => Some(effort.tries),
+    match read_cycle(bytes) {
+        Ok(cycle) => tries::within(&cycle, limit),
+        Err(_) => Some(0),
+    }
+}
+
+/// The tries that the programs allow which plan a request from standard input.
+pub const PROGRAM_TRIES: u64 = 10_000_000;
+
+/// The chosen table, or 1 to 10, 17 or 23, with so many tries allowed; and the count of tries.
+pub fn planned_within(bytes: &[u8], allowance: u64) -> (Result<Table, i32>, u64) {
+    match tries_within(bytes, allowance) {
+        Some(full) => (planned(bytes), full),
+        None => (Err(23), allowance),
     }
 }
 
 /// What the program `plan` prints for a request.
 pub fn listing(bytes: &[u8]) -> String {
-    match planned(bytes) {
+    match planned_within(bytes, PROGRAM_TRIES).0 {
         Ok(table) => {
             let cycle = read_cycle(bytes).expect("it was planned");
             listing::of_table(&cycle, &table)
@@ -133,8 +141,13 @@ impl Reference {
 }
 
 impl Bus for Reference {
-    fn plan(&self, request: &[u8], out: &mut [u8]) -> i32 {
-        answer(planned(request).and_then(|table| write_out(&table::encode(&table), out)))
+    fn plan(&self, request: &[u8], allowance: u64, out: &mut [u8], tries: &mut [u8]) -> i32 {
+        if tries.len() < TRIES_LEN {
+            return -NOT_A_STATE;
+        }
+        let (chosen, count) = planned_within(request, allowance);
+        tries[..TRIES_LEN].copy_from_slice(&count.to_le_bytes());
+        answer(chosen.and_then(|table| write_out(&table::encode(&table), out)))
     }
 
     fn check(&self, request: &[u8], table: &[u8]) -> i32 {

@@ -37,11 +37,11 @@ pub enum Found {
     TooHard,
 }
 
-struct Problem<'a> {
+pub(super) struct Problem<'a> {
     cycle: &'a Cycle,
-    f: i64,
+    pub(super) f: i64,
     rows: i64,
-    windows: Vec<Vec<i64>>,
+    pub(super) windows: Vec<Vec<i64>>,
 }
 
 /// The sum of C + g of the jobs placed so far in a row.
@@ -55,7 +55,7 @@ fn load(problem: &Problem, placed: &[i64], row: i64) -> i64 {
 }
 
 /// Whether the next job in frame k breaks no pair with a job placed before.
-fn in_order(problem: &Problem, placed: &[i64], k: i64) -> bool {
+pub(super) fn in_order(problem: &Problem, placed: &[i64], k: i64) -> bool {
     let jobs = &problem.cycle.jobs;
     let next = &jobs[placed.len()];
     problem.cycle.request.pairs.iter().all(|&(a, b)| {
@@ -68,9 +68,14 @@ fn in_order(problem: &Problem, placed: &[i64], k: i64) -> bool {
     })
 }
 
-fn fits(problem: &Problem, placed: &[i64], k: i64) -> bool {
+/// Whether the row of frame k has room for the next job.
+pub(super) fn has_room(problem: &Problem, placed: &[i64], k: i64) -> bool {
     let next = &problem.cycle.jobs[placed.len()];
-    load(problem, placed, k % problem.rows) + next.slot <= problem.f && in_order(problem, placed, k)
+    load(problem, placed, k % problem.rows) + next.slot <= problem.f
+}
+
+fn fits(problem: &Problem, placed: &[i64], k: i64) -> bool {
+    has_room(problem, placed, k) && in_order(problem, placed, k)
 }
 
 fn place_rest(problem: &Problem, placed: &mut Vec<i64>, effort: &mut Effort) -> Found {
@@ -96,7 +101,7 @@ fn place_rest(problem: &Problem, placed: &mut Vec<i64>, effort: &mut Effort) -> 
     Found::NoPlan
 }
 
-fn problem(cycle: &Cycle, f: i64, direction: Direction) -> Problem<'_> {
+pub(super) fn problem(cycle: &Cycle, f: i64, direction: Direction) -> Problem<'_> {
     let rows = cycle.h / f;
     let mut windows: Vec<Vec<i64>> = cycle.jobs.iter().map(|job| window(job, f, rows)).collect();
     if direction == Direction::LatestFirst {

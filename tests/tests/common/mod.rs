@@ -60,7 +60,7 @@ pub fn table(f: i64, h: i64, rows: &str) -> Vec<u8> {
 /// The table that a plan call gives, with the bytes behind it tested, or the refusal.
 pub fn plan(bus: &dyn Bus, request: &[u8]) -> Result<Vec<u8>, i32> {
     let mut out = vec![0xC3; 700];
-    let answer = bus.plan(request, &mut out);
+    let answer = bus.plan_freely(request, &mut out);
     let length = answer.max(0) as usize;
     assert!(out[length..].iter().all(|byte| *byte == 0xC3));
     if answer < 0 {
@@ -87,7 +87,7 @@ pub fn refused(request: &[u8], number: i32) {
     for (name, bus) in subjects() {
         assert_eq!(plan(bus, request), Err(number), "{name}");
         // A refusal by the planner does not look at the room.
-        assert_eq!(bus.plan(request, &mut []), -number, "{name}");
+        assert_eq!(bus.plan_freely(request, &mut []), -number, "{name}");
     }
 }
 
@@ -115,13 +115,25 @@ pub fn example(name: &str) -> Vec<u8> {
     fs::read(examples_folder().join(name)).unwrap_or_else(|reason| panic!("{name}: {reason}"))
 }
 
-/// Says how many requests were compared and how many not, since their search needs more tries
-/// than `most`. It is written past the capture of `cargo test`, so that every run shows it.
-pub fn tell_left_out(what: &str, compared: u64, left_out: u64, most: u64) {
-    let line = format!(
-        "{what}: {compared} requests, {left_out} more left out as too long (above {most} tries)\n"
-    );
+/// A line past the capture of `cargo test`, so that every run shows it.
+fn tell(line: String) {
     stdout()
         .write_all(line.as_bytes())
         .expect("a line is written");
+}
+
+/// Says how many requests were compared and how many not, since their search needs more tries
+/// than `most`.
+pub fn tell_left_out(what: &str, compared: u64, left_out: u64, most: u64) {
+    tell(format!(
+        "{what}: {compared} requests, {left_out} more left out as too long (above {most} tries)\n"
+    ));
+}
+
+/// Says how many requests were compared whole, and how many with no more tries allowed than `most`,
+/// since their search needs more.
+pub fn tell_cut(what: &str, compared: u64, cut: u64, most: u64) {
+    tell(format!(
+        "{what}: {compared} requests, {cut} more up to {most} tries, since their search is longer\n"
+    ));
 }

@@ -19,11 +19,11 @@ returns c =
     (line .refused .ensures)
 
 -- what is lent is within the buffer
-within : (c : tie.Else1) → let plan = c .before .before .before .plan in plan .result .length ≤ length (plan .last .1 .0)
+within : (c : tie.Else1) → let plan = c .before .before .before .plan in plan .result .length ≤ length (plan .last .1 .1 .0)
 within c =
     let at = c .before .before .before in
     let plan = at .plan in
-    omega (arith, written-few (at .before .before .before .before .args .request .now) (plan .result) (plan .ensures .0) (c .if1 .left), plan .kept .1 .0)
+    omega (arith, written-few (at .before .before .before .before .args .request .now) (plan .result) (plan .ensures .0) (c .if1 .left), plan .kept .1 .1 .0)
 
 array-share-prefix-table : tie.Need-array-share-prefix-table
 array-share-prefix-table c = within (c .before)
@@ -36,7 +36,7 @@ returns-2 c =
     let lines = c .before .before in
     let plan = lines .before .before .before .before .before .before .plan in
     let s = lines .before .before .before .before .before .before .before .before .before .before .args in
-    let is = table-is (s .request .now) (plan .result) (plan .ensures .0) (lines .before .before .before .if1 .left) (plan .last .1 .0) (plan .ensures .1) in
+    let is = table-is (s .request .now) (plan .result) (plan .ensures .0) (lines .before .before .before .if1 .left) (plan .last .1 .1 .0) (plan .ensures .1) in
     rw (← listing-handed (s .request .now) _ is) (put-front _ (s .out .now) (lines .put-table .last .0) (lines .put-table .result) (lines .put-table .ensures))
 
 pub plan-spec : {M : Type 1} → statement M

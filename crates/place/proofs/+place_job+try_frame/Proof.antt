@@ -13,7 +13,7 @@ use borrow.Author.Needs.{needs}
 use Rattle.search.specs.Placing.{hasRoom}
 use Rattle.place.specs.Arrays.{partIn, countsIn, rowsIn, jobsIn, problemIn, LinksBack}
 use Rattle.place.proofs.Laws.{links-back, same-bounds, is-left, all-placed, Trying, none-tried, ready-again, kept-again}
-use Rattle.place.proofs.Laws.{none-left, pass-on, pass-found, Testing, refused, put-ready, put-kept, went, back}
+use Rattle.place.proofs.Laws.{none-left, pass-on, pass-answer, Testing, none-allowed, refused, put-ready, put-kept, went, back}
 use borrow.Fn.Kinds.{In}
 use borrow.Fn.PlainCycle.{Measures, is, falls, and}
 use Rattle.place.proofs.place_job.Reads as place-job
@@ -30,23 +30,23 @@ use Rattle.place.proofs.upper_bound.Reads as upper-bound-reads
 use Rattle.place.proofs.+place_job+try_frame.{statement}
 use Rattle.place.proofs.+place_job+try_frame.Tie.{close}
 
-abbrev μ-place-job : Measures 4 place-job-kinds.ps ℕ
-μ-place-job κs a = (jobsIn (a .0 .now) - a .1 .1 .1 .1 .0) * 65537 + 65536
+abbrev μ-place-job : Measures 5 place-job-kinds.ps ℕ
+μ-place-job κs a = (jobsIn (a .0 .now) - a .1 .1 .1 .1 .1 .0) * 65537 + 65536
 
-abbrev μ-try-frame : Measures 4 try-frame-kinds.ps ℕ
-μ-try-frame κs a = (jobsIn (a .0 .now) - a .1 .1 .1 .1 .0) * 65537 + (getD (partIn (a .0 .now) 2) (a .1 .1 .1 .1 .0) 0 - a .1 .1 .1 .1 .1 .0)
+abbrev μ-try-frame : Measures 5 try-frame-kinds.ps ℕ
+μ-try-frame κs a = (jobsIn (a .0 .now) - a .1 .1 .1 .1 .1 .0) * 65537 + (getD (partIn (a .0 .now) 2) (a .1 .1 .1 .1 .1 .0) 0 - a .1 .1 .1 .1 .1 .1 .0)
 
-abbrev place-job-at : ℕ → In 4 place-job-kinds.ps
-place-job-at t = and 4 place-job-kinds.ps (is 4 place-job-kinds.ps μ-place-job t) place-job.Pre
+abbrev place-job-at : ℕ → In 5 place-job-kinds.ps
+place-job-at t = and 5 place-job-kinds.ps (is 5 place-job-kinds.ps μ-place-job t) place-job.Pre
 
-abbrev place-job-below : ℕ → In 4 place-job-kinds.ps
-place-job-below t = and 4 place-job-kinds.ps (falls 4 place-job-kinds.ps _<_ μ-place-job t) place-job.Pre
+abbrev place-job-below : ℕ → In 5 place-job-kinds.ps
+place-job-below t = and 5 place-job-kinds.ps (falls 5 place-job-kinds.ps _<_ μ-place-job t) place-job.Pre
 
-abbrev try-frame-at : ℕ → In 4 try-frame-kinds.ps
-try-frame-at t = and 4 try-frame-kinds.ps (is 4 try-frame-kinds.ps μ-try-frame t) try-frame.Pre
+abbrev try-frame-at : ℕ → In 5 try-frame-kinds.ps
+try-frame-at t = and 5 try-frame-kinds.ps (is 5 try-frame-kinds.ps μ-try-frame t) try-frame.Pre
 
-abbrev try-frame-below : ℕ → In 4 try-frame-kinds.ps
-try-frame-below t = and 4 try-frame-kinds.ps (falls 4 try-frame-kinds.ps _<_ μ-try-frame t) try-frame.Pre
+abbrev try-frame-below : ℕ → In 5 try-frame-kinds.ps
+try-frame-below t = and 5 try-frame-kinds.ps (falls 5 try-frame-kinds.ps _<_ μ-try-frame t) try-frame.Pre
 
 abbrev place-job-claims : ℕ → place-job-lts.Claims
 place-job-claims t = (
@@ -66,11 +66,11 @@ abbrev try-frame-claims : ℕ → try-frame-lts.Claims
 try-frame-claims t = (has-room-reads.Asked, has-room-reads.Learnt, place-job-below t, place-job.Post)
 
 abbrev place-job-Inv-loop : place-job-lts.InvT-loop
-place-job-Inv-loop given links place₀ load₀ i n low high rows e k₀ row₀ place load k row =
-    Trying (problemIn given links) (jobsIn given) place₀ load₀ i place load k row
+place-job-Inv-loop given links place₀ load₀ left₀ i n low high rows e k₀ row₀ place load left k row =
+    Trying (problemIn given links) (jobsIn given) place₀ load₀ i left₀ place load left k row
 
 abbrev place-job-μ-loop : place-job-lts.MeasureT-loop
-place-job-μ-loop given links place₀ load₀ i n low high rows e k₀ row₀ place load k row = e - k
+place-job-μ-loop given links place₀ load₀ left₀ i n low high rows e k₀ row₀ place load left k row = e - k
 
 module _ (t : ℕ) where
   -- `place_job`: a job is left
@@ -124,7 +124,7 @@ module _ (t : ℕ) where
 
   place-job-try-frame-requires : place-job-lts.Need-try-frame-requires (place-job-claims t) (place-job-at t) place-job.Post place-job-Inv-loop place-job-μ-loop
   place-job-try-frame-requires c κs =
-      let l = c .before .before .before in
+      let l = c .before .before .before .before in
       let e = left l in
       let s = e .before .before in
       let g = s .args .given .now in
@@ -138,14 +138,14 @@ module _ (t : ℕ) where
 
   place-job-returns-2 : place-job-lts.Need-returns-2 (place-job-claims t) (place-job-at t) place-job.Post place-job-Inv-loop place-job-μ-loop
   place-job-returns-2 c =
-      let in-loop = c .before .before .before .before in
+      let in-loop = c .before .before .before .before .before in
       let l = in-loop .before in
       let s = left l .before .before in
-      pass-found (more (left l)) (s .pre .1 .1 .0) (s .pre .1 .1 .1) (l .loop .inv) (end-is l) (in-loop .loop-test .taken) (c .before .try-frame .ensures) (c .if2 .taken)
+      pass-answer (more (left l)) (s .pre .1 .1 .0) (s .pre .1 .1 .1) (l .loop .inv) (end-is l) (in-loop .loop-test .taken) (c .before .try-frame .ensures) (c .if2 .taken)
 
   place-job-loop-again : place-job-lts.Need-loop-again (place-job-claims t) (place-job-at t) place-job.Post place-job-Inv-loop place-job-μ-loop
   place-job-loop-again c =
-      let in-loop = c .before .before .before .before .before in
+      let in-loop = c .before .before .before .before .before .before in
       let l = in-loop .before in
       let s = left l .before .before in
       pass-on (more (left l)) (s .pre .1 .1 .0) (s .pre .1 .1 .1) (l .loop .inv) (end-is l) (in-loop .loop-test .taken) (c .before .before .try-frame .ensures)
@@ -185,48 +185,64 @@ module _ (t : ℕ) where
         bounds = q .1 .1 .1 .1;
       }
 
-  try-frame-has-room-requires : try-frame-lts.Need-has-room-requires (try-frame-claims t) (try-frame-at t) try-frame.Post
-  try-frame-has-room-requires c κs =
-      let s = c .before .before .before in
-      rw (testing s .cost-is) (s .pre .1 .1 .0 .proper .costs (s .args .i))
+  -- a try is left for the test
+  abbrev Allowed : Type 0
+  Allowed = try-frame-lts.Else1 (try-frame-claims t) (try-frame-at t) try-frame.Post
 
   try-frame-returns : try-frame-lts.Need-returns (try-frame-claims t) (try-frame-at t) try-frame.Post
-  try-frame-returns c =
-      let asked = c .before in
-      let full = sym (asked .has-room .ensures) ∙ not-true (asked .has-room .result) (c .if1 .taken) in
-      refused (testing (asked .before .before .before .before)) (rw full)
+  try-frame-returns c = none-allowed (testing (c .before .before)) (c .if1 .taken)
 
-  -- the row has room
-  abbrev Roomy : Type 0
-  Roomy = try-frame-lts.Else1 (try-frame-claims t) (try-frame-at t) try-frame.Post
-
-  roomy : (c : Roomy) → let s = c .before .before .before .before .before in
-      hasRoom (getD (s .args .load .now) (s .args .row) 0) (getD (partIn (s .args .given .now) 4) 1 0) (cost s) ≡ true
-  roomy c = let asked = c .before in sym (asked .has-room .ensures) ∙ not-false (asked .has-room .result) (c .if1 .left)
+  try-frame-has-room-requires : try-frame-lts.Need-has-room-requires (try-frame-claims t) (try-frame-at t) try-frame.Post
+  try-frame-has-room-requires c κs =
+      let s = c .before .before .before .before .before in
+      rw (testing s .cost-is) (s .pre .1 .1 .0 .proper .costs (s .args .i))
 
   try-frame-returns-2 : try-frame-lts.Need-returns-2 (try-frame-claims t) (try-frame-at t) try-frame.Post
   try-frame-returns-2 c =
-      let s = c .before .before .before .before .before .before in
-      refused (testing s) (rw (roomy (c .before), lt-leb (s .args .low) (s .args .k) (c .if2 .taken)))
+      let asked = c .before in
+      let allowed = asked .before .before .before .before in
+      let full = sym (asked .has-room .ensures) ∙ not-true (asked .has-room .result) (c .if2 .taken) in
+      refused (testing (allowed .before .before)) (allowed .if1 .left) (rw full)
+
+  -- the row has room
+  abbrev Roomy : Type 0
+  Roomy = try-frame-lts.Else2 (try-frame-claims t) (try-frame-at t) try-frame.Post
+
+  abbrev allowed : Roomy → Allowed
+  allowed c = c .before .before .before .before .before
+
+  roomy : (c : Roomy) → let s = allowed c .before .before in
+      hasRoom (getD (s .args .load .now) (s .args .row) 0) (getD (partIn (s .args .given .now) 4) 1 0) (cost s) ≡ true
+  roomy c = let asked = c .before in sym (asked .has-room .ensures) ∙ not-false (asked .has-room .result) (c .if2 .left)
 
   try-frame-returns-3 : try-frame-lts.Need-returns-3 (try-frame-claims t) (try-frame-at t) try-frame.Post
   try-frame-returns-3 c =
-      let s = c .before .before .before .before .before .before .before in
-      refused (testing s)
-      (rw (roomy (c .before .before), le-leb (s .args .low) (s .args .k) (c .before .if2 .left), lt-leb (s .args .k) (s .args .high) (c .if3 .taken)))
+      let begun = allowed (c .before) in
+      let s = begun .before .before in
+      refused (testing s) (begun .if1 .left) (rw (roomy (c .before), lt-leb (s .args .low) (s .args .k) (c .if3 .taken)))
+
+  try-frame-returns-4 : try-frame-lts.Need-returns-4 (try-frame-claims t) (try-frame-at t) try-frame.Post
+  try-frame-returns-4 c =
+      let begun = allowed (c .before .before) in
+      let s = begun .before .before in
+      refused (testing s) (begun .if1 .left)
+      (rw (roomy (c .before .before), le-leb (s .args .low) (s .args .k) (c .before .if3 .left), lt-leb (s .args .k) (s .args .high) (c .if4 .taken)))
 
   -- and its links leave it the frame
   abbrev Passed : Type 0
-  Passed = try-frame-lts.Else3 (try-frame-claims t) (try-frame-at t) try-frame.Post
+  Passed = try-frame-lts.Else4 (try-frame-claims t) (try-frame-at t) try-frame.Post
+
+  abbrev begun : Passed → Allowed
+  begun c = allowed (c .before .before)
 
   abbrev start : Passed → Tried
-  start c = c .before .before .before .before .before .before .before
+  start c = begun c .before .before
 
   passed : (c : Passed) → let a = start c .args in
       (hasRoom (getD (a .load .now) (a .row) 0) (getD (partIn (a .given .now) 4) 1 0) (cost (start c)) && (leb (a .low) (a .k) && leb (a .k) (a .high))) ≡ true
   passed c =
       let a = start c .args in
-      rw (roomy (c .before .before), le-leb (a .low) (a .k) (c .before .if2 .left), le-leb (a .k) (a .high) (c .if3 .left))
+      rw (roomy (c .before .before), le-leb (a .low) (a .k) (c .before .if3 .left), le-leb (a .k) (a .high) (c .if4 .left))
 
   try-frame-add-load : try-frame-lts.Need-add-load (try-frame-claims t) (try-frame-at t) try-frame.Post
   try-frame-add-load c =
@@ -236,21 +252,20 @@ module _ (t : ℕ) where
 
   try-frame-place-job-requires : try-frame-lts.Need-place-job-requires (try-frame-claims t) (try-frame-at t) try-frame.Post
   try-frame-place-job-requires c κs =
-      let q = c .before .before in
-      let s = start q in (
+      let s = start (c .before .before .before) in (
         omega (arith, s .pre .0, s .pre .1 .0),
-        (omega (arith, s .pre .1 .0), (put-ready (testing s) (passed q) refl, put-kept (testing s) (passed q) refl)),
+        (omega (arith, s .pre .1 .0), (put-ready (testing s) refl, put-kept (testing s) refl)),
       )
-
-  try-frame-returns-4 : try-frame-lts.Need-returns-4 (try-frame-claims t) (try-frame-at t) try-frame.Post
-  try-frame-returns-4 c =
-      let q = c .before .before .before .before in
-      went (testing (start q)) (passed q) refl (c .before .place-job .ensures) (c .if4 .taken)
 
   try-frame-returns-5 : try-frame-lts.Need-returns-5 (try-frame-claims t) (try-frame-at t) try-frame.Post
   try-frame-returns-5 c =
-      let q = c .before .before .before .before in
-      back (testing (start q)) (passed q) refl (c .before .place-job .ensures) (c .if4 .left)
+      let q = c .before .before .before .before .before in
+      went (testing (start q)) (begun q .if1 .left) (passed q) refl (c .before .place-job .ensures) (c .if5 .taken)
+
+  try-frame-returns-6 : try-frame-lts.Need-returns-6 (try-frame-claims t) (try-frame-at t) try-frame.Post
+  try-frame-returns-6 c =
+      let q = c .before .before .before .before .before in
+      back (testing (start q)) (begun q .if1 .left) (passed q) refl (c .before .place-job .ensures) (c .if5 .left)
 
 pub +place-job+try-frame-spec : {M : Type 1} → statement M
 +place-job+try-frame-spec = close μ-place-job μ-try-frame
@@ -272,31 +287,33 @@ pub +place-job+try-frame-spec : {M : Type 1} → statement M
     (place-job-loop-holds t)
     (place-job-try-frame-requires t)
     (place-job-returns-2 t)
-    (λ c. omega (arith, c .before .before .before .before .loop-test .taken, c .before .before .before .before .before .before .before .entry .ok))
-    (λ c κs. row-in t (c .before .before .before .before .before))
-    (λ c. omega (arith, c .before .before .before .before .before .loop-test .taken))
+    (λ c. omega (arith, c .before .before .before .before .before .loop-test .taken, c .before .before .before .before .before .before .before .before .entry .ok))
+    (λ c κs. row-in t (c .before .before .before .before .before .before))
+    (λ c. omega (arith, c .before .before .before .before .before .before .loop-test .taken))
     (place-job-loop-again t)
     (place-job-returns-3 t))
     λ t. try-frame-lts.spec (try-frame-claims t) (try-frame-at t) try-frame.Post
-    (λ c. omega (arith, row-small t c))
-    (row-small t)
-    (λ c. omega (arith, job-small t (c .before)))
+    (try-frame-returns t)
+    (λ c. omega (arith, c .if1 .left))
+    (λ c. omega (arith, row-small t (c .before .before)))
+    (λ c. row-small t (c .before .before))
+    (λ c. omega (arith, job-small t (c .before .before .before)))
     (λ c. search needs)
-    (λ c. job-small t (c .before))
+    (λ c. job-small t (c .before .before .before))
     (λ c. search needs)
     (λ c. search needs)
     (try-frame-has-room-requires t)
-    (try-frame-returns t)
     (try-frame-returns-2 t)
     (try-frame-returns-3 t)
+    (try-frame-returns-4 t)
     (try-frame-add-load t)
     (λ c. omega (arith, row-small t (start t c)))
     (λ c. row-small t (start t c))
     (λ c. omega (arith, job-small t (start t c)))
     (λ c. job-small t (start t c))
-    (λ c. omega (arith, job-small t (start t (c .before .before))))
+    (λ c. omega (arith, job-small t (start t (c .before .before .before))))
     (try-frame-place-job-requires t)
-    (try-frame-returns-4 t)
-    (λ c. omega (arith, row-small t (start t (c .before .before .before .before))))
-    (λ c. row-small t (start t (c .before .before .before .before)))
     (try-frame-returns-5 t)
+    (λ c. omega (arith, row-small t (start t (c .before .before .before .before .before))))
+    (λ c. row-small t (start t (c .before .before .before .before .before)))
+    (try-frame-returns-6 t)

@@ -5,8 +5,8 @@ use native.Mathlib.Omega.{arith}
 use lib.ListN.{length}
 use lib.Seq.{length-take-le}
 use borrow.Author.Needs.{needs}
-use Rattle.planner.specs.Outcome.{outcome}
-use Rattle.planner.specs.TableLaws.{answer-within}
+use Rattle.planner.specs.Outcome.{programTries}
+use Rattle.planner.specs.TableLaws.{searched-length}
 use Rattle.plan_table.proofs.plan.Statement.{statement}
 use Rattle.plan_table.proofs.plan.Tie as tie
 
@@ -20,8 +20,8 @@ returns : tie.Need-returns
 returns c =
     let plan = c .before .before .plan in
     let s = c .before .before .before .before .before .before .args in
-    let size : plan .result .length ≤ length (s .out .now) = rw (plan .ensures .0) (answer-within (outcome (s .request .now)) (s .out .now)) in
-    let within : plan .result .length ≤ length (plan .last .1 .0) = omega (arith, plan .kept .1 .0) in
+    let size : plan .result .length ≤ length (s .out .now) = searched-length programTries (s .request .now) (s .out .now) (plan .ensures .0) in
+    let within : plan .result .length ≤ length (plan .last .1 .1 .0) = omega (arith, plan .kept .1 .1 .0) in
     (within, sym (length-take-le _ _ within))
 
 pub plan-spec : {M : Type 1} → statement M

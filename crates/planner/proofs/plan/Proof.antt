@@ -1,5 +1,4 @@
 -- The request is read, a plan is chosen, and it is written; each way out is one of the definition's cases.
-use mathlib.Core.Path.{_∙_}
 use Rattle.model.specs.Within.{read-within, read-refused}
 use Rattle.planner.specs.PlanLaws.{not-within, planned, none-chosen, plan-chosen}
 use borrow.Author.Needs.{needs}
@@ -7,7 +6,7 @@ use Rattle.planner.proofs.plan.Statement.{statement}
 use Rattle.planner.proofs.plan.Tie as tie
 
 returns : tie.Need-returns
-returns c = not-within _ _ (read-refused _ _ (c .before .before .before .read .ensures) (c .before .if1 .taken)) _ (c .refused .ensures) _
+returns c = not-within _ _ _ (read-refused _ _ (c .before .before .before .read .ensures) (c .before .if1 .taken)) _ (c .refused .ensures) _
 
 choose-requires : tie.Need-choose-requires
 choose-requires c κs = planned _ _ (read-within _ _ (c .before .before .read .ensures) (c .if1 .left))
@@ -16,7 +15,7 @@ returns-2 : tie.Need-returns-2
 returns-2 c =
     let test = c .before .before .before .before in
     let t = read-within _ _ (test .before .before .read .ensures) (test .if1 .left) in
-    none-chosen _ _ t _ (c .before .before .before .choose .ensures) (c .before .if2 .taken) _ (c .refused2 .ensures) _
+    none-chosen _ _ t _ _ (c .before .before .before .choose .ensures) (c .before .if2 .taken) _ (c .refused2 .ensures) _
 
 returns-3 : tie.Need-returns-3
 returns-3 c =
@@ -24,8 +23,7 @@ returns-3 c =
     let test2 = wrote .before .before .before in
     let test1 = test2 .before .before .before in
     let t = read-within _ _ (test1 .before .before .read .ensures) (test1 .if1 .left) in
-    let chosen = plan-chosen _ _ t _ (test2 .before .before .choose .ensures) (test2 .if2 .left) _ in
-    (wrote .write .ensures .0 ∙ chosen .0, wrote .write .ensures .1 ∙ chosen .1)
+    plan-chosen _ _ t _ _ (test2 .before .before .choose .ensures) (test2 .if2 .left) _ (wrote .write .ensures .0) (wrote .write .ensures .1)
 
 pub plan-spec : {M : Type 1} → statement M
 plan-spec =

@@ -7,15 +7,15 @@ use Rattle.round_trip.proofs.show.Statement.{statement}
 use Rattle.round_trip.proofs.show.Tie as tie
 
 slice-aggregate-check : tie.Need-slice-aggregate-check
-slice-aggregate-check c = sym (length-take-le _ _ (omega (arith, c .before .at-most .ensures, c .before .before .before .plan .kept .1 .0)))
+slice-aggregate-check c = sym (length-take-le _ _ (omega (arith, c .before .at-most .ensures, c .before .before .before .plan .kept .1 .1 .0)))
 
 slice-aggregate-rewrite : tie.Need-slice-aggregate-rewrite
-slice-aggregate-rewrite c = sym (length-take-le _ _ (omega (arith, c .before .before .before .at-most .ensures, c .before .before .before .before .before .plan .kept .1 .0)))
+slice-aggregate-rewrite c = sym (length-take-le _ _ (omega (arith, c .before .before .before .at-most .ensures, c .before .before .before .before .before .plan .kept .1 .1 .0)))
 
 slice-aggregate-same : tie.Need-slice-aggregate-same
 slice-aggregate-same c =
     let p = c .before .before .before .before .before .before .before .before in
-    sym (length-take-le _ _ (omega (arith, p .at-most .ensures, p .before .before .plan .kept .1 .0)))
+    sym (length-take-le _ _ (omega (arith, p .at-most .ensures, p .before .before .plan .kept .1 .1 .0)))
 
 slice-aggregate-same-2 : tie.Need-slice-aggregate-same-2
 slice-aggregate-same-2 c = sym (length-take-le _ _ (omega (arith, c .before .before .at-most2 .ensures, c .before .before .before .before .rewrite .kept .1 .1 .0)))

@@ -1,8 +1,9 @@
--- The numbers handed over are the problem of the length, so what the search answers is the definition's plan.
+-- The numbers handed over are the problem of the length, so what the search answers is the definition's walk within the tries allowed.
 use mathlib.Core.Path.{ap, _∙_}
 use mathlib.Core.List.{[]}
-use Rattle.search.specs.Placing.{Problem, plan}
-use Rattle.place.specs.Arrays.{placedAnswer}
+use Rattle.search.specs.Placing.{Problem}
+use Rattle.search.specs.Counting.{planWalk}
+use Rattle.place.specs.Arrays.{placedWithin}
 use Rattle.planner.specs.LengthLaws.{some, problem-is, placeable}
 use borrow.Author.Needs.{needs}
 use Rattle.planner.proofs.choose.plan_with.Statement.{statement}
@@ -18,8 +19,9 @@ returns : tie.Need-returns
 returns c =
     let ends = c .before .before .before .before in
     let firsts = ends .before in
-    let is = problem-is (firsts .before .pre) (firsts .first-frames .ensures) (ends .end-frames .ensures) in
-    c .place-all .ensures ∙ ap (λ (x : Problem). placedAnswer (plan x [])) is
+    let s = firsts .before in
+    let is = problem-is (s .pre) (firsts .first-frames .ensures) (ends .end-frames .ensures) in
+    c .place-all .ensures ∙ ap (λ (x : Problem). placedWithin (s .args .allowed) (planWalk x [])) is
 
 pub plan-with-spec : {M : Type 1} → statement M
 plan-with-spec =
