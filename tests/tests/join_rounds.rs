@@ -6,7 +6,8 @@ mod common;
 use std::io::{stdout, Write};
 use std::thread;
 
-use bus_tests::bus::{Asked, Bus};
+use bus_tests::bus::Bus;
+use bus_tests::by_reference;
 use bus_tests::joining;
 use bus_tests::reference::join::joined;
 use bus_tests::reference::request::{read, write};
@@ -217,30 +218,6 @@ fn cut_behind(bytes: &[u8]) -> Vec<u8> {
 }
 
 impl Bus for Sham {
-    fn plan(&self, request: &[u8], allowance: u64, out: &mut [u8], tries: &mut [u8]) -> i32 {
-        Reference.plan(request, allowance, out, tries)
-    }
-
-    fn check(&self, request: &[u8], table: &[u8]) -> i32 {
-        Reference.check(request, table)
-    }
-
-    fn rewrite(&self, request: &[u8], table: &[u8], out: &mut [u8]) -> i32 {
-        Reference.rewrite(request, table, out)
-    }
-
-    fn fresh(&self, state: &mut [u8]) -> i32 {
-        Reference.fresh(state)
-    }
-
-    fn next_frame(&self, table: &[u8], state: &mut [u8], entries: &mut [u8]) -> i32 {
-        Reference.next_frame(table, state, entries)
-    }
-
-    fn report(&self, request: &[u8], task: u8, ticks: u32, state: &mut [u8]) -> i32 {
-        Reference.report(request, task, ticks, state)
-    }
-
     fn join(&self, first: &[u8], second: &[u8], out: &mut [u8]) -> i32 {
         if self.0 == Lie::TakesBytesBehind {
             return Reference.join(&cut_behind(first), &cut_behind(second), out);
@@ -257,9 +234,7 @@ impl Bus for Sham {
         }
     }
 
-    fn one_off(&self, request: &[u8], table: &[u8], asked: Asked) -> i32 {
-        Reference.one_off(request, table, asked)
-    }
+    by_reference!(plan, check, rewrite, fresh, next_frame, report, one_off);
 }
 
 #[test]

@@ -6,6 +6,7 @@ mod common;
 use std::thread;
 
 use bus_tests::bus::{Asked, Bus, ENTRIES_LEN, STATE_LEN};
+use bus_tests::by_reference;
 use bus_tests::generate;
 use bus_tests::one_off::{self, asked};
 use bus_tests::random::Random;
@@ -284,34 +285,6 @@ impl Sham {
 }
 
 impl Bus for Sham {
-    fn plan(&self, request: &[u8], allowance: u64, out: &mut [u8], tries: &mut [u8]) -> i32 {
-        Reference.plan(request, allowance, out, tries)
-    }
-
-    fn check(&self, request: &[u8], table: &[u8]) -> i32 {
-        Reference.check(request, table)
-    }
-
-    fn rewrite(&self, request: &[u8], table: &[u8], out: &mut [u8]) -> i32 {
-        Reference.rewrite(request, table, out)
-    }
-
-    fn fresh(&self, state: &mut [u8]) -> i32 {
-        Reference.fresh(state)
-    }
-
-    fn next_frame(&self, table: &[u8], state: &mut [u8], entries: &mut [u8]) -> i32 {
-        Reference.next_frame(table, state, entries)
-    }
-
-    fn report(&self, request: &[u8], task: u8, ticks: u32, state: &mut [u8]) -> i32 {
-        Reference.report(request, task, ticks, state)
-    }
-
-    fn join(&self, first: &[u8], second: &[u8], out: &mut [u8]) -> i32 {
-        Reference.join(first, second, out)
-    }
-
     fn one_off(&self, request: &[u8], table: &[u8], asked: Asked) -> i32 {
         let number = Reference.check(request, table);
         let passes = self.0 == Lie::PassesEveryTable && number == -14;
@@ -326,6 +299,8 @@ impl Bus for Sham {
             Err(number) => -number,
         }
     }
+
+    by_reference!(plan, check, rewrite, fresh, next_frame, report, join);
 }
 
 #[test]

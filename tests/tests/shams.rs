@@ -2,7 +2,8 @@
 
 mod common;
 
-use bus_tests::bus::{count_bytes, Asked, Bus, STATE_USED, TASKS};
+use bus_tests::bus::{count_bytes, Bus, STATE_USED, TASKS};
+use bus_tests::by_reference;
 use bus_tests::random::Random;
 use bus_tests::reference::cycle::{self, Cycle, Job};
 use bus_tests::reference::model::{plausible_lengths, window};
@@ -604,13 +605,7 @@ impl Bus for Sham {
         answer
     }
 
-    fn join(&self, first: &[u8], second: &[u8], out: &mut [u8]) -> i32 {
-        Reference.join(first, second, out)
-    }
-
-    fn one_off(&self, request: &[u8], table: &[u8], asked: Asked) -> i32 {
-        Reference.one_off(request, table, asked)
-    }
+    by_reference!(join, one_off);
 }
 
 /// One more in the count of a task, up to 65,535.
@@ -683,29 +678,7 @@ impl Bus for Careless {
         Sham(Lie::PassesEveryTable).check(request, table)
     }
 
-    fn rewrite(&self, request: &[u8], table: &[u8], out: &mut [u8]) -> i32 {
-        Reference.rewrite(request, table, out)
-    }
-
-    fn fresh(&self, state: &mut [u8]) -> i32 {
-        Reference.fresh(state)
-    }
-
-    fn next_frame(&self, table: &[u8], state: &mut [u8], entries: &mut [u8]) -> i32 {
-        Reference.next_frame(table, state, entries)
-    }
-
-    fn report(&self, request: &[u8], task: u8, ticks: u32, state: &mut [u8]) -> i32 {
-        Reference.report(request, task, ticks, state)
-    }
-
-    fn join(&self, first: &[u8], second: &[u8], out: &mut [u8]) -> i32 {
-        Reference.join(first, second, out)
-    }
-
-    fn one_off(&self, request: &[u8], table: &[u8], asked: Asked) -> i32 {
-        Reference.one_off(request, table, asked)
-    }
+    by_reference!(rewrite, fresh, next_frame, report, join, one_off);
 }
 
 #[test]

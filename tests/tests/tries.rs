@@ -3,7 +3,8 @@
 
 mod common;
 
-use bus_tests::bus::{Asked, Bus, TRIES_LEN};
+use bus_tests::bus::{Bus, TRIES_LEN};
+use bus_tests::by_reference;
 use bus_tests::generate;
 use bus_tests::random::Random;
 use bus_tests::reference::cycle::Job;
@@ -411,33 +412,7 @@ impl Bus for Sham {
         answer
     }
 
-    fn check(&self, request: &[u8], table: &[u8]) -> i32 {
-        Reference.check(request, table)
-    }
-
-    fn rewrite(&self, request: &[u8], table: &[u8], out: &mut [u8]) -> i32 {
-        Reference.rewrite(request, table, out)
-    }
-
-    fn fresh(&self, state: &mut [u8]) -> i32 {
-        Reference.fresh(state)
-    }
-
-    fn next_frame(&self, table: &[u8], state: &mut [u8], entries: &mut [u8]) -> i32 {
-        Reference.next_frame(table, state, entries)
-    }
-
-    fn report(&self, request: &[u8], task: u8, ticks: u32, state: &mut [u8]) -> i32 {
-        Reference.report(request, task, ticks, state)
-    }
-
-    fn join(&self, first: &[u8], second: &[u8], out: &mut [u8]) -> i32 {
-        Reference.join(first, second, out)
-    }
-
-    fn one_off(&self, request: &[u8], table: &[u8], asked: Asked) -> i32 {
-        Reference.one_off(request, table, asked)
-    }
+    by_reference!(check, rewrite, fresh, next_frame, report, join, one_off);
 }
 
 /// Rounds of comparison with the tool; how many requests there were, and the fault if one was found.

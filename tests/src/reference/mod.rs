@@ -185,3 +185,51 @@ impl Bus for Reference {
         answer(one_off::earliest(request, table, asked).map(|frame| frame as i32))
     }
 }
+
+/// Calls of a tool that it leaves to the reference, in an `impl Bus`.
+#[macro_export]
+macro_rules! by_reference {
+    (plan) => {
+        fn plan(&self, request: &[u8], allowance: u64, out: &mut [u8], tries: &mut [u8]) -> i32 {
+            $crate::reference::Reference.plan(request, allowance, out, tries)
+        }
+    };
+    (check) => {
+        fn check(&self, request: &[u8], table: &[u8]) -> i32 {
+            $crate::reference::Reference.check(request, table)
+        }
+    };
+    (rewrite) => {
+        fn rewrite(&self, request: &[u8], table: &[u8], out: &mut [u8]) -> i32 {
+            $crate::reference::Reference.rewrite(request, table, out)
+        }
+    };
+    (fresh) => {
+        fn fresh(&self, state: &mut [u8]) -> i32 {
+            $crate::reference::Reference.fresh(state)
+        }
+    };
+    (next_frame) => {
+        fn next_frame(&self, table: &[u8], state: &mut [u8], entries: &mut [u8]) -> i32 {
+            $crate::reference::Reference.next_frame(table, state, entries)
+        }
+    };
+    (report) => {
+        fn report(&self, request: &[u8], task: u8, ticks: u32, state: &mut [u8]) -> i32 {
+            $crate::reference::Reference.report(request, task, ticks, state)
+        }
+    };
+    (join) => {
+        fn join(&self, first: &[u8], second: &[u8], out: &mut [u8]) -> i32 {
+            $crate::reference::Reference.join(first, second, out)
+        }
+    };
+    (one_off) => {
+        fn one_off(&self, request: &[u8], table: &[u8], asked: $crate::bus::Asked) -> i32 {
+            $crate::reference::Reference.one_off(request, table, asked)
+        }
+    };
+    ($($call:ident),+) => {
+        $($crate::by_reference!($call);)+
+    };
+}
