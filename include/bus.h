@@ -47,9 +47,10 @@ extern "C" {
  * The search may be long where plans are hard to find, so it is allowed so many tries and no more.
  * One try is one job tested in one frame of its window, whether it is then placed there or passed
  * over. The tries that the full search makes depend on the request alone; where they are more than
- * the allowance, the request is refused with 23, neither with a table nor with 10. With a larger
- * allowance it gets one of these, and what it gets then stays with any larger one. The programs
- * `plan`, `plan_table` and `fly` allow 10,000,000 tries; UINT64_MAX is more than can be made.
+ * the allowance, the request is refused with 23, neither with a table nor with 10. With an allowance
+ * that reaches them it gets one of these, and that stays with any larger one. The programs `plan`,
+ * `plan_table` and `fly` allow 10,000,000 tries; UINT64_MAX is a limit that no search reaches in a
+ * lifetime.
  *
  * The first 8 bytes of `tries` get the count of tries, low byte first, with every answer but 99: with
  * 1 to 9 and 17 it is 0, with 23 the allowance, else the tries of the full search. The bytes behind

@@ -5,12 +5,13 @@ use mathlib.Core.Path.{_≡_, refl, sym, ap, subst, _∙_}
 use mathlib.Core.Bool.{Bool, true, false}
 use mathlib.Core.Logic.{_↔_, _⊎_, inl, inr, ⊎-elim}
 use mathlib.Core.List.{List}
-use native.Mathlib.Nat.{le-of-mul-le-mul-right, eq-or-lt-of-le}
+use native.Mathlib.Nat.{le-of-mul-le-mul-right}
 use native.Mathlib.Omega.{arith}
 use lib.ListN.{length}
 use lib.Dec.{leb, ltb, eqb}
 use borrow.Author.Tests.{ltb-true, ltb-false, leb-true, leb-false, eqb-true, eqb-false, le-leb, eq-eqb}
 use Rattle.cursor.specs.Choice.{both}
+use Rattle.cursor.specs.ChoiceLaws.{lt-or-ge}
 use Rattle.cursor.specs.Front.{Bytes}
 use Rattle.cursor.specs.ParsedLaws.{never, both-true}
 use Rattle.cycle.specs.Cycle.{cycleOf}
@@ -65,13 +66,6 @@ pub record OneOffExact (request bytes : List ℕ) (L s e : ℕ) : Type 0 where
   pub twenty-two : (oneOff L s e request bytes ≡ refusal 22) ↔ OfBoth request bytes (NoFrame L s e)
   -- "answer the earliest frame k"
   pub found : (k : ℕ) → (oneOff L s e request bytes ≡ inFrame k) ↔ OfBoth request bytes (TheFrame L s e k)
-
-three-ways : (k l : ℕ) → (k ≡ l) ⊎ ((k < l) ⊎ (l < k))
-three-ways k l = go (leb k l) refl
-  where
-    go : (b : Bool) → leb k l ≡ b → (k ≡ l) ⊎ ((k < l) ⊎ (l < k))
-    go true q = ⊎-elim inl (λ (h : k < l). inr (inl h)) (eq-or-lt-of-le (leb-true k l q))
-    go false q = inr (inr (leb-false k l q))
 
 -- The first frame of some
 
@@ -226,7 +220,8 @@ module _ (request bytes : List ℕ) (L s e : ℕ) where
     -- no two frames are the earliest
     same-frame : (x : Instance) (t : Table) (k l : ℕ) → IsEarliest x t L s e k → IsEarliest x t L s e l → k ≡ l
     same-frame x t k l v w =
-        ⊎-elim (λ q. q) (⊎-elim (λ (h : k < l). absurd (w .none-before k h (v .fits))) (λ (h : l < k). absurd (v .none-before l h (w .fits)))) (three-ways k l)
+        ⊎-elim (λ h. absurd (w .none-before k h (v .fits)))
+        (λ a. ⊎-elim (λ h. absurd (v .none-before l h (w .fits))) (λ b. omega arith) (lt-or-ge l k)) (lt-or-ge k l)
 
     -- THE THEOREM: which answer, exactly.
     pub one-off-exact : OneOffExact request bytes L s e
