@@ -3,7 +3,6 @@
 use Prim.Native.Nat.{ℕ}
 use mathlib.Core.Path.{_≡_, refl}
 use mathlib.Core.Bool.{true, false}
-use mathlib.Core.Logic.{inl}
 use mathlib.Core.List.{List, [], _∷_, map, flatMap}
 use native.Mathlib.Omega.{arith}
 use lib.ListN.{replicate}
@@ -44,14 +43,12 @@ use Rattle.model.specs.Plan.{Instance, slot, costOf, costs, IsPlan}
 use Rattle.model.specs.Plausible.{commonRule, phaseRule, frameRule, frameRules, plausibleBy, plausible}
 use Rattle.model.specs.Named.{isJob}
 use Rattle.model.specs.Links.{placeFrom, placeBefore, linkIf, linkBy, linksBy, linksOfJob, linksFrom, allLinks, inPlaces, linkCounts, linkPlaces}
-use Rattle.model.specs.Chosen.{noPlan, firstFrameOf, endFrameOf, problemAt, isTried, foundOr, chooseFrom, choose, RightBy}
+use Rattle.model.specs.Chosen.{firstFrameOf, endFrameOf, problemAt, isTriedBy, foundOr, chooseFromBy, chooseBy}
 use Rattle.model.specs.ChosenTries.{goOnLengths, walkLengths, chooseWalk}
-use Rattle.model.specs.ChosenLaws.{choose-right}
-use Rattle.model.specs.Within.{within-good}
 use Rattle.model.specs.Described.{rowFor, entryFor, placesOf, placesFrom, placesByTask, placesIn, planRows, planTable}
 use Rattle.planned_table.specs.Outcome.{Outcome, handed, refusal}
 use Rattle.planner.specs.Outcome.{outcome, requestTries, outcomeWithin, programOutcome}
-use Rattle.planner.specs.Moved.{OutcomeBy}
+use Rattle.planner.specs.Moved.{outcomeBy}
 use Rattle.rules.specs.Every as every
 use Rattle.rules.specs.Rules as rules
 use Rattle.checker.specs.Checked as checker
@@ -172,12 +169,9 @@ P4-table = record {
 abbrev frame : State → Frame
 frame s = nextFrame (decode (encode P7-table)) s
 
--- P8 and its like: what is planned; the one job is released at 2 and due at 7
-abbrev like-P8 : Line → Instance
-like-P8 p = record { tasks = p .tasks; pairs = p .pairs; g = 0; h = 10; jobs = record { task = 0; number = 0; release = 2; due = 7 } ∷ [] }
-
+-- P8: what is planned; the one job is released at 2 and due at 7
 abbrev P8-instance : Instance
-P8-instance = like-P8 P8
+P8-instance = record { tasks = P8 .tasks; pairs = P8 .pairs; g = 0; h = 10; jobs = record { task = 0; number = 0; release = 2; due = 7 } ∷ [] }
 
 -- P8's job in a frame of 5 ticks
 abbrev P8-five : Table
@@ -209,12 +203,12 @@ pub record SheetHolds : Type 0 where
   pub P8-five-refused : checker.checkNumber (bytesOf P8) (encode P8-five) ≡ 13
   pub P8-five-by-01 : checker.checkedBy (plausibleBy commonRule) (cycleOf (bytesOf P8)) (decode (encode P8-five)) ≡ checker.refusal 14
   -- "(3,10,5,2) moves from 10 to 9"
-  pub P8-longer-by-01 : OutcomeBy (plausibleBy commonRule) (bytesOf P8-longer) (refusal 10)
+  pub P8-longer-by-01 : outcomeBy commonRule (bytesOf P8-longer) ≡ refusal 10
 
 pub sheet-holds : SheetHolds
 unfolding outcome requestTries outcomeWithin cycleOf reading tasksOf taskOf judgedTask taskRule pairsOf pairOf judgedPair pairRule silentOf records byteOf wordOf
     requestBytes sectionBytes taskBytes pairBytes silentBytes wordBytes flatMap
-    RightBy choose chooseFrom isTried foundOr problemAt firstFrameOf endFrameOf firstFrom costs costOf slot plausibleBy frameRules frameRule phaseRule commonRule
+    outcomeBy chooseBy chooseFromBy isTriedBy foundOr problemAt firstFrameOf endFrameOf firstFrom costs costOf slot plausibleBy frameRules frameRule phaseRule commonRule
     linkCounts linkPlaces inPlaces allLinks linksFrom linksOfJob linksBy linkBy linkIf placeBefore placeFrom isJob padded
     plan search firstOf when orElse fits all-kept row-sum
     chooseWalk walkLengths goOnLengths planWalk walk walkFrames oneTry goOn
@@ -243,7 +237,5 @@ sheet-holds = record {
   P8-no-plan = λ frames v. omega (arith, v .not-early 0 (omega arith), v .not-late 0 (omega arith));
   P8-five-refused = refl;
   P8-five-by-01 = refl;
-  P8-longer-by-01 =
-      let x = like-P8 P8-longer in
-      inl (x, refl, noPlan, (choose-right x (within-good (bytesOf P8-longer) x refl) .0, (5, refl)), refl);
+  P8-longer-by-01 = refl;
 }

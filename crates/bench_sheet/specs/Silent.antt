@@ -21,7 +21,7 @@ use Rattle.model.specs.Plausible.{commonRule, phaseRule, frameRule, frameRules,
 use Rattle.model.specs.Named.{isJob}
 use Rattle.model.specs.Links.{placeFrom, placeBefore, linkIf, linkBy, linksBy, linksOfJob, linksFrom, allLinks, inPlaces, linkCounts, linkPlaces}
 use Rattle.model.specs.ChosenTries.{goOnLengths, walkLengths, chooseWalk}
-use Rattle.model.specs.Chosen.{firstFrameOf, endFrameOf, problemAt, isTried, foundOr, chooseFrom, choose}
+use Rattle.model.specs.Chosen.{firstFrameOf, endFrameOf, problemAt, isTriedBy, foundOr, chooseFromBy, chooseBy}
 use Rattle.model.specs.Described.{rowFor, entryFor, placesOf, placesFrom, placesByTask, placesIn, planRows, planTable}
 use Rattle.planned_table.specs.Outcome.{Outcome, handed, refusal}
 use Rattle.planner.specs.Outcome.{outcome, requestTries, outcomeWithin, programOutcome}
@@ -74,7 +74,7 @@ silent-sheet =
 pub silent-sheet-holds : map (λ (l : SilentLine). programOutcome (l .bytes)) silent-sheet ≡ map (λ (l : SilentLine). l .comes-to) silent-sheet
 unfolding outcome requestTries outcomeWithin cycleOf reading tasksOf taskOf judgedTask taskRule pairsOf pairOf judgedPair pairRule silentOf records byteOf wordOf
     requestBytes sectionBytes taskBytes pairBytes silentBytes wordBytes flatMap
-    choose chooseFrom isTried foundOr problemAt firstFrameOf endFrameOf firstFrom costs costOf slot plausibleBy frameRules frameRule phaseRule commonRule
+    chooseBy chooseFromBy isTriedBy foundOr problemAt firstFrameOf endFrameOf firstFrom costs costOf slot plausibleBy frameRules frameRule phaseRule commonRule
     linkCounts linkPlaces inPlaces allLinks linksFrom linksOfJob linksBy linkBy linkIf placeBefore placeFrom isJob padded
     plan search firstOf when orElse fits all-kept row-sum
     chooseWalk walkLengths goOnLengths planWalk walk walkFrames oneTry goOn

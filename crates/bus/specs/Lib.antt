@@ -5,7 +5,10 @@ pub mod StateLaws
 pub mod Calls
 pub mod CallLaws
 pub mod Plan
+pub mod Tries
 pub mod Rewrite
 pub mod OneOff
 pub mod RoundTrip
+pub mod Changed
+pub mod Answered
 pub mod Join

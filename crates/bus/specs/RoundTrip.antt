@@ -1,5 +1,5 @@
 -- The bytes of a state, both ways: a state that was written is read again, and the bytes of a state are those that it is written as. A later state takes
--- the place of an earlier one.
+-- the place of an earlier one. And the pairs of a frame are there as they were written.
 use Prim.Native.Nat.{ℕ, zero, suc, _+_, _*_, _%_, _/_, _≤_, _<_}
 use mathlib.Core.Path.{_≡_, refl, sym, ap, _∙_}
 use mathlib.Core.Bool.{Bool, true, false}
@@ -13,7 +13,7 @@ use borrow.Author.Tests.{le-ltb, ltb-true}
 use Rattle.cursor.specs.Fields.{wordBytes}
 use Rattle.cursor.specs.Front.{Bytes}
 use Rattle.dispatcher.specs.declared.State.{State}
-use Rattle.bus.specs.State.{isState, wordOf, countIn, countsFrom, stateOf, stateBytes, countBytes, markByte}
+use Rattle.bus.specs.State.{isState, wordOf, countIn, countsFrom, stateOf, stateBytes, countBytes, markByte, pairBytes}
 use Rattle.bus.specs.StateLaws.{long, state-long}
 
 word-back : (w : ℕ) → wordOf (w % 256) (w / 256) ≡ w
@@ -41,6 +41,15 @@ module _ (bytes : List ℕ) where
   counts-at zero i k h = absurd (omega arith)
   counts-at (suc n) i zero h = ap (countIn bytes) (omega arith)
   counts-at (suc n) i (suc k) h = counts-at n (i + 1) k (omega arith) ∙ ap (countIn bytes) (omega arith)
+
+  -- so the counts of a state that is read are those in its bytes
+  pub counts-read : length (stateOf bytes .counts) ≡ 16
+  unfolding stateOf
+  counts-read = counts-length 16 0
+
+  pub count-read : (i : ℕ) → i < 16 → getD (stateOf bytes .counts) i 0 ≡ countIn bytes i
+  unfolding stateOf
+  count-read i h = counts-at 16 0 i h ∙ ap (countIn bytes) (zero-add i)
 
 module _ (s : State) (bytes : List ℕ) where
   pub state-length : 64 ≤ length bytes → length (stateBytes s bytes) ≡ length bytes
@@ -133,3 +142,18 @@ module _ (bytes : List ℕ) (is : isState bytes ≡ true) (are : Bytes bytes) wh
         ← drop-cons bytes 1 0 (omega arith),
         ← drop-cons bytes 0 0 (omega arith),
       )
+
+-- of n pairs that are written from place i on, the k-th
+pub pair-there : (tasks jobs rest : List ℕ) (n i k : ℕ) → k < n
+    → (getD (pairBytes tasks jobs n i ++ rest) (2 * k) 0 ≡ getD tasks (i + k) 0) × (getD (pairBytes tasks jobs n i ++ rest) (2 * k + 1) 0 ≡ getD jobs (i + k) 0)
+unfolding pairBytes
+pair-there tasks jobs rest zero i k h = absurd (omega arith)
+pair-there tasks jobs rest (suc n) i zero h =
+    let here : i ≡ i + 0 = omega arith in
+    (ap (λ (j : ℕ). getD tasks j 0) here, ap (λ (j : ℕ). getD jobs j 0) here)
+pair-there tasks jobs rest (suc n) i (suc k) h =
+    let low : 2 * suc k ≡ suc (suc (2 * k)) = omega arith in
+    let high : 2 * suc k + 1 ≡ suc (suc (2 * k + 1)) = omega arith in
+    let place : i + 1 + k ≡ i + suc k = omega arith in
+    let there = pair-there tasks jobs rest n (i + 1) k (omega arith) in
+    (rw low (there .0 ∙ ap (λ (j : ℕ). getD tasks j 0) place), rw high (there .1 ∙ ap (λ (j : ℕ). getD jobs j 0) place))

@@ -61,7 +61,7 @@ pub extern "C" fn bus_plan(request: &[u8], allowance: u64, out: &mut [u8], tries
     value(searched.length)
 }
 
-// Whether the table describes a plan of the request: 0, or 1 to 8 or 12 to 14 negated.
+// Whether the table describes a plan of the request: 0, or 1 to 8, 17 or 12 to 14 negated.
 #[no_mangle]
 pub extern "C" fn bus_check(request: &[u8], table: &[u8]) -> i32
     ensures { λ r. ⌜ r ≡ checkReply (now (request .entry)) (now (table .entry)) ⌝ }
@@ -73,7 +73,7 @@ pub extern "C" fn bus_check(request: &[u8], table: &[u8]) -> i32
     0
 }
 
-// The table of the plan that is read from a table, written into `out`: its length, or 1 to 8, 12 to 14 or 11 negated.
+// The table of the plan that is read from a table, written into `out`: its length, or 1 to 8, 17, 12 to 14 or 11 negated.
 #[no_mangle]
 pub extern "C" fn bus_rewrite(request: &[u8], table: &[u8], out: &mut [u8]) -> i32
     ensures { λ r. ⌜ (r ≡ rewriteReply (now (request .entry)) (now (table .entry)) (now (out .entry)))
@@ -248,7 +248,7 @@ pub extern "C" fn bus_next_frame(table: &[u8], state: &mut [u8], entries: &mut [
     value(frame.count)
 }
 
-// The ticks that a task used, and the state after the report: 0, or 99, 1 to 6 or 16 negated and nothing changed.
+// The ticks that a task used, and the state after the report: 0, or 99, 1 to 6, 17 or 16 negated and nothing changed.
 #[no_mangle]
 pub extern "C" fn bus_report(request: &[u8], task: u8, ticks: u32, state: &mut [u8]) -> i32
     ensures { λ r. ⌜ (r ≡ reportReply (now (request .entry)) task ticks (now (state .entry))) × (now (state .exit) ≡ reportState (now (request .entry)) task ticks (now (state .entry))) ⌝ }

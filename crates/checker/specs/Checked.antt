@@ -1,6 +1,6 @@
 -- The check, in the words of 01's 'Checking' and 'A plan': what it answers to a request's cycle and a decoded table.
 use Prim.Native.Nat.{ℕ, _+_}
-use mathlib.Core.Bool.{Bool, true, false}
+use mathlib.Core.Bool.{Bool, true}
 use mathlib.Core.List.{List, [], _∷_, map}
 use lib.ListN.{length, getD}
 use lib.Dec.{eqb}
@@ -36,13 +36,17 @@ placeIn job r (es ∷ rows) = orElse (placeInRow job r es) (placeIn job (r + 1) 
 unfoldable pub frameFor : ℕ → ℕ → Bool → ℕ
 frameFor rows r carried = r + pick carried rows 0
 
+-- For each case of a place its frame and its number: the job stands in row r of F; or "a missing job" breaks the plan, which is 14.
 abbrev pub frameAtPlace : ℕ → Place → ℕ
 frameAtPlace rows (At r carried) = frameFor rows r carried
 frameAtPlace rows Nowhere = 0
 
+abbrev pub placeNumber : Place → ℕ
+placeNumber (At r carried) = 0
+placeNumber Nowhere = 14
+
 abbrev pub isFound : Place → Bool
-isFound (At r carried) = true
-isFound Nowhere = false
+isFound p = eqb (placeNumber p) 0
 
 -- the frame that the rows give a job
 unfoldable pub frameIn : List (List Entry) → Job → ℕ

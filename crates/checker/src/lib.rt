@@ -52,7 +52,7 @@ fn read_rows(cycle: Cycle, table: &[u8], height: u16, f: u16) -> Read
     }
 }
 
-// The plan that the table describes; or the number, from 1 to 8 or 12 to 14, that request or table is refused with.
+// The plan that the table describes; or the number, from 1 to 8, 17 or from 12 to 14, that request or table is refused with.
 pub fn read_plan(request: &[u8], table: &[u8]) -> Read
     ensures { λ r. ⌜ r ≡ readAnswer (checked (cycleOf (now (request .entry))) (decode (now (table .entry)))) ⌝ }
 {

@@ -2,9 +2,7 @@
 -- Twice: as the front of some bytes, and as the cursor's answer at a place of a byte string. FieldLaws ties the two.
 use Prim.Native.Nat.{ℕ, _+_, _*_, _/_, _%_}
 use mathlib.Core.List.{List, [], _∷_}
-use lib.ListN.{length, getD}
-use lib.Dec.{ltb}
-use Rattle.cursor.specs.Choice.{pick}
+use lib.ListN.{drop}
 use Rattle.cursor.specs.Parsed.{Parsed, got, refused, then}
 use Rattle.cursor.specs.declared.ByteRead.{ByteRead}
 use Rattle.cursor.specs.declared.ByteRead.the-variants.{Byte, NoByte}
@@ -23,8 +21,19 @@ wordOf short bytes = then (byteOf short bytes) (λ low rest. then (byteOf short 
 unfoldable pub wordBytes : ℕ → List ℕ
 wordBytes w = (w % 256) ∷ (w / 256) ∷ []
 
+-- The cursor's answers at a place, for each case of a reading: the value with the cursor behind the field; or, where the bytes have ended, that there is none.
+-- Its number is the one that the reading was given for this case: 1 in a request, 12 in a table.
+abbrev pub byteRead : ℕ → Parsed ℕ → ByteRead
+byteRead at (got b rest) = Byte b (record { at = at + 1 })
+byteRead at (refused number) = NoByte
+
+abbrev pub wordRead : ℕ → Parsed ℕ → WordRead
+wordRead at (got w rest) = Word w (record { at = at + 1 + 1 })
+wordRead at (refused number) = NoWord
+
+-- the answer at a place of a byte string; it is the same for every number (FieldLaws)
 unfoldable pub byteAt : List ℕ → ℕ → ByteRead
-byteAt s at = pick (ltb at (length s)) (Byte (getD s at 0) (record { at = at + 1 })) NoByte
+byteAt s at = byteRead at (byteOf 1 (drop at s))
 
 unfoldable pub wordAt : List ℕ → ℕ → WordRead
-wordAt s at = pick (ltb (at + 1) (length s)) (Word (getD s at 0 + getD s (at + 1) 0 * 256) (record { at = at + 1 + 1 })) NoWord
+wordAt s at = wordRead at (wordOf 1 (drop at s))

@@ -69,6 +69,8 @@ module _ (x : Instance) (tableBytes : List ℕ) (t : Table) (calls : List Call) 
     pub each-stands : (m p : ℕ) → Served (framesFlown tableBytes calls) m p → StandsForSome x (height t) (framesFlown tableBytes calls) m p
     -- "each later entry of a frame start[s] g ticks after the one before ended"
     pub silent-between : (m p : ℕ) → Served (framesFlown tableBytes calls) m (suc p) → starts m (suc p) ≡ ends m p + x .g
+    -- each transfer ends in its frame, with the silent ticks after it
+    pub ends-in-frame : (m p : ℕ) → Served (framesFlown tableBytes calls) m p → ends m p + x .g ≤ (m + 1) * t .f
     -- a started job starts no earlier than its release and ends by its deadline
     pub not-before-release : (i j q m p : ℕ) → Started i j q m p → releasedIn x q i j ≤ starts m p
     pub by-deadline : (i j q m p : ℕ) → Started i j q m p → ends m p ≤ dueIn x q i j

@@ -96,8 +96,8 @@ module _ (x : Instance) (g : Good x) (t : Table) (frames : List ℕ) (v : IsPlan
         let es : List Entry = getD fr m [] in
         omega (arith, start-le x (t .f) actual m es (in-slot m flown) (length es) (omega arith), slotsTo-le x es (length es), served-less m flown)
 
-    -- even with its whole C, an entry ends in its frame
-    pub room : (m p : ℕ) → Served fr m p → start (x .g) (t .f) actual m p + taskAt x (servedAt fr m p .task) .c ≤ (m + 1) * t .f
+    -- even with its whole C, an entry ends in its frame with the silent ticks after it
+    pub room : (m p : ℕ) → Served fr m p → start (x .g) (t .f) actual m p + taskAt x (servedAt fr m p .task) .c + x .g ≤ (m + 1) * t .f
     room m p s =
         let es : List Entry = getD fr m [] in
         omega (
@@ -109,6 +109,9 @@ module _ (x : Instance) (g : Good x) (t : Table) (frames : List ℕ) (v : IsPlan
           slotsTo-le x es (suc p),
           row-fits (m % height t) (mod-lt m (some-row x g t frames v d)),
         )
+
+    pub in-frame : (m p : ℕ) → Served fr m p → finish (x .g) (t .f) actual m p + x .g ≤ (m + 1) * t .f
+    in-frame m p s = omega (arith, room m p s, keep m p s)
 
     among-frame : (m p : ℕ) → Served fr m p → Among (servedAt fr m p) (plainFrame t m)
     among-frame m p s = subst (λ (es : List Entry). Among (servedAt fr m p) es) (is m (s .frame-flown)) (among-at (getD fr m []) p (s .place-filled))

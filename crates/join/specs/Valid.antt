@@ -3,22 +3,25 @@
 -- numbers are raised by the number of tasks in front.
 use Prim.Native.Nat.{ℕ, zero, suc, _+_, _-_, _≤_, _<_}
 use mathlib.Core.Path.{_≡_, refl, sym, ap, subst₂, _∙_}
-use mathlib.Core.Logic.{_⊎_, inl, inr}
+use mathlib.Core.Logic.{_⊎_, inl, inr, _≢_}
+use mathlib.Core.Bool.{Bool, true, false}
 use mathlib.Core.List.{List, _++_, map, append-nil}
 use native.Mathlib.Omega.{arith}
 use lib.ListN.{length, getD, drop, length-append, length-map, List·getD-append}
 use lib.Seq.{getD-append-add}
+use lib.Dec.{ltb, eqb}
+use Rattle.cursor.specs.Choice.{pick}
 use Rattle.cursor.specs.ChoiceLaws.{lt-or-ge}
 use Rattle.cursor.specs.ParsedLaws.{never}
 use Rattle.cursor.specs.Padded.{map-at}
 use Rattle.request.specs.Request.{Reading, readable, unreadable, reading, noTask, noPair, periodOf}
 use Rattle.request.specs.Encode.{silentBytes, twoSections, requestBytes}
 use Rattle.request.specs.EncodeLaws.{read-encode}
-use Rattle.request.specs.Readable.{TaskKept, PairKept, Readable, readable-kept, silent-few, unreadable-number, unread-pos}
+use Rattle.request.specs.Readable.{TaskKept, PairKept, Readable, readable-kept, silent-few, UnreadNumber, unreadable-number}
 use Rattle.request.specs.declared.Task.{Task}
 use Rattle.request.specs.declared.Pair.{Pair}
 use Rattle.request_writer.specs.Written.{requestAnswer, requestBuffer}
-use Rattle.request_writer.specs.FileLaws.{fileOf, has-file, answer-short}
+use Rattle.request_writer.specs.FileLaws.{ownNumber, fileOf, has-file, answer-short, answer-enough}
 use Rattle.join.specs.Joined.{raised, joinedTasks, joinedPairs, misfit, unless, joined}
 use Rattle.join.specs.JoinLaws.{pairs-counted}
 use Rattle.join.specs.Parts.{Parts, joined-parts}
@@ -85,20 +88,44 @@ pub record Joins (first second file : List ℕ) : Type 0 where
   pub silence : g ≡ 0 → file ≡ twoSections tasks pairs
   pub reads : reading file ≡ readable tasks pairs g
 
-module _ (first second : List ℕ) where
-  -- the number of a refusal is not 0
-  refused-some : (number : ℕ) → joined (reading first) (reading second) ≡ unreadable number → number ≡ 0 → ⊥
-  unfolding joined
-  refused-some number e z = go (reading first) refl (reading second) refl e
-    where
-      not-0 : (m : ℕ) (t : List Task) (p : List Pair) (g : ℕ) → unless m (readable t p g) ≡ unreadable number → ⊥
-      not-0 zero t p g f = never (cc)
-      not-0 (suc m) t p g f = let same : suc m ≡ number = cc in omega arith
+-- the number of a refusal but 11: a request's own, or 18 to 20
+abbrev pub JoinNumber : ℕ → Type 0
+JoinNumber number = UnreadNumber number ⊎ ((18 ≤ number) × (number ≤ 20))
 
-      go : (a : Reading) → reading first ≡ a → (b : Reading) → reading second ≡ b → joined a b ≡ unreadable number → ⊥
-      go (unreadable k) p b q f = let same : k ≡ number = cc in omega (arith, unread-pos (unreadable-number first k p))
-      go (readable t₁ p₁ g₁) p (unreadable k) q f = let same : k ≡ number = cc in omega (arith, unread-pos (unreadable-number second k q))
-      go (readable t₁ p₁ g₁) p (readable t₂ p₂ g₂) q f = not-0 (misfit (length t₁ + length t₂) (length p₁ + length p₂) g₁ g₂) _ _ _ f
+join-number-is : {number : ℕ} → JoinNumber number → (1 ≤ number) × (number ≢ 11)
+join-number-is (inl (inl n)) = (n .0, λ e. omega (arith, n .1))
+join-number-is (inl (inr n)) = (omega arith, λ e. omega arith)
+join-number-is (inr n) = (omega (arith, n .0), λ e. omega (arith, n .0))
+
+abbrev MisfitNumber : ℕ → Type 0
+MisfitNumber m = (m ≡ 0) ⊎ ((18 ≤ m) × (m ≤ 20))
+
+misfit-number : (n m g h : ℕ) → MisfitNumber (misfit n m g h)
+unfolding misfit
+misfit-number n m g h = go (ltb 16 n) (ltb 16 m) (eqb g h)
+  where
+    go : (a b c : Bool) → MisfitNumber (pick a 18 (pick b 19 (pick c 0 20)))
+    go true b c = inr (omega arith, omega arith)
+    go false true c = inr (omega arith, omega arith)
+    go false false true = inl refl
+    go false false false = inr (omega arith, omega arith)
+
+module _ (first second : List ℕ) where
+  -- what joining is refused with where the buffer is long enough
+  pub join-number : (number : ℕ) → joined (reading first) (reading second) ≡ unreadable number → JoinNumber number
+  unfolding joined
+  join-number number e = go (reading first) refl (reading second) refl e
+    where
+      misfits : (m : ℕ) → MisfitNumber m → (t : List Task) (p : List Pair) (g : ℕ) → unless m (readable t p g) ≡ unreadable number → JoinNumber number
+      misfits zero k t p g f = absurd (never (cc))
+      misfits (suc m) (inl z) t p g f = absurd (omega arith)
+      misfits (suc m) (inr k) t p g f = let same : suc m ≡ number = cc in inr (omega (arith, k .0), omega (arith, k .1))
+
+      go : (a : Reading) → reading first ≡ a → (b : Reading) → reading second ≡ b → joined a b ≡ unreadable number → JoinNumber number
+      go (unreadable k) p b q f = let same : k ≡ number = cc in inl (unreadable-number first number (p ∙ ap unreadable same))
+      go (readable t₁ p₁ g₁) p (unreadable k) q f = let same : k ≡ number = cc in inl (unreadable-number second number (q ∙ ap unreadable same))
+      go (readable t₁ p₁ g₁) p (readable t₂ p₂ g₂) q f =
+          misfits (misfit (length t₁ + length t₂) (length p₁ + length p₂) g₁ g₂) (misfit-number _ _ g₁ g₂) _ _ _ f
 
   module _ (tasks : List Task) (pairs : List Pair) (g : ℕ) (e : joined (reading first) (reading second) ≡ readable tasks pairs g) where
     p : Parts (reading first) (reading second) tasks pairs g
@@ -129,10 +156,24 @@ module _ (first second : List ℕ) where
   pub join-valid : (out : List ℕ) → let r = joined (reading first) (reading second) in let end = requestAnswer r out .length in
       requestAnswer r out .refusal ≡ 0 → Joins first second (fileOf r out) × (drop end (requestBuffer r out) ≡ drop end out)
   join-valid out z =
-      let h = has-file out (joined (reading first) (reading second)) refused-some z in
+      let h = has-file out (joined (reading first) (reading second)) (λ number e zero. omega (arith, join-number-is (join-number number e) .0)) z in
       (joins (h .tasks) (h .pairs) (h .g) (h .is) _ (h .file), h .behind)
 
-  -- A buffer of 164 bytes is never too short.
+  few-joined : (tasks : List Task) (pairs : List Pair) (g : ℕ) → joined (reading first) (reading second) ≡ readable tasks pairs g
+      → (length tasks ≤ 16) × (length pairs ≤ 16)
+  few-joined tasks pairs g e = let k = joined-form tasks pairs g e in (k .few-tasks, k .few-pairs)
+
+  -- No joined file is longer than 164 bytes.
   pub join-short : (out : List ℕ) → requestAnswer (joined (reading first) (reading second)) out .length ≤ 164
-  join-short out =
-      answer-short out (joined (reading first) (reading second)) (λ tasks pairs g e. let k = joined-form tasks pairs g e in (k .few-tasks, k .few-pairs))
+  join-short out = answer-short out (joined (reading first) (reading second)) few-joined
+
+  -- So a buffer of 164 bytes or more is never too short: the answer's number is what joining comes to, and never 11.
+  pub join-enough : (out : List ℕ) → 164 ≤ length out → let r = joined (reading first) (reading second) in
+      (requestAnswer r out .refusal ≡ ownNumber r) × (requestAnswer r out .refusal ≢ 11)
+  join-enough out long =
+      let is = answer-enough out (joined (reading first) (reading second)) few-joined long in
+      (is, λ e. not-11 (joined (reading first) (reading second)) refl (sym is ∙ e))
+    where
+      not-11 : (r : Reading) → joined (reading first) (reading second) ≡ r → ownNumber r ≢ 11
+      not-11 (readable tasks pairs g) q e = omega arith
+      not-11 (unreadable number) q e = join-number-is (join-number number q) .1 e

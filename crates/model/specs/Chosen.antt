@@ -6,13 +6,14 @@ use mathlib.Core.List.{List, [], map}
 use Prim.Native.Nat.{ℕ, zero, suc, _+_, _/_, _%_, _<_}
 use lib.Dec.{eqb}
 use Rattle.cursor.specs.Choice.{pick, both}
+use Rattle.request.specs.declared.Task.{Task}
 use Rattle.cycle.specs.declared.Job.{Job}
 use Rattle.search.specs.Search.{Found, none, at}
 use Rattle.search.specs.Best.{Earlier}
 use Rattle.search.specs.Placing.{Problem, plan}
 use Rattle.model.specs.Window.{firstFrom}
 use Rattle.model.specs.Plan.{Instance, rowsAt, costs, IsPlan}
-use Rattle.model.specs.Plausible.{plausible}
+use Rattle.model.specs.Plausible.{phaseRule, plausibleBy, plausible}
 use Rattle.model.specs.Links.{linkCounts, linkPlaces}
 
 -- the frames of length f in a job's window: from the first that begins at its release or later, up to, and without, the first that ends
@@ -41,9 +42,12 @@ pub data Choice : Type 0 where
   noPlan : Choice
   noPlausible : Choice
 
--- the length of F rows is tried: F divides H, and H/F is plausible
-unfoldable pub isTried : Instance → ℕ → Bool
-isTried x rows = both (eqb (x .h % rows) 0) (plausible x (x .h / rows))
+-- the length of F rows is tried: F divides H, and H/F is plausible by the rule
+unfoldable pub isTriedBy : (ℕ → Task → Bool) → Instance → ℕ → Bool
+isTriedBy rule x rows = both (eqb (x .h % rows) 0) (plausibleBy rule x (x .h / rows))
+
+abbrev pub isTried : Instance → ℕ → Bool
+isTried = isTriedBy phaseRule
 
 -- the plan found with the length f, or else what the rest comes to
 unfoldable pub foundOr : ℕ → Found → Choice → Choice
@@ -51,17 +55,21 @@ foundOr f (at frames) rest = chosen f frames
 foundOr f none rest = rest
 
 -- n lengths are left, the next is that of F rows; `some`: an earlier one was plausible (a `let` is computed only where it is taken)
-unfoldable pub chooseFrom : Instance → ℕ → ℕ → Bool → Choice
-chooseFrom x zero rows some = pick some noPlan noPlausible
-chooseFrom x (suc n) rows some =
-    let next = chooseFrom x n (rows + 1) some in
-    let after = chooseFrom x n (rows + 1) true in
+unfoldable pub chooseFromBy : (ℕ → Task → Bool) → Instance → ℕ → ℕ → Bool → Choice
+chooseFromBy rule x zero rows some = pick some noPlan noPlausible
+chooseFromBy rule x (suc n) rows some =
+    let next = chooseFromBy rule x n (rows + 1) some in
+    let after = chooseFromBy rule x n (rows + 1) true in
     let searched = foundOr (x .h / rows) (plan (problemAt x (x .h / rows)) []) after in
-    pick (isTried x rows) searched next
+    pick (isTriedBy rule x rows) searched next
 
 -- "Plausible lengths are tried from the largest down": those of 1, 2, .., 256 rows. "The table is that of the first length with a plan"
-unfoldable pub choose : Instance → Choice
-choose x = chooseFrom x 256 1 false
+unfoldable pub chooseBy : (ℕ → Task → Bool) → Instance → Choice
+chooseBy rule x = chooseFromBy rule x 256 1 false
+
+-- the planner's choice, by the rule of the phase
+abbrev pub choose : Instance → Choice
+choose = chooseBy phaseRule
 
 -- "Against every other plan of the request, the chosen one has the larger f, or the same f and the earlier frame at the first job .. where
 -- the two differ."

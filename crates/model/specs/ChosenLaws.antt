@@ -1,8 +1,9 @@
 -- The choice is right: it is a plan exactly if there is one, and then the first; 10 and 9 tell whether some length is plausible.
 -- Lengths are tried by rising F, so as long as none has been chosen, no plan has fewer than F rows. The search at F rows finds the first plan
--- with that length, or shows that there is none; and a length that is not tried has none, since plausible is necessary.
+-- with that length, or shows that there is none; and a length that is not tried has none, since plausible is necessary. Nothing else is asked of the
+-- rule on the windows, so it is a parameter: 01's rule chooses rightly too, and so the same plan.
 use mathlib.Core.Path.{_≡_, refl, sym, ap, subst, _∙_}
-use mathlib.Core.Bool.{Bool, true, false, false≢true}
+use mathlib.Core.Bool.{Bool, true, false}
 use mathlib.Core.Logic.{_⊎_, inl, inr, ⊎-elim, _↔_}
 use mathlib.Core.List.{List, []}
 use Prim.Native.Nat.{ℕ, zero, suc, _+_, _/_, _%_, _≤_, _<_, _∣_}
@@ -16,30 +17,31 @@ use Rattle.cursor.specs.Choice.{pick}
 use Rattle.cursor.specs.ChoiceLaws.{lt-or-ge}
 use Rattle.cursor.specs.ParsedLaws.{never, both-true}
 use Rattle.arith.specs.Residue.{quotient-pos}
+use Rattle.request.specs.declared.Task.{Task}
 use Rattle.search.specs.Search.{Found, none, at}
 use Rattle.search.specs.Best.{Earlier}
 use Rattle.search.specs.Placing.{plan}
 use Rattle.search.specs.Plans.{IsPlacing, Right, right}
 use Rattle.model.specs.Plan.{Instance, rowsAt, IsPlan}
-use Rattle.model.specs.Plausible.{plausible}
-use Rattle.model.specs.Chosen.{problemAt, Choice, chosen, noPlan, noPlausible, isTried, foundOr, chooseFrom, choose, IsChosen, NoPlan, RightBy, RightChoice}
+use Rattle.model.specs.Plausible.{commonRule, phaseRule, plausibleBy, plausible}
+use Rattle.model.specs.Chosen.{problemAt, Choice, chosen, noPlan, noPlausible, isTriedBy, foundOr, chooseFromBy, chooseBy, choose, IsChosen, NoPlan, RightBy, RightChoice}
 use Rattle.model.specs.Good.{Good}
-use Rattle.model.specs.PlausibleLaws.{IsPlausible, plausible-says, plausible-needed}
+use Rattle.model.specs.PlausibleLaws.{PlausibleBy, Needed, plausible-says, plausible-needed, plausible-before}
 use Rattle.model.specs.ProblemLaws.{placing-is-plan, plan-is-placing, problem-proper}
 
 -- the choice, a length at a time
-module _ (x : Instance) where
-  pub choose-end : (rows : ℕ) (some : Bool) → chooseFrom x 0 rows some ≡ pick some noPlan noPlausible
-  unfolding chooseFrom
+module _ (rule : ℕ → Task → Bool) (x : Instance) where
+  pub choose-end : (rows : ℕ) (some : Bool) → chooseFromBy rule x 0 rows some ≡ pick some noPlan noPlausible
+  unfolding chooseFromBy
   choose-end rows some = refl
 
-  pub choose-skipped : (n rows : ℕ) (some : Bool) → isTried x rows ≡ false → chooseFrom x (suc n) rows some ≡ chooseFrom x n (rows + 1) some
-  unfolding chooseFrom
+  pub choose-skipped : (n rows : ℕ) (some : Bool) → isTriedBy rule x rows ≡ false → chooseFromBy rule x (suc n) rows some ≡ chooseFromBy rule x n (rows + 1) some
+  unfolding chooseFromBy
   choose-skipped n rows some e = rw e
 
-  pub choose-tried : (n rows : ℕ) (some : Bool) → isTried x rows ≡ true
-      → chooseFrom x (suc n) rows some ≡ foundOr (x .h / rows) (plan (problemAt x (x .h / rows)) []) (chooseFrom x n (rows + 1) true)
-  unfolding chooseFrom
+  pub choose-tried : (n rows : ℕ) (some : Bool) → isTriedBy rule x rows ≡ true
+      → chooseFromBy rule x (suc n) rows some ≡ foundOr (x .h / rows) (plan (problemAt x (x .h / rows)) []) (chooseFromBy rule x n (rows + 1) true)
+  unfolding chooseFromBy
   choose-tried n rows some e = rw e
 
 -- a length is known by its rows
@@ -50,56 +52,57 @@ other-way h f rows pos d e =
 rows-divide : (h f : ℕ) → f ∣ h → h % (h / f) ≡ 0
 rows-divide h f d = mod-eq-zero-of-dvd (h / f) (rw (div-mul-cancel f d) at (dvd-mul-right (h / f) f))
 
-module _ (x : Instance) (g : Good x) where
-  tried-says : (rows : ℕ) → isTried x rows ≡ true → (x .h % rows ≡ 0) × (plausible x (x .h / rows) ≡ true)
-  unfolding isTried
+-- by a rule that every plan's length keeps
+module _ (x : Instance) (g : Good x) (rule : ℕ → Task → Bool) (needed : Needed rule x) where
+  tried-says : (rows : ℕ) → isTriedBy rule x rows ≡ true → (x .h % rows ≡ 0) × (plausibleBy rule x (x .h / rows) ≡ true)
+  unfolding isTriedBy
   tried-says rows e =
       let b = both-true (eqb (x .h % rows) 0) _ e in
       (eqb-true (x .h % rows) 0 (b .0), b .1)
 
   -- every plausible length is tried
-  plausible-tried : (f : ℕ) → plausible x f ≡ true → isTried x (rowsAt x f) ≡ true
-  unfolding isTried
+  plausible-tried : (f : ℕ) → plausibleBy rule x f ≡ true → isTriedBy rule x (rowsAt x f) ≡ true
+  unfolding isTriedBy
   plausible-tried f e =
-      let p : IsPlausible x f = plausible-says x f e in
+      let p : PlausibleBy rule x f = plausible-says x f e in
       rw (eq-eqb (x .h % rowsAt x f) 0 (rows-divide (x .h) f (p .divides)), other-way (x .h) f (rowsAt x f) (g .some-time) (p .divides) refl) e
 
   -- so far: no plan has fewer rows, and no plausible length either, unless `some` says so
   record Passed (rows : ℕ) (some : Bool) : Type 0 where
     plans : (f : ℕ) (frames : List ℕ) → IsPlan x f frames → rows ≤ rowsAt x f
-    lengths : some ≡ false → (f : ℕ) → plausible x f ≡ true → rows ≤ rowsAt x f
-    known : some ≡ true → (f : ℕ) × (plausible x f ≡ true)
+    lengths : some ≡ false → (f : ℕ) → plausibleBy rule x f ≡ true → rows ≤ rowsAt x f
+    known : some ≡ true → (f : ℕ) × (plausibleBy rule x f ≡ true)
 
-  choice-ends : (rows : ℕ) (some : Bool) → 256 < rows → Passed rows some → RightChoice x (pick some noPlan noPlausible)
+  choice-ends : (rows : ℕ) (some : Bool) → 256 < rows → Passed rows some → RightBy (plausibleBy rule x) x (pick some noPlan noPlausible)
   unfolding RightBy
   choice-ends rows some h v = go some refl
     where
       no-plan : NoPlan x
       no-plan f frames p = omega (arith, v .plans f frames p, p .few-rows)
 
-      go : (b : Bool) → some ≡ b → RightChoice x (pick b noPlan noPlausible)
+      go : (b : Bool) → some ≡ b → RightBy (plausibleBy rule x) x (pick b noPlan noPlausible)
       go true e = (no-plan, v .known e)
       go false e = (no-plan, λ f p. omega (arith, v .lengths e f p, plausible-says x f p .few-rows))
 
   -- a length is passed over
-  skipped : (rows : ℕ) (some : Bool) → isTried x rows ≡ false → Passed rows some → Passed (rows + 1) some
+  skipped : (rows : ℕ) (some : Bool) → isTriedBy rule x rows ≡ false → Passed rows some → Passed (rows + 1) some
   skipped rows some e v = record {
-    plans = λ f frames p. more f (v .plans f frames p) (plausible-needed x g f frames p);
+    plans = λ f frames p. more f (v .plans f frames p) (needed f frames p);
     lengths = λ q f p. more f (v .lengths q f p) p;
     known = v .known;
   }
     where
-      more : (f : ℕ) → rows ≤ rowsAt x f → plausible x f ≡ true → rows + 1 ≤ rowsAt x f
+      more : (f : ℕ) → rows ≤ rowsAt x f → plausibleBy rule x f ≡ true → rows + 1 ≤ rowsAt x f
       more f h p =
-          ⊎-elim (λ q. absurd (never (let t = plausible-tried f p in let u : isTried x (rowsAt x f) ≡ false = rw q at e in cc)))
+          ⊎-elim (λ q. absurd (never (let t = plausible-tried f p in let u : isTriedBy rule x (rowsAt x f) ≡ false = rw q at e in cc)))
           (λ k. omega arith) (eq-or-lt-of-le h)
 
   -- a length is tried: what it finds is the choice, and if it finds none, there is none with that length
-  module _ (rows : ℕ) (some : Bool) (e : isTried x rows ≡ true) (v : Passed rows some) where
+  module _ (rows : ℕ) (some : Bool) (e : isTriedBy rule x rows ≡ true) (v : Passed rows some) where
     abbrev f : ℕ
     f = x .h / rows
 
-    can : IsPlausible x f
+    can : PlausibleBy rule x f
     can = plausible-says x f (tried-says rows e .1)
 
     -- the plans with this length are those with this many rows
@@ -136,35 +139,39 @@ module _ (x : Instance) (g : Good x) where
         not-here : (f' : ℕ) (frames : List ℕ) → IsPlan x f' frames → rows ≡ rowsAt x f' → ⊥
         not-here f' frames p q = never-placed frames (plan-is-placing x g f frames (subst (λ k. IsPlan x k frames) (same f' frames p q) p))
 
-  choice-right : (n rows : ℕ) (some : Bool) → rows + n ≡ 257 → Passed rows some → RightChoice x (chooseFrom x n rows some)
+  choice-right : (n rows : ℕ) (some : Bool) → rows + n ≡ 257 → Passed rows some → RightBy (plausibleBy rule x) x (chooseFromBy rule x n rows some)
   unfolding foundOr Right RightBy
-  choice-right zero rows some size v = rw (choose-end x rows some) (choice-ends rows some (omega arith) v)
-  choice-right (suc n) rows some size v = go (isTried x rows) refl (choice-right n (rows + 1))
+  choice-right zero rows some size v = rw (choose-end rule x rows some) (choice-ends rows some (omega arith) v)
+  choice-right (suc n) rows some size v = go (isTriedBy rule x rows) refl (choice-right n (rows + 1))
     where
-      found-or : (o : Found) → isTried x rows ≡ true → Right (problemAt x (x .h / rows)) o
-          → ((some' : Bool) → rows + 1 + n ≡ 257 → Passed (rows + 1) some' → RightChoice x (chooseFrom x n (rows + 1) some'))
-          → RightChoice x (foundOr (x .h / rows) o (chooseFrom x n (rows + 1) true))
+      found-or : (o : Found) → isTriedBy rule x rows ≡ true → Right (problemAt x (x .h / rows)) o
+          → ((some' : Bool) → rows + 1 + n ≡ 257 → Passed (rows + 1) some' → RightBy (plausibleBy rule x) x (chooseFromBy rule x n (rows + 1) some'))
+          → RightBy (plausibleBy rule x) x (foundOr (x .h / rows) o (chooseFromBy rule x n (rows + 1) true))
       found-or none e r rest = rest true (omega arith) (not-found rows some e v r)
       found-or (at frames) e r rest = found rows some e v frames (r .0) (r .1)
 
-      go : (b : Bool) → isTried x rows ≡ b
-          → ((some' : Bool) → rows + 1 + n ≡ 257 → Passed (rows + 1) some' → RightChoice x (chooseFrom x n (rows + 1) some'))
-          → RightChoice x (chooseFrom x (suc n) rows some)
+      go : (b : Bool) → isTriedBy rule x rows ≡ b
+          → ((some' : Bool) → rows + 1 + n ≡ 257 → Passed (rows + 1) some' → RightBy (plausibleBy rule x) x (chooseFromBy rule x n (rows + 1) some'))
+          → RightBy (plausibleBy rule x) x (chooseFromBy rule x (suc n) rows some)
       go true e rest =
           let here = problemAt x (x .h / rows) in
-          rw (choose-tried x n rows some e)
-          (found-or (plan here []) e (right here (problem-proper x g (x .h / rows) (tried-says rows e .1))) rest)
-      go false e rest = rw (choose-skipped x n rows some e) (rest some (omega arith) (skipped rows some e v))
+          rw (choose-tried rule x n rows some e)
+          (found-or (plan here []) e (right here (problem-proper x g (x .h / rows) (plausible-says x (x .h / rows) (tried-says rows e .1)))) rest)
+      go false e rest = rw (choose-skipped rule x n rows some e) (rest some (omega arith) (skipped rows some e v))
 
--- THE THEOREM: the choice is right.
+  -- THE THEOREM: the choice is right.
+  pub choose-by-right : RightBy (plausibleBy rule x) x (chooseBy rule x)
+  unfolding chooseBy
+  choose-by-right =
+      choice-right 256 1 false (omega arith) (record {
+        plans = λ f frames p. quotient-pos (x .h) f (g .some-time) (p .divides);
+        lengths = λ q f p. quotient-pos (x .h) f (g .some-time) (plausible-says x f p .divides);
+        known = λ q. absurd (never (cc));
+      })
+
+-- that of the planner
 pub choose-right : (x : Instance) → Good x → RightChoice x (choose x)
-unfolding choose
-choose-right x g =
-    choice-right x g 256 1 false (omega arith) (record {
-      plans = λ f frames p. quotient-pos (x .h) f (g .some-time) (p .divides);
-      lengths = λ q f p. quotient-pos (x .h) f (g .some-time) (plausible-says x f p .divides);
-      known = λ q. absurd (never (cc));
-    })
+choose-right x g = choose-by-right x g phaseRule (plausible-needed x g)
 
 -- Two lists are not each earlier than the other.
 not-both-earlier : (a b : List ℕ) → Earlier a b → Earlier b a → ⊥
@@ -195,7 +202,7 @@ chosen-once x f f' frames frames' c c' = go (c .first f' frames' (c' .is-plan)) 
     go (inr (e, inr r)) (inr (d, inr s)) = absurd (not-both-earlier frames frames' r s)
 
 -- A test that fewer lengths pass chooses the same plan; it may turn 10 into 9, and nothing else.
-pub choice-moves : (x : Instance) (test less : ℕ → Bool) → ((f : ℕ) → less f ≡ true → test f ≡ true) → (c d : Choice) → RightBy test x c → RightBy less x d
+choice-moves : (x : Instance) (test less : ℕ → Bool) → ((f : ℕ) → less f ≡ true → test f ≡ true) → (c d : Choice) → RightBy test x c → RightBy less x d
     → (c ≡ d) ⊎ ((c ≡ noPlan) × (d ≡ noPlausible))
 unfolding RightBy
 choice-moves x test less passes (chosen f frames) (chosen f' frames') r r' = inl (let (s, t) = chosen-once x f f' frames frames' r r' in rw (s, t))
@@ -208,35 +215,12 @@ choice-moves x test less passes noPlausible (chosen f frames) r r' = absurd (r .
 choice-moves x test less passes noPlausible noPlan r r' = absurd (r .1 (r' .1 .0) (passes (r' .1 .0) (r' .1 .1)))
 choice-moves x test less passes noPlausible noPlausible r r' = inl refl
 
--- whether a length below n passes
-passes-below : (test : ℕ → Bool) (n : ℕ) → ((f : ℕ) × (test f ≡ true)) ⊎ ((f : ℕ) → f < n → test f ≡ true → ⊥)
-passes-below test zero = inr (λ f h e. omega arith)
-passes-below test (suc n) = go (test n) refl (passes-below test n)
-  where
-    go : (b : Bool) → test n ≡ b → ((f : ℕ) × (test f ≡ true)) ⊎ ((f : ℕ) → f < n → test f ≡ true → ⊥)
-        → ((f : ℕ) × (test f ≡ true)) ⊎ ((f : ℕ) → f < suc n → test f ≡ true → ⊥)
-    go true e w = inl (n, e)
-    go false e (inl w) = inl w
-    go false e (inr fails) = inr (λ f h p. ⊎-elim (λ k. fails f k p) (λ k. last f h k p) (lt-or-ge f n))
-      where
-        last : (f : ℕ) → f < suc n → n ≤ f → test f ≡ true → ⊥
-        last f h k p = let same : f ≡ n = omega arith in false≢true (sym e ∙ rw same at p)
-
 module _ (x : Instance) (g : Good x) where
-  -- Some choice is right by a test that no length above H passes.
-  pub some-right : (test : ℕ → Bool) → ((f : ℕ) → test f ≡ true → f ≤ x .h) → (c : Choice) × RightBy test x c
-  unfolding RightBy
-  some-right test within = go (choose x) (choose-right x g)
-    where
-      refused : NoPlan x → (c : Choice) × RightBy test x c
-      refused no-plan =
-          ⊎-elim (λ w. (noPlan, (no-plan, w))) (λ fails. (noPlausible, (no-plan, λ f p. fails f (omega (arith, within f p)) p)))
-          (passes-below test (suc (x .h)))
-
-      go : (c : Choice) → RightChoice x c → (c : Choice) × RightBy test x c
-      go (chosen f frames) r = (chosen f frames, r)
-      go noPlan r = refused (r .0)
-      go noPlausible r = refused (r .0)
+  -- Against 01's rule: the same choice, or no plan where now no length is plausible.
+  pub choice-moved : (chooseBy commonRule x ≡ choose x) ⊎ ((chooseBy commonRule x ≡ noPlan) × (choose x ≡ noPlausible))
+  choice-moved =
+      choice-moves x (plausibleBy commonRule x) (plausible x) (plausible-before x) (chooseBy commonRule x) (choose x)
+      (choose-by-right x g commonRule (λ f frames p. plausible-before x f (plausible-needed x g f frames p))) (choose-right x g)
 
   -- A plan is the choice exactly if it is the first of all plans.
   pub chosen-exactly : (f : ℕ) (frames : List ℕ) → (choose x ≡ chosen f frames) ↔ IsChosen x f frames

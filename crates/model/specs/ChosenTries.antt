@@ -11,7 +11,8 @@ use Rattle.search.specs.Search.{Found, none, at}
 use Rattle.search.specs.Walk.{Walk}
 use Rattle.search.specs.Counting.{planWalk, walk-plan}
 use Rattle.model.specs.Plan.{Instance}
-use Rattle.model.specs.Chosen.{Choice, chosen, noPlan, noPlausible, isTried, foundOr, chooseFrom, choose, problemAt}
+use Rattle.model.specs.Plausible.{phaseRule}
+use Rattle.model.specs.Chosen.{Choice, chosen, noPlan, noPlausible, isTried, foundOr, chooseFromBy, chooseBy, choose, problemAt}
 use Rattle.model.specs.ChosenLaws.{choose-end, choose-skipped, choose-tried}
 
 pub record ChoiceWalk : Type 0 where
@@ -81,21 +82,21 @@ module _ (x : Instance) where
   on-chooses f (at frames) t rest = refl
   on-chooses f none t rest = refl
 
-  lengths-choose : (n rows : ℕ) (some : Bool) → walkLengths x n rows some .choice ≡ chooseFrom x n rows some
-  lengths-choose zero rows some = ap (λ (w : ChoiceWalk). w .choice) (lengths-end rows some) ∙ sym (choose-end x rows some)
+  lengths-choose : (n rows : ℕ) (some : Bool) → walkLengths x n rows some .choice ≡ chooseFromBy phaseRule x n rows some
+  lengths-choose zero rows some = ap (λ (w : ChoiceWalk). w .choice) (lengths-end rows some) ∙ sym (choose-end phaseRule x rows some)
   lengths-choose (suc n) rows some = go (λ (s : Bool). lengths-choose n (rows + 1) s) (isTried x rows) refl
     where
-      go : ((s : Bool) → walkLengths x n (rows + 1) s .choice ≡ chooseFrom x n (rows + 1) s) → (b : Bool) → isTried x rows ≡ b
-          → walkLengths x (suc n) rows some .choice ≡ chooseFrom x (suc n) rows some
+      go : ((s : Bool) → walkLengths x n (rows + 1) s .choice ≡ chooseFromBy phaseRule x n (rows + 1) s) → (b : Bool) → isTried x rows ≡ b
+          → walkLengths x (suc n) rows some .choice ≡ chooseFromBy phaseRule x (suc n) rows some
       go ih true e =
           ap (λ (w : ChoiceWalk). w .choice) (lengths-tried n rows some e)
           ∙ on-chooses (x .h / rows) (walkWith rows .found) (walkWith rows .tries) (walkLengths x n (rows + 1) true)
-          ∙ ap₂ (foundOr (x .h / rows)) (walk-plan (problemAt x (x .h / rows)) []) (ih true) ∙ sym (choose-tried x n rows some e)
-      go ih false e = ap (λ (w : ChoiceWalk). w .choice) (lengths-skipped n rows some e) ∙ ih some ∙ sym (choose-skipped x n rows some e)
+          ∙ ap₂ (foundOr (x .h / rows)) (walk-plan (problemAt x (x .h / rows)) []) (ih true) ∙ sym (choose-tried phaseRule x n rows some e)
+      go ih false e = ap (λ (w : ChoiceWalk). w .choice) (lengths-skipped n rows some e) ∙ ih some ∙ sym (choose-skipped phaseRule x n rows some e)
 
   -- THE LAW: the choice is that of `choose`, so all that is proved of it holds of the walk's
   pub walk-chooses : chooseWalk x .choice ≡ choose x
-  unfolding chooseWalk choose
+  unfolding chooseWalk chooseBy
   walk-chooses = lengths-choose 256 1 false
 
   -- a length that is tried ends in a plan or in the lengths behind it

@@ -16,6 +16,8 @@ pub mod RowLaws
 pub mod Links
 pub mod LinksLaws
 pub mod Chosen
+pub mod MayStand
+pub mod MayStandLaws
 pub mod ProblemLaws
 pub mod ChosenLaws
 pub mod ChosenTries

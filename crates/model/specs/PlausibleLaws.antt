@@ -88,7 +88,10 @@ module _ {rule : ℕ → Task → Bool} (x : Instance) (f : ℕ) where
       (say-rules rule (x .g) f (x .tasks) (v .rules))
 
 -- "This is necessary for a plan"
-pub plausible-needed : (x : Instance) → Good x → (f : ℕ) (frames : List ℕ) → IsPlan x f frames → plausible x f ≡ true
+abbrev pub Needed : (ℕ → Task → Bool) → Instance → Type 0
+Needed rule x = (f : ℕ) (frames : List ℕ) → IsPlan x f frames → plausibleBy rule x f ≡ true
+
+pub plausible-needed : (x : Instance) → Good x → Needed phaseRule x
 plausible-needed x g f frames v =
     says-plausible x f (record {
       some = length-pos x g f frames v;

@@ -1,5 +1,5 @@
 -- Laws of the whole search: it may begin with no job placed and no row loaded, and what it comes to is what is answered. Assumes nothing.
-use mathlib.Core.Path.{_≡_, refl, sym, ap, subst⁻¹, _∙_}
+use mathlib.Core.Path.{_≡_, refl, sym, ap, subst, subst⁻¹, _∙_}
 use mathlib.Core.Bool.{Bool, true, false}
 use mathlib.Core.List.{List, [], _++_}
 use Prim.Native.Nat.{ℕ, zero, suc, _-_, _*_, _≤_, _<_}
@@ -12,9 +12,10 @@ use Rattle.cursor.specs.Padded.{padded, take-padded, getD-blanks}
 use Rattle.search.specs.Search.{Found, none, at}
 use Rattle.search.specs.Walk.{Walk}
 use Rattle.search.specs.Counting.{planWalk}
-use Rattle.search.specs.Placing.{problem, Proper, LoadsKept}
+use Rattle.search.specs.Placing.{Problem, problem, Proper}
 use Rattle.search.specs.LoadLaws.{loads-empty}
-use Rattle.place.specs.Arrays.{Placeable, problemOf, Small, placedAnswer, placedWithin, Ready, number, Tried, TriedJob}
+use Rattle.place.specs.Arrays.{Placeable, problemFrom, problemOf, jobsIn, problemIn, Small, placedAnswer, placedWithin, Placing, number, Tried, TriedJob}
+use Rattle.place.specs.declared.Given.{Given}
 use Rattle.place.specs.declared.Placed.{Placed}
 
 abbrev zeros : ℕ → List ℕ
@@ -28,52 +29,68 @@ drop-zeros k zero = let z : k - 0 ≡ k = omega arith in rw z
 drop-zeros zero (suc n) = let z : 0 - suc n ≡ 0 = omega arith in rw z
 drop-zeros (suc k) (suc n) = let z : suc k - suc n ≡ k - n = omega arith in rw z (drop-zeros k n)
 
-module _ {cost first end counts links : List ℕ} {n rows f : ℕ} (g : Placeable cost first end counts links n rows f) (short : f ≤ 65535) where
-  costs-size : length (take n cost) ≡ n
-  costs-size = length-take-le n cost (g .costs)
+-- the costs fit into two bytes, and packed they are the same
+module _ {g : Given} (p : Placeable g) where
+  costs-size : length (take (g .n) (g .cost)) ≡ g .n
+  costs-size = length-take-le (g .n) (g .cost) (p .costs)
 
   -- no cost is longer than a frame
-  pub costs-small : Small cost n
-  costs-small = record { few = g .few; all = g .costs; small = λ j h. omega (arith, g .proper .costs j, getD-take n cost j 0 h) }
+  pub costs-small : Small (g .cost) (g .n)
+  costs-small = record { few = p .few; all = p .costs; small = λ j h. omega (arith, p .proper .costs j, getD-take (g .n) (g .cost) j 0 h, p .short) }
 
-  module _ {costs : List ℕ} (costs-are : costs ≡ padded 128 0 (take n cost)) where
-    same-costs : take n costs ≡ take n cost
-    same-costs =
-        ap (take n) costs-are
-        ∙ ap (λ (k : ℕ). take k (padded 128 0 (take n cost))) (sym costs-size)
-        ∙ take-padded 128 0 (take n cost)
+  same-costs : {costs : List ℕ} → costs ≡ padded 128 0 (take (g .n) (g .cost)) → take (g .n) costs ≡ take (g .n) (g .cost)
+  same-costs costs-are =
+      ap (take (g .n)) costs-are
+      ∙ ap (λ (k : ℕ). take k (padded 128 0 (take (g .n) (g .cost)))) (sym costs-size)
+      ∙ take-padded 128 0 (take (g .n) (g .cost))
 
-    same-problem : problemOf costs first end counts links n rows f ≡ problemOf cost first end counts links n rows f
-    same-problem = ap (λ (cs : List ℕ). problem cs (take n first) (take n end) (take n counts) (take (16 * n) links) rows f) same-costs
+  -- packed, the problem is the same
+  pub packed-same : {costs : List ℕ} → costs ≡ padded 128 0 (take (g .n) (g .cost))
+      → problemFrom costs (g .first) (g .end) (g .counts) (g .links) (g .n) (g .rows) (g .f) ≡ problemOf g
+  packed-same costs-are =
+      ap (λ (cs : List ℕ). problem cs (take (g .n) (g .first)) (take (g .n) (g .end)) (take (g .n) (g .counts)) (take (16 * g .n) (g .links)) (g .rows) (g .f))
+      (same-costs costs-are)
 
-    pub ready-first : Ready (problemOf costs first end counts links n rows f) n (zeros 128) (zeros 256)
-    ready-first = record {
-      proper = subst⁻¹ Proper same-problem (g .proper);
-      jobs = ap length same-costs ∙ costs-size;
-      few = g .few;
-      few-rows = g .few-rows;
-      short = short;
-      places = omega (arith, zeros-length 128, g .few);
-      row-room = omega (arith, zeros-length 256, g .few-rows);
+  -- so the search begins with it
+  module _ (packed : List (List ℕ)) (same : (problemIn packed (g .links) ≡ problemOf g) × (jobsIn packed ≡ g .n)) where
+    abbrev x : Problem
+    x = problemIn packed (g .links)
+
+    abbrev n : ℕ
+    n = jobsIn packed
+
+    few : n ≤ 128
+    few = rw (same .1) (p .few)
+
+    -- no job is placed, and no row is loaded
+    pub begins : Placing x n (zeros 128) (zeros 256) 0
+    begins = record {
+      within = omega arith;
+      ready = record {
+        proper = subst⁻¹ Proper (same .0) (p .proper);
+        jobs = ap (λ (y : Problem). length (y .cost)) (same .0) ∙ costs-size ∙ sym (same .1);
+        few = few;
+        few-rows = rw (ap (λ (y : Problem). y .rows) (same .0)) (p .few-rows);
+        short = rw (ap (λ (y : Problem). y .f) (same .0)) (p .short);
+        places = omega (arith, zeros-length 128, few);
+        row-room = rw (ap (λ (y : Problem). y .rows) (same .0)) (omega (arith, zeros-length 256, p .few-rows));
+      };
+      loads = loads-empty x (zeros 256) (λ r h. getD-blanks {A = ℕ} 256 0 [] r);
     }
 
-    pub kept-first : LoadsKept (problemOf costs first end counts links n rows f) [] (zeros 256)
-    kept-first = loads-empty (problemOf costs first end counts links n rows f) (zeros 256) (λ r h. getD-blanks {A = ℕ} 256 0 [] r)
-
     -- what is answered
-    module _ {place load : List ℕ} {a answer left : ℕ}
-        (e : TriedJob (problemOf costs first end counts links n rows f) n (zeros 128) (zeros 256) 0 a answer place load left) where
+    module _ {place load : List ℕ} {a answer left : ℕ} (e : TriedJob x n (zeros 128) (zeros 256) 0 a answer place load left) where
       abbrev w : Walk
-      w = planWalk (problemOf cost first end counts links n rows f) []
+      w = planWalk (problemOf g) []
 
-      d : Tried (problemOf cost first end counts links n rows f) w n (zeros 128) (zeros 256) 0 a answer place load left
-      d = rw same-problem at e
+      d : Tried x w n (zeros 128) (zeros 256) 0 a answer place load left
+      d = subst (λ (y : Problem). Tried x (planWalk y []) n (zeros 128) (zeros 256) 0 a answer place load left) (same .0) e
 
       pub one-answered : answer ≡ 1 → _≡_ {A = Placed} (record { answer = answer; left = left; frames = place }) (placedWithin a w)
       unfolding placedWithin placedAnswer padded
       one-answered q =
           let reached : w .tries ≤ a = not-lt (λ t. one-two (sym q ∙ d .out t .0)) in
-          let size : length (take n place) ≡ n = length-take-le n place (omega (arith, d .size, zeros-length 128, g .few)) in
+          let size : length (take n place) ≡ n = length-take-le n place (omega (arith, d .size, zeros-length 128, few)) in
           let rest : drop n place ≡ zeros (128 - length (take n place)) = d .beyond ∙ drop-zeros 128 n ∙ ap (λ (k : ℕ). zeros (128 - k)) (sym size) in
           let frames : take n place ++ zeros (128 - length (take n place)) ≡ place = ap (λ (l : List ℕ). take n place ++ l) (sym rest) ∙ take-append-drop n place in
           rw (le-ltb a (w .tries) reached, d .found q, frames, d .enough reached .1, q)

@@ -1,25 +1,25 @@
 -- Laws of the search's functions, one for each way through their code, in terms of the arrays' lists: the loop over a job's links, the loop
--- over the frames of its window, with the row as a running number, and the ways through one try. Of the tries: what is left with those of the
--- whole search is what was allowed with those of the frames left. Assumes nothing.
+-- over the frames of its window, with the row as a running number, and the ways through one try. Invariant of that loop: tries left + tries of
+-- the whole search = tries allowed + tries of the frames not yet tested. Assumes nothing.
 use mathlib.Core.Path.{_≡_, refl, sym, ap, subst, _∙_}
-use mathlib.Core.Bool.{Bool, true, false, _&&_}
+use mathlib.Core.Bool.{true, false, _&&_}
 use mathlib.Core.List.{List, [], _∷_, _++_, List·Memᴰ}
 use Prim.Native.Nat.{ℕ, _+_, _-_, _*_, _≤_, _<_, _%_}
-use native.Mathlib.Nat.{mod-add-mod}
+use native.Mathlib.Nat.{mod-add-mod, mod-lt}
 use native.Mathlib.Numerals.{add-one}
 use native.Mathlib.Omega.{arith}
 use lib.ListN.{length, take, drop, getD, set, length-set, length-take, length-drop}
 use lib.Seq.{length-take-le, take-suc, take-suc-set, take-take, take-set-le, drop-set-lt, set-set, set-getD, getD-take, getD-drop, ext-getD}
 use lib.Dec.{leb}
-use borrow.Author.Tests.{le-leb, lt-leb, leb-true, leb-false}
+use borrow.Author.Tests.{leb-true}
 use Rattle.cursor.specs.Padded.{padded, set-padded}
 use Rattle.search.specs.Search.{Found, none, at}
 use Rattle.search.specs.Walk.{Walk, goOn, on-none, on-found, one-more}
 use Rattle.search.specs.Counting.{planWalk, attemptWalk, fromWalk, walk-end, walk-more, walk-all, walk-next, walk-may, walk-not}
 use Rattle.search.specs.Placing.{Problem, linksAt, linksOf, partner, hasRoom, fits, fold, earliest, latest, Bounds, Linked, LoadsKept}
 use Rattle.search.specs.PlacingLaws.{put-loads, part, fold-end, fold-more, link-in, kept-between}
-use Rattle.search.specs.LoadLaws.{tested-by-load}
-use Rattle.place.specs.Arrays.{LinksBack, Ready, number, Tried, TriedJob, TriedFrame}
+use Rattle.search.specs.LoadLaws.{tested-by-load, fits-room}
+use Rattle.place.specs.Arrays.{LinksBack, Ready, Placing, Testing, number, Tried, TriedJob, TriedFrame}
 
 -- one number more in the first unused place
 pub one-stored : (xs : List ℕ) (j : ℕ) → j < length xs → j < 128 → set (padded 128 0 (take j xs)) j (getD xs j 0) ≡ padded 128 0 (take (j + 1) xs)
@@ -27,14 +27,6 @@ one-stored xs j h room =
     let e : length (take j xs) ≡ j = length-take-le j xs (omega arith) in
     rw (add-one j, take-suc xs j 0 h)
     (ap (λ (i : ℕ). set (padded 128 0 (take j xs)) i (getD xs j 0)) (sym e) ∙ set-padded 128 0 (take j xs) (getD xs j 0) (omega arith))
-
--- a test of a difference is a test of a sum
-pub room-left : (l f c : ℕ) → c ≤ f → leb l (f - c) ≡ hasRoom l f c
-room-left l f c h = go (leb l (f - c)) refl
-  where
-    go : (b : Bool) → leb l (f - c) ≡ b → leb l (f - c) ≡ leb (l + c) f
-    go true e = e ∙ sym (le-leb (l + c) f (omega (arith, leb-true l (f - c) e)))
-    go false e = e ∙ sym (lt-leb (l + c) f (omega (arith, leb-false l (f - c) e)))
 
 -- the loop over the links of job i: v is the bound so far, and with the links from place `at` on it becomes the whole bound
 pub record Bound (next : ℕ → ℕ → ℕ) (start : ℕ) (counts links : List ℕ) (i end at v : ℕ) : Type 0 where
@@ -100,8 +92,8 @@ module _ (counts links : List ℕ) (n i : ℕ) (more : i < n) (g : Linked (take 
   same-bounds place place′ kept a b = rw (kept, same-links) (a, b)
 
 -- a job is left
-pub is-left : {i n : ℕ} → i ≤ n → (i ≡ n → ⊥) → i < n
-is-left h e = omega arith
+pub is-left : {x : Problem} {n : ℕ} {place load : List ℕ} {i : ℕ} → Placing x n place load i → (i ≡ n → ⊥) → i < n
+is-left g e = omega (arith, g .within)
 
 placed-before : {x : Problem} {n : ℕ} {place load : List ℕ} {i : ℕ} → Ready x n place load → i < n → length (take i place) ≡ i
 placed-before {x} {n} {place} {load} {i} r more = length-take-le i place (omega (arith, r .places))
@@ -137,10 +129,10 @@ module _ {x : Problem} {w : Walk} {n : ℕ} {place load : List ℕ} {i a r : ℕ
       not-le h = omega arith
 
 -- no job is left
-pub all-placed : {x : Problem} {n : ℕ} {place load : List ℕ} {i a : ℕ} → Ready x n place load → LoadsKept x (take i place) load → i ≡ n
-    → TriedJob x n place load i a 1 place load a
+pub all-placed : {x : Problem} {n : ℕ} {place load : List ℕ} {i a : ℕ} → Placing x n place load i → i ≡ n → TriedJob x n place load i a 1 place load a
 unfolding number
-all-placed {x} {n} {place} {load} {i} {a} r loads h =
+all-placed {x} {n} {place} {load} {i} {a} g h =
+    let r = g .ready in
     let d : planWalk x (take i place) ≡ record { found = at (take n place); tries = 0 } =
     rw h (walk-all x (take n place) (length-take-le n place (r .places) ∙ sym (r .jobs))) in
     record {
@@ -151,7 +143,7 @@ all-placed {x} {n} {place} {load} {i} {a} r loads h =
       beyond = refl;
       size = refl;
       undone = λ _. refl;
-      loads = λ _. rw h at loads;
+      loads = λ _. rw h at (g .loads);
     }
 
 -- the loop over the frames of job i: those before k came to nothing, and left things as they were, so what the rest come to is the answer; of
@@ -165,7 +157,10 @@ pub record Trying (x : Problem) (n : ℕ) (place₀ load₀ : List ℕ) (i a₀ 
   pub spent : a + planWalk x (take i place₀) .tries ≡ a₀ + fromWalk x (take i place₀) k .tries
   pub at-row : row ≡ k % x .rows
 
-module _ {x : Problem} {n : ℕ} {place load : List ℕ} {i : ℕ} (more : i < n) (r : Ready x n place load) (loads : LoadsKept x (take i place) load) where
+module _ {x : Problem} {n : ℕ} {place load : List ℕ} {i : ℕ} (more : i < n) (g : Placing x n place load i) where
+  r : Ready x n place load
+  r = g .ready
+
   abbrev p : List ℕ
   p = take i place
 
@@ -187,7 +182,7 @@ module _ {x : Problem} {n : ℕ} {place load : List ℕ} {i : ℕ} (more : i < n
       }
 
   module _ {k row a₀ a : ℕ} {place′ load′ : List ℕ} (v : Trying x n place load i a₀ place′ load′ a k row) where
-    pub ready-again : Ready x n place′ load′
+    ready-again : Ready x n place′ load′
     ready-again = record {
       proper = r .proper;
       jobs = r .jobs;
@@ -199,8 +194,12 @@ module _ {x : Problem} {n : ℕ} {place load : List ℕ} {i : ℕ} (more : i < n
     }
 
     -- the loads are kept, also after jobs were taken back
-    pub kept-again : LoadsKept x (take i place′) load′
-    kept-again = rw (v .undone, v .kept) loads
+    kept-again : LoadsKept x (take i place′) load′
+    kept-again = rw (v .undone, v .kept) (g .loads)
+
+    -- the job is tested in the next frame
+    pub test : {low high : ℕ} → Bounds x (take i place′) i low high → Testing x n place′ load′ i k row low high
+    test bounds = record { more = more; ready = ready-again; loads = kept-again; at-row = v .at-row; bounds = bounds }
 
     -- the loop ends
     pub none-left : {e : ℕ} → e ≡ getD (x .end) i 0 → e ≤ k → TriedJob x n place load i a₀ 0 place′ load′ a
@@ -283,37 +282,32 @@ module _ {x : Problem} {n : ℕ} {place load : List ℕ} {i : ℕ} (more : i < n
               let u : fromWalk x p k .tries ≡ here .tries = ap (λ (w : Walk). w .tries) (stops e) in
               of-here .out (omega (arith, v .spent))
 
--- job i, which takes c, is tested in frame k: its links leave it the frames from `low` to `high`
-pub record Testing (x : Problem) (n : ℕ) (place load : List ℕ) (i k row c low high : ℕ) : Type 0 where
-  pub more : i < n
-  pub ready : Ready x n place load
-  pub loads : LoadsKept x (take i place) load
-  pub at-row : row ≡ k % x .rows
-  pub cost-is : c ≡ getD (x .cost) i 0
-  pub small : k ≤ 65535
-  pub bounds : Bounds x (take i place) i low high
-
-module _ {x : Problem} {n : ℕ} {place load : List ℕ} {i k row c low high : ℕ} (s : Testing x n place load i k row c low high) where
+-- job i is tested in frame k
+module _ {x : Problem} {n : ℕ} {place load : List ℕ} {i k row low high : ℕ} (s : Testing x n place load i k row low high) where
   abbrev before : List ℕ
   before = take i place
 
   size : length before ≡ i
   size = placed-before (s .ready) (s .more)
 
-  abbrev Test : Bool
-  Test = hasRoom (getD load row 0) (x .f) c && (leb low k && leb k high)
-
-  tested : fits x before k ≡ Test
-  tested =
+  -- the test by the row's kept load and by the two bounds is the search's
+  pub tested : k ≤ 65535 → fits x before k ≡ (hasRoom (getD load row 0) (x .f) (getD (x .cost) i 0) && (leb low k && leb k high))
+  tested small =
       tested-by-load x before k load (s .ready .proper .some-row) (s .loads)
-      ∙ rw (kept-between before k (linksOf x (length before)) (s .small), size, s .at-row, s .cost-is, s .bounds .0, s .bounds .1)
+      ∙ rw (kept-between before k (linksOf x (length before)) small, size, s .at-row, s .bounds .0, s .bounds .1)
+
+  -- with a job that passes it the row has at most f
+  pub fits-in : fits x before k ≡ true → getD load row 0 + getD (x .cost) i 0 ≤ x .f
+  fits-in may =
+      let r = leb-true _ (x .f) (fits-room x before k may) in
+      omega (arith, rw size at r, s .loads (k % x .rows) (mod-lt k (s .ready .proper .some-row)), ap (λ (q : ℕ). getD load q 0) (s .at-row))
 
   snoc : take (i + 1) (set place i k) ≡ before ++ (k ∷ [])
   snoc = rw add-one (take-suc-set place i k (omega (arith, s .more, s .ready .places)))
 
-  module _ {v : ℕ} (v-is : v ≡ getD load row 0 + c) where
+  module _ {v : ℕ} (v-is : v ≡ getD load row 0 + getD (x .cost) i 0) where
     -- it is put there
-    pub put-ready : Ready x n (set place i k) (set load row v)
+    put-ready : Ready x n (set place i k) (set load row v)
     put-ready = let r = s .ready in record {
       proper = r .proper;
       jobs = r .jobs;
@@ -324,20 +318,23 @@ module _ {x : Problem} {n : ℕ} {place load : List ℕ} {i k row c low high : �
       row-room = omega (arith, length-set load row v, r .row-room);
     }
 
-    pub put-kept : LoadsKept x (take (i + 1) (set place i k)) (set load row v)
+    put-kept : LoadsKept x (take (i + 1) (set place i k)) (set load row v)
     put-kept =
-        let w : v ≡ getD load (k % x .rows) 0 + getD (x .cost) (length before) 0 = v-is ∙ rw (s .at-row, s .cost-is, size) refl in
+        let w : v ≡ getD load (k % x .rows) 0 + getD (x .cost) (length before) 0 = v-is ∙ rw (s .at-row, size) refl in
         rw (snoc, s .at-row) (put-loads x before load k v (s .ready .proper .some-row) (s .ready .row-room) (s .loads) w)
+
+    pub put : Placing x n (set place i k) (set load row v) (i + 1)
+    put = record { within = omega (arith, s .more); ready = put-ready; loads = put-kept }
 
   module _ {a : ℕ} where
     -- no try is left for the test
-    pub none-allowed : a ≡ 0 → TriedFrame x n place load i k a 2 place load a
+    pub none-allowed : a < 1 → TriedFrame x n place load i k a 2 place load a
     unfolding attemptWalk
     none-allowed z =
         let t : 1 ≤ attemptWalk x before k .tries = one-more (fits x before k) (planWalk x (before ++ (k ∷ []))) in
         record {
           enough = λ q. absurd (omega arith);
-          out = λ q. (refl, z);
+          out = λ q. (refl, omega arith);
           found = λ q. absurd (omega arith);
           kept = refl;
           beyond = refl;
@@ -346,12 +343,12 @@ module _ {x : Problem} {n : ℕ} {place load : List ℕ} {i k row c low high : �
           loads = λ q. absurd (omega arith);
         }
 
-    module _ (some : a ≡ 0 → ⊥) where
+    module _ (some : 1 ≤ a) where
       -- it may not stand there: the frame is passed over
-      pub refused : Test ≡ false → TriedFrame x n place load i k a 0 place load (a - 1)
+      pub refused : fits x before k ≡ false → TriedFrame x n place load i k a 0 place load (a - 1)
       unfolding number
       refused e =
-          let d : attemptWalk x before k ≡ record { found = none; tries = 1 } = walk-not x before k (tested ∙ e) in
+          let d : attemptWalk x before k ≡ record { found = none; tries = 1 } = walk-not x before k e in
           record {
             enough = rw d (λ _. (refl, refl));
             out = rw d (λ q. absurd (omega arith));
@@ -363,7 +360,7 @@ module _ {x : Problem} {n : ℕ} {place load : List ℕ} {i k row c low high : �
             loads = λ q. absurd (omega arith);
           }
 
-      module _ (may : Test ≡ true) {v : ℕ} (v-is : v ≡ getD load row 0 + c) {b : ℕ} {place′ load′ : List ℕ} {a′ : ℕ}
+      module _ (may : fits x before k ≡ true) {v : ℕ} (v-is : v ≡ getD load row 0 + getD (x .cost) i 0) {b : ℕ} {place′ load′ : List ℕ} {a′ : ℕ}
           (d : TriedJob x n (set place i k) (set load row v) (i + 1) (a - 1) b place′ load′ a′) where
         abbrev sub : Walk
         sub = planWalk x (before ++ (k ∷ []))
@@ -372,7 +369,7 @@ module _ {x : Problem} {n : ℕ} {place load : List ℕ} {i k row c low high : �
         of-sub = subst (λ (l : List ℕ). Tried x (planWalk x l) n (set place i k) (set load row v) (i + 1) (a - 1) b place′ load′ a′) snoc d
 
         walk-here : attemptWalk x before k ≡ record { found = sub .found; tries = 1 + sub .tries }
-        walk-here = walk-may x before k (tested ∙ may)
+        walk-here = walk-may x before k may
 
         kept-here : take i place′ ≡ take i place
         kept-here =

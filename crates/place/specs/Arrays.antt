@@ -2,7 +2,7 @@
 -- entries of the array of frames, one for each job. Assumes nothing.
 use mathlib.Core.Path.{_≡_}
 use mathlib.Core.List.{List, [], List·Memᴰ}
-use Prim.Native.Nat.{ℕ, _+_, _-_, _*_, _≤_, _<_}
+use Prim.Native.Nat.{ℕ, _+_, _-_, _*_, _≤_, _<_, _%_}
 use lib.ListN.{length, getD, take, drop, replicate}
 use lib.Dec.{ltb}
 use Rattle.cursor.specs.Choice.{pick}
@@ -10,19 +10,25 @@ use Rattle.cursor.specs.Padded.{padded}
 use Rattle.search.specs.Search.{Found, none, at}
 use Rattle.search.specs.Walk.{Walk}
 use Rattle.search.specs.Counting.{planWalk, attemptWalk}
-use Rattle.search.specs.Placing.{Problem, problem, linksAt, partner, Proper, LoadsKept}
+use Rattle.search.specs.Placing.{Problem, problem, linksAt, partner, Bounds, Proper, LoadsKept}
+use Rattle.place.specs.declared.Given.{Given}
 use Rattle.place.specs.declared.Placed.{Placed}
 
 -- the problem of the first n entries of these arrays
-abbrev pub problemOf : List ℕ → List ℕ → List ℕ → List ℕ → List ℕ → ℕ → ℕ → ℕ → Problem
-problemOf cost first end counts links n rows f = problem (take n cost) (take n first) (take n end) (take n counts) (take (16 * n) links) rows f
+abbrev pub problemFrom : List ℕ → List ℕ → List ℕ → List ℕ → List ℕ → ℕ → ℕ → ℕ → Problem
+problemFrom cost first end counts links n rows f = problem (take n cost) (take n first) (take n end) (take n counts) (take (16 * n) links) rows f
 
--- they have n entries, and the problem is one for the search
-pub record Placeable (cost first end counts links : List ℕ) (n rows f : ℕ) : Type 0 where
-  pub few : n ≤ 128
-  pub costs : n ≤ length cost
-  pub few-rows : rows ≤ 256
-  pub proper : Proper (problemOf cost first end counts links n rows f)
+-- the problem of what is given
+abbrev pub problemOf : Given → Problem
+problemOf g = problemFrom (g .cost) (g .first) (g .end) (g .counts) (g .links) (g .n) (g .rows) (g .f)
+
+-- there are n entries, and the problem is one for the search
+pub record Placeable (g : Given) : Type 0 where
+  pub few : g .n ≤ 128
+  pub costs : g .n ≤ length (g .cost)
+  pub few-rows : g .rows ≤ 256
+  pub short : g .f ≤ 65535
+  pub proper : Proper (problemOf g)
 
 -- n numbers that two bytes hold
 pub record Small (xs : List ℕ) (n : ℕ) : Type 0 where
@@ -55,7 +61,7 @@ jobsIn g = getD (partIn g 4) 2 0
 
 -- the problem that it gives, with the links
 abbrev pub problemIn : List (List ℕ) → List ℕ → Problem
-problemIn g links = problemOf (partIn g 0) (partIn g 1) (partIn g 2) (countsIn g) links (jobsIn g) (rowsIn g) (getD (partIn g 4) 1 0)
+problemIn g links = problemFrom (partIn g 0) (partIn g 1) (partIn g 2) (countsIn g) links (jobsIn g) (rowsIn g) (getD (partIn g 4) 1 0)
 
 -- the links of job i have their places, and each names an earlier job
 pub record LinksBack (counts links : List ℕ) (i : ℕ) : Type 0 where
@@ -73,6 +79,21 @@ pub record Ready (x : Problem) (n : ℕ) (place load : List ℕ) : Type 0 where
   pub short : x .f ≤ 65535
   pub places : n ≤ length place
   pub row-room : x .rows ≤ length load
+
+-- the jobs before i are placed, with their loads: what it takes to place job i and those after it
+pub record Placing (x : Problem) (n : ℕ) (place load : List ℕ) (i : ℕ) : Type 0 where
+  pub within : i ≤ n
+  pub ready : Ready x n place load
+  pub loads : LoadsKept x (take i place) load
+
+-- what it takes to test job i in frame k: the jobs before it are placed, "each kept load equals the sum of C + g over the jobs then placed in its row",
+-- `row` is the row of frame k, and the job's links leave it the frames from `low` to `high`
+pub record Testing (x : Problem) (n : ℕ) (place load : List ℕ) (i k row low high : ℕ) : Type 0 where
+  pub more : i < n
+  pub ready : Ready x n place load
+  pub loads : LoadsKept x (take i place) load
+  pub at-row : row ≡ k % x .rows
+  pub bounds : Bounds x (take i place) i low high
 
 -- the answer for a placing or none
 unfoldable pub number : Found → ℕ

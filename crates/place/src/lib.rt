@@ -1,21 +1,34 @@
 // The search for a placing: each job gets a frame of its window, so that no row is loaded with more than the frame's length and every link is
-// kept. `place_job` tries the frames of one job, with the row as a running number; `try_frame` tests one of them, puts the job there and hands
-// over to `place_job` for the next. The load of each row is kept as jobs are put and taken back. Jobs are numbered in the order of placing.
+// kept. `place_job` tries the frames of one job, with the row as a running number; `try_frame` tests one of them by `may_stand`, puts the job there
+// and hands over to `place_job` for the next. The load of each row is kept as jobs are put and taken back. Jobs are numbered in the order of placing.
 //
-// `left` is the number of tries that are left: one try is one job tested in one frame of its window, passed over or not. Both functions answer
-// 1: the jobs are placed; 0: there is no way to place them; 2: one more try was needed than were left.
+// `left` is the number of tries that are left: one try is one job tested in one frame of its window, passed over or not. `place_job` and `try_frame`
+// answer 1: the jobs are placed; 0: there is no way to place them; 2: one more try was needed than were left.
 //
-// All that is given stands in one array, so that a call passes what it needs in registers. Its parts are the jobs' costs, the first frames of
-// their windows, the frames where these end, and the numbers of their links; the last part has the number of rows, the length of a frame and
-// the number of jobs.
+// `pack` puts all that is given but the links into one array, so that a call passes what it needs in registers. Its parts are the jobs' costs, the
+// first frames of their windows, the frames where these end, and the numbers of their links; the last part has the number of rows, the length of a
+// frame and the number of jobs.
 ghost use mathlib.Core.Path.{_≡_};
 ghost use mathlib.Core.List.{[]};
 ghost use Prim.Native.Nat.{_+_, _≤_, _<_, _%_};
 ghost use lib.ListN.{take, getD};
 ghost use Rattle.cursor.specs.Padded.{padded};
-ghost use Rattle.search.specs.Placing.{partner, raise, lower, linksAt, earliest, latest, hasRoom, LoadsKept, Bounds};
+ghost use Rattle.search.specs.Placing.{partner, raise, lower, linksAt, earliest, latest, hasRoom, fits};
 ghost use Rattle.search.specs.Counting.{planWalk};
-ghost use Rattle.place.specs.Arrays.{Small, Placeable, problemOf, jobsIn, rowsIn, countsIn, problemIn, LinksBack, Ready, TriedJob, TriedFrame, placedWithin};
+ghost use Rattle.place.specs.Arrays.{Small, Placeable, problemOf, jobsIn, countsIn, problemIn, LinksBack, Placing, Testing, TriedJob, TriedFrame, placedWithin};
+
+// What is given: for each of n jobs its cost, its window from `first` up to and without `end`, how many links it has, and 16 places for them; the number
+// of rows, and the length f of a frame.
+pub struct Given {
+    pub cost: [u32; 128],
+    pub first: [u16; 128],
+    pub end: [u16; 128],
+    pub counts: [u16; 128],
+    pub links: [u8; 2048],
+    pub n: usize,
+    pub rows: u16,
+    pub f: u16,
+}
 
 // 1, and the frame of each job; 0, where there is no placing; or 2, where finding out takes more tries than are allowed. And how many tries are
 // left of those allowed.
@@ -37,6 +50,23 @@ fn narrow(xs: [u32; 128], n: usize) -> [u16; 128]
         j += 1;
     }
     out
+}
+
+// What is given, in one array: the problem is the same.
+fn pack(given: Given) -> [[u16; 128]; 5]
+    requires { ⌜ Placeable given ⌝ }
+    ensures { λ r. ⌜ (problemIn r (given .links) ≡ problemOf given) × (jobsIn r ≡ given .n) ⌝ }
+{
+    let cost = given.cost;
+    let costs = narrow(cost, given.n);
+    let first = given.first;
+    let end = given.end;
+    let counts = given.counts;
+    let mut sizes = [0u16; 128];
+    sizes[0] = given.rows;
+    sizes[1] = given.f;
+    sizes[2] = given.n as u16;
+    [costs, first, end, counts, sizes]
 }
 
 // Entry i of part j. That it fits its type is known of an answer, and not of what is read in place.
@@ -103,10 +133,33 @@ fn upper_bound(given: &[[u16; 128]; 5], links: &[u8; 2048], place: &[u16; 128], 
 
 // The capacity test: by the row's kept load, f, and the job's own cost.
 fn has_room(load: u16, f: u16, cost: u16) -> bool
-    requires { ⌜ cost ≤ f ⌝ }
     ensures { λ r. ⌜ r ≡ hasRoom load f cost ⌝ }
 {
-    load <= f - cost
+    (load as u32) + (cost as u32) <= (f as u32)
+}
+
+// The test of job i in frame k: its row has room for it by the row's kept load, and its links leave it the frames from `low` to `high`.
+fn may_stand(
+    given: &[[u16; 128]; 5],
+    links: &[u8; 2048],
+    place: &[u16; 128],
+    load: &[u16; 256],
+    i: usize,
+    k: u16,
+    row: usize,
+    low: u16,
+    high: u16,
+) -> bool
+    requires { ⌜ Testing (problemIn (now given) (now links)) (jobsIn (now given)) (now place) (now load) i k row low high ⌝ }
+    ensures { λ r. ⌜ r ≡ fits (problemIn (now (given .entry)) (now (links .entry))) (take i (now (place .entry))) k ⌝ }
+{
+    if !has_room(load[row], given[4][1], given[0][i]) {
+        return false;
+    }
+    if k < low {
+        return false;
+    }
+    k <= high
 }
 
 // The row of the frame after one in this row.
@@ -129,9 +182,7 @@ fn place_job(
     left: &mut u64,
     i: usize,
 ) -> u8
-    requires { ⌜ i ≤ jobsIn (now given) ⌝ }
-    requires { ⌜ Ready (problemIn (now given) (now links)) (jobsIn (now given)) (now place) (now load) ⌝ }
-    requires { ⌜ LoadsKept (problemIn (now given) (now links)) (take i (now place)) (now load) ⌝ }
+    requires { ⌜ Placing (problemIn (now given) (now links)) (jobsIn (now given)) (now place) (now load) i ⌝ }
     ensures { λ r. ⌜ TriedJob (problemIn (now (given .entry)) (now (links .entry))) (jobsIn (now (given .entry)))
         (now (place .entry)) (now (load .entry)) i (now (left .entry)) r (now (place .exit)) (now (load .exit)) (now (left .exit)) ⌝ }
 {
@@ -170,30 +221,20 @@ fn try_frame(
     low: u16,
     high: u16,
 ) -> u8
-    requires { ⌜ i < jobsIn (now given) ⌝ }
-    requires { ⌜ Ready (problemIn (now given) (now links)) (jobsIn (now given)) (now place) (now load) ⌝ }
-    requires { ⌜ LoadsKept (problemIn (now given) (now links)) (take i (now place)) (now load) ⌝ }
-    requires { ⌜ row ≡ k % rowsIn (now given) ⌝ }
-    requires { ⌜ Bounds (problemIn (now given) (now links)) (take i (now place)) i low high ⌝ }
+    requires { ⌜ Testing (problemIn (now given) (now links)) (jobsIn (now given)) (now place) (now load) i k row low high ⌝ }
     ensures { λ r. ⌜ TriedFrame (problemIn (now (given .entry)) (now (links .entry))) (jobsIn (now (given .entry)))
         (now (place .entry)) (now (load .entry)) i k (now (left .entry)) r (now (place .exit)) (now (load .exit)) (now (left .exit)) ⌝ }
 {
-    if *left == 0 {
+    if *left < 1 {
         return 2;
     }
+    let stands = may_stand(given, links, place, load, i, k, row, low, high);
     *left -= 1;
+    if !stands {
+        return 0;
+    }
     let l = load[row];
-    let c = given[0][i];
-    if !has_room(l, given[4][1], c) {
-        return 0;
-    }
-    if k < low {
-        return 0;
-    }
-    if k > high {
-        return 0;
-    }
-    load[row] = l + c;
+    load[row] = l + given[0][i];
     place[i] = k;
     let r = place_job(given, links, place, load, left, i + 1);
     if r != 0 {
@@ -203,31 +244,17 @@ fn try_frame(
     0
 }
 
-// The first placing of n jobs in frames of length f, if it is found within the tries allowed.
-pub fn place_all(
-    cost: [u32; 128],
-    first: [u16; 128],
-    end: [u16; 128],
-    counts: [u16; 128],
-    links: [u8; 2048],
-    n: usize,
-    rows: u16,
-    f: u16,
-    allowed: u64,
-) -> Placed
-    requires { ⌜ Placeable cost first end counts links n rows f ⌝ }
-    ensures { λ r. ⌜ r ≡ placedWithin allowed (planWalk (problemOf cost first end counts links n rows f) []) ⌝ }
+// The first placing of the jobs, if it is found within the tries allowed.
+pub fn place_all(given: Given, allowed: u64) -> Placed
+    requires { ⌜ Placeable given ⌝ }
+    ensures { λ r. ⌜ r ≡ placedWithin allowed (planWalk (problemOf given) []) ⌝ }
 {
-    let costs = narrow(cost, n);
-    let mut sizes = [0u16; 128];
-    sizes[0] = rows;
-    sizes[1] = f;
-    sizes[2] = n as u16;
-    let given = [costs, first, end, counts, sizes];
+    let packed = pack(given);
+    let links = given.links;
     let mut frames = [0u16; 128];
     let mut load = [0u16; 256];
     let mut left = allowed;
-    let answer = place_job(&given, &links, &mut frames, &mut load, &mut left, 0);
+    let answer = place_job(&packed, &links, &mut frames, &mut load, &mut left, 0);
     if answer == 1 {
         return Placed {
             answer,

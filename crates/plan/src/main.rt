@@ -3,7 +3,7 @@
 use libc::STDIN_FILENO;
 use libc::STDOUT_FILENO;
 
-// A request has at most 162 bytes: what longer input is refused with is decided by its first 163. Every listing has room in 4,096 bytes.
+// A request has at most 164 bytes: what longer input is refused with is decided by its first 165. Every listing has room in 4,096 bytes.
 fn main() {
     let mut input = io::buffer();
     let n = io::read_full(STDIN_FILENO, &mut input);

@@ -4,16 +4,21 @@ use libc::STDERR_FILENO;
 use libc::STDIN_FILENO;
 use libc::STDOUT_FILENO;
 use planner::Searched;
+ghost use mathlib.Core.Path.{_≡_};
 ghost use Rattle.io.specs.Counts.{Counts};
+ghost use Rattle.planned_table.specs.Outcome.{outcomeBuffer};
+ghost use Rattle.planner.specs.Outcome.{programTries, outcomeWithin, searchedAnswer};
 
-// The planner's answer within the tries that a program allows; its length is within the buffer.
+// The planner's answer and buffer within the tries that a program allows; the answer's length is within the buffer.
 fn plan(request: &[u8], out: &mut [u8]) -> Searched
+    ensures { λ r. ⌜ (r ≡ searchedAnswer programTries (now (request .entry)) (now (out .entry)))
+        × (now (out .exit) ≡ outcomeBuffer (outcomeWithin programTries (now (request .entry))) (now (out .entry))) ⌝ }
     ensures { λ r. ⌜ Counts (r .length) (now (out .exit)) ⌝ }
 {
     planner::plan(request, planner::PROGRAM_TRIES, out)
 }
 
-// A request has at most 162 bytes: what longer input is refused with is decided by its first 163.
+// A request has at most 164 bytes: what longer input is refused with is decided by its first 165.
 fn main() {
     let mut input = io::buffer();
     let n = io::read_full(STDIN_FILENO, &mut input);

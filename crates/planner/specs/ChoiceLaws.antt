@@ -18,7 +18,7 @@ use Rattle.search.specs.Counting.{planWalk}
 use Rattle.model.specs.Plan.{Instance, costs}
 use Rattle.model.specs.Answers.{instanceOf}
 use Rattle.model.specs.Plausible.{plausibleBy, plausible}
-use Rattle.model.specs.Chosen.{chosen, noPlan, noPlausible, isTried, problemAt}
+use Rattle.model.specs.Chosen.{chosen, noPlan, noPlausible, isTriedBy, isTried, problemAt}
 use Rattle.model.specs.ChosenTries.{ChoiceWalk, goOnLengths, walkLengths, chooseWalk, fullTries, walkWith}
 use Rattle.model.specs.ChosenTries.{lengths-end, lengths-skipped, lengths-tried, lengths-found, lengths-none, lengths-more}
 use Rattle.problem.specs.Answers.{linksAnswer}
@@ -34,11 +34,11 @@ both-false false = refl
 
 -- no length has 0 rows
 pub no-rows : (x : Instance) → isTried x 0 ≡ false
-unfolding isTried plausibleBy
+unfolding isTriedBy plausibleBy
 no-rows x = rw (div-zero (x .h)) (both-false (eqb (x .h % 0) 0))
 
 pub tried-plausible : (x : Instance) (rows : ℕ) → isTried x rows ≡ true → plausible x (x .h / rows) ≡ true
-unfolding isTried
+unfolding isTriedBy
 tried-plausible x rows e = both-true (eqb (x .h % rows) 0) (plausible x (x .h / rows)) e .1
 
 pub searchable : (c : Cycle) (cost : List ℕ) (links : JobLinks) (rows : ℕ) → Planned c

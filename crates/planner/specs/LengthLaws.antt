@@ -18,6 +18,7 @@ use Rattle.model.specs.ProblemLaws.{problem-proper}
 use Rattle.problem.specs.Answers.{linksAnswer}
 use Rattle.problem.specs.declared.JobLinks.{JobLinks}
 use Rattle.place.specs.Arrays.{problemOf, Placeable}
+use Rattle.place.specs.declared.Given.{Given}
 use Rattle.planner.specs.Choices.{Searchable}
 
 -- a list of n numbers in an array
@@ -70,8 +71,11 @@ module _ {c : Cycle} {cost : List ℕ} {links : JobLinks} {f : ℕ} (s : Searcha
   ends-size = length-map (x .jobs) (endFrameOf f) ∙ jobs-count
 
   module _ {first end : List ℕ} (first-is : first ≡ padded 128 0 firsts) (end-is : end ≡ padded 128 0 ends) where
+    abbrev given : Given
+    given = record { cost = cost; first = first; end = end; counts = links .counts; links = links .places; n = n; rows = c .h / f; f = f }
+
     -- what is handed over is the problem of the length
-    pub problem-is : problemOf cost first end (links .counts) (links .places) n (c .h / f) f ≡ problemAt x f
+    pub problem-is : problemOf given ≡ problemAt x f
     unfolding problemAt instanceOf
     problem-is =
         let a = ap (take n) (s .cost-is) ∙ exact 128 n (costs x) cost-size in
@@ -81,11 +85,12 @@ module _ {c : Cycle} {cost : List ℕ} {links : JobLinks} {f : ℕ} (s : Searcha
         let g = ap (take (16 * n)) places-are ∙ exact 2048 (16 * n) (linkPlaces x) places-size in
         λ i. record { cost = a i; first = b i; end = d i; counts = e i; links = g i; rows = c .h / f; f = f }
 
-    pub placeable : Placeable cost first end (links .counts) (links .places) n (c .h / f) f
+    pub placeable : f ≤ 65535 → Placeable given
     unfolding instanceOf
-    placeable = record {
+    placeable short = record {
       few = few;
       costs = omega (arith, ap length (s .cost-is), padded-length 128 0 (costs x) (omega (arith, cost-size, few)), few);
       few-rows = plausible-says x f (s .plausible-is) .few-rows;
-      proper = subst⁻¹ Proper problem-is (problem-proper x (s .planned .good) f (s .plausible-is));
+      short = short;
+      proper = subst⁻¹ Proper problem-is (problem-proper x (s .planned .good) f (plausible-says x f (s .plausible-is)));
     }

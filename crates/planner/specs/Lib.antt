@@ -6,4 +6,5 @@ pub mod ChoiceLaws
 pub mod PlanLaws
 pub mod TableLaws
 pub mod Handed
+pub mod HandedBytes
 pub mod Moved

@@ -1,13 +1,16 @@
 -- What planning a request comes to: whatever is allowed, and within an allowance of tries.
 use mathlib.Core.List.{List}
 use Prim.Native.Nat.{ℕ, min}
+use mathlib.Core.Bool.{Bool}
 use lib.Dec.{ltb}
 use Rattle.cursor.specs.Choice.{pick}
+use Rattle.request.specs.declared.Task.{Task}
 use Rattle.cycle.specs.Cycle.{Cycle, cycle, noCycle, cycleOf}
 use Rattle.table.specs.declared.Written.{Written}
 use Rattle.model.specs.Plan.{Instance}
 use Rattle.model.specs.Answers.{instance}
-use Rattle.model.specs.Chosen.{Choice, chosen, noPlan, noPlausible, choose}
+use Rattle.model.specs.Plausible.{phaseRule}
+use Rattle.model.specs.Chosen.{Choice, chosen, noPlan, noPlausible, chooseBy}
 use Rattle.model.specs.ChosenTries.{fullTries}
 use Rattle.model.specs.Described.{planTable}
 use Rattle.planned_table.specs.Outcome.{Outcome, handed, refusal, outcomeAnswer}
@@ -19,10 +22,13 @@ byChoice x (chosen f frames) = handed (planTable x f frames)
 byChoice x noPlan = refusal 10
 byChoice x noPlausible = refusal 9
 
--- "The planner visits 1 to 11": the request, its cycle, the choice; 11 is the writer's
+-- "The planner visits 1 to 11": the request, its cycle, the choice by a rule on the windows; 11 is the writer's
+abbrev pub inCycleBy : (ℕ → Task → Bool) → Cycle → Outcome
+inCycleBy rule (cycle tasks pairs g h jobs) = byChoice (instance tasks pairs g h jobs) (chooseBy rule (instance tasks pairs g h jobs))
+inCycleBy rule (noCycle number) = refusal number
+
 abbrev pub inCycle : Cycle → Outcome
-inCycle (cycle tasks pairs g h jobs) = byChoice (instance tasks pairs g h jobs) (choose (instance tasks pairs g h jobs))
-inCycle (noCycle number) = refusal number
+inCycle = inCycleBy phaseRule
 
 -- what the full search comes to
 unfoldable pub outcome : List ℕ → Outcome

@@ -1,6 +1,7 @@
 // The choice of the frame length: plausible lengths are tried from the largest down, that is by 1, 2, .. 256 rows. One allowance of tries goes
 // through all of them.
 use cycle::Cycle;
+use place::Given;
 use place::Placed;
 use problem::JobLinks;
 ghost use mathlib.Core.Path.{_≡_};
@@ -29,17 +30,17 @@ fn plan_with(cycle: Cycle, cost: [u32; 128], links: JobLinks, f: u16, allowed: u
     let end = problem::end_frames(cycle, f);
     let counts = links.counts;
     let places = links.places;
-    place::place_all(
+    let given = Given {
         cost,
         first,
         end,
         counts,
-        places,
-        cycle.count,
-        cycle.h / f,
+        links: places,
+        n: cycle.count,
+        rows: cycle.h / f,
         f,
-        allowed,
-    )
+    };
+    place::place_all(given, allowed)
 }
 
 // Whether H/rows is a plausible length.

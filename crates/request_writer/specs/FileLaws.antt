@@ -6,6 +6,7 @@ use mathlib.Core.List.{List, _++_}
 use native.Mathlib.Omega.{arith}
 use lib.ListN.{length, take, drop}
 use lib.Seq.{take-append-seam, drop-append-seam}
+use borrow.Author.Tests.{le-ltb}
 use Rattle.cursor.specs.Choice.{pick}
 use Rattle.request.specs.Request.{Reading, readable, unreadable}
 use Rattle.request.specs.Encode.{requestBytes}
@@ -25,6 +26,11 @@ pub request-answered : (tasks : List Task) (pairs : List Pair) (g : ℕ) (out : 
     × (requestBuffer (readable tasks pairs g) out ≡ buffer (requestBytes tasks pairs g) out)
 unfolding requestAnswer requestBuffer
 request-answered tasks pairs g out = (refl, refl)
+
+-- the number of a refusal, 0 for a request
+abbrev pub ownNumber : Reading → ℕ
+ownNumber (readable tasks pairs g) = 0
+ownNumber (unreadable number) = number
 
 -- The file at the front of the buffer, as long as the answer says, and what is behind it.
 abbrev pub fileOf : Reading → List ℕ → List ℕ
@@ -55,16 +61,30 @@ module _ (out : List ℕ) where
       fits bytes true e = absurd (omega arith)
       fits bytes false e = (take-append-seam bytes (drop (length bytes) out), drop-append-seam bytes (drop (length bytes) out))
 
-  -- a request of at most 16 tasks and 16 pairs has at most 164 bytes
-  pub answer-short : (r : Reading) → ((tasks : List Task) (pairs : List Pair) (g : ℕ) → r ≡ readable tasks pairs g → (length tasks ≤ 16) × (length pairs ≤ 16))
-      → requestAnswer r out .length ≤ 164
-  unfolding requestAnswer written
-  answer-short (unreadable number) few = omega arith
-  answer-short (readable tasks pairs g) few =
-      let h = few tasks pairs g refl in
-      fits (requestBytes tasks pairs g) (bytes-short tasks pairs g (h .0) (h .1)) (tooShort (requestBytes tasks pairs g) out)
-    where
-      fits : (bytes : List ℕ) → length bytes ≤ 164 → (short : Bool)
-          → pick {A = Written} short (record { refusal = 11; length = 0 }) (record { refusal = 0; length = length bytes }) .length ≤ 164
-      fits bytes h true = omega arith
-      fits bytes h false = h
+  module _ (r : Reading) (few : (tasks : List Task) (pairs : List Pair) (g : ℕ) → r ≡ readable tasks pairs g → (length tasks ≤ 16) × (length pairs ≤ 16)) where
+    -- a request of at most 16 tasks and 16 pairs has at most 164 bytes
+    pub answer-short : requestAnswer r out .length ≤ 164
+    unfolding requestAnswer written
+    answer-short = go r refl
+      where
+        fits : (bytes : List ℕ) → length bytes ≤ 164 → (short : Bool)
+            → pick {A = Written} short (record { refusal = 11; length = 0 }) (record { refusal = 0; length = length bytes }) .length ≤ 164
+        fits bytes h true = omega arith
+        fits bytes h false = h
+
+        go : (q : Reading) → r ≡ q → requestAnswer q out .length ≤ 164
+        go (unreadable number) e = omega arith
+        go (readable tasks pairs g) e =
+            let h = few tasks pairs g e in
+            fits (requestBytes tasks pairs g) (bytes-short tasks pairs g (h .0) (h .1)) (tooShort (requestBytes tasks pairs g) out)
+
+    -- so a buffer of 164 bytes or more is not too short for it: it is written, or refused by its own number
+    pub answer-enough : 164 ≤ length out → requestAnswer r out .refusal ≡ ownNumber r
+    unfolding requestAnswer written
+    answer-enough long = go r refl
+      where
+        go : (q : Reading) → r ≡ q → requestAnswer q out .refusal ≡ ownNumber q
+        go (unreadable number) e = refl
+        go (readable tasks pairs g) e =
+            let h = few tasks pairs g e in
+            rw (le-ltb (length out) (length (requestBytes tasks pairs g)) (omega (arith, bytes-short tasks pairs g (h .0) (h .1))))

@@ -1,3 +1,4 @@
 pub mod Rewritten
 pub mod RewriteLaws
 pub mod SameBytes
+pub mod ReadBack

@@ -31,14 +31,17 @@ module _ (request : List ℕ) (x : Instance) (within : Within request x) where
         accepts-described request bytes x t within read f frames .1 (accepted .is-plan, accepted .describes) in
         ap₂ planRead within verdict ∙ ap handed (sym (describes-is x (within-good request x within) f frames (accepted .is-plan) t (accepted .describes)))
 
+    pub own-bytes : encode t ≡ bytes → (out : List ℕ) → length bytes ≤ length out
+        → (outcomeAnswer (rewritten request bytes) out ≡ record { refusal = 0; length = length bytes })
+        × (outcomeBuffer (rewritten request bytes) out ≡ bytes ++ drop (length bytes) out)
+    unfolding outcomeAnswer outcomeBuffer layout.written layout.buffer layout.tooShort
+    own-bytes own out room = rw (rewritten-is, own, le-ltb (length out) (length bytes) room) (refl, refl)
+
     -- An accepted table is written again with the same bytes, and the bytes behind it keep their content.
     pub same-bytes : Bytes bytes → (out : List ℕ) → length bytes ≤ length out
         → (outcomeAnswer (rewritten request bytes) out ≡ record { refusal = 0; length = length bytes })
         × (outcomeBuffer (rewritten request bytes) out ≡ bytes ++ drop (length bytes) out)
-    unfolding outcomeAnswer outcomeBuffer layout.written layout.buffer layout.tooShort
-    same-bytes are out room =
-        let own : encode t ≡ bytes = encode-decode bytes t are read in
-        rw (rewritten-is, own, le-ltb (length out) (length bytes) room) (refl, refl)
+    same-bytes are out room = own-bytes (encode-decode bytes t are read) out room
 
   -- The bytes of a table that describes a plan, of any f and not only the chosen one, read back as that plan.
   pub reads-back : (f : ℕ) (frames : List ℕ) → IsPlan x f frames → (t : Table) → Describes x f frames t

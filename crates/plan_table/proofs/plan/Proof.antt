@@ -1,4 +1,4 @@
--- The planner's length is within the buffer, which keeps its length.
+-- The answer and the buffer are the planner's; its length is within the buffer, which keeps its length.
 use Prim.Native.Nat.{_≤_}
 use mathlib.Core.Path.{sym}
 use native.Mathlib.Omega.{arith}
@@ -22,7 +22,7 @@ returns c =
     let s = c .before .before .before .before .before .before .args in
     let size : plan .result .length ≤ length (s .out .now) = searched-length programTries (s .request .now) (s .out .now) (plan .ensures .0) in
     let within : plan .result .length ≤ length (plan .last .1 .1 .0) = omega (arith, plan .kept .1 .1 .0) in
-    (within, sym (length-take-le _ _ within))
+    (plan .ensures, (within, sym (length-take-le _ _ within)))
 
 pub plan-spec : {M : Type 1} → statement M
 plan-spec = tie.close (tie.spec plan-requires same-length returns)

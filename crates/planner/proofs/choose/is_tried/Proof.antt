@@ -2,7 +2,7 @@
 use mathlib.Core.Path.{sym, _∙_}
 use borrow.Author.Tests.{eq-eqb, ne-eqb}
 use Rattle.model.specs.Answers.{instanceOf}
-use Rattle.model.specs.Chosen.{isTried}
+use Rattle.model.specs.Chosen.{isTriedBy}
 use Rattle.planner.specs.ChoiceLaws.{no-rows}
 use borrow.Author.Needs.{needs}
 use Rattle.planner.proofs.choose.is_tried.Statement.{statement}
@@ -12,11 +12,11 @@ returns : tie.Need-returns
 returns c = rw (c .if1 .taken) (sym (no-rows _))
 
 returns-2 : tie.Need-returns-2
-unfolding isTried instanceOf
+unfolding isTriedBy instanceOf
 returns-2 c = simp (ne-eqb _ _ (c .if2 .taken))
 
 returns-3 : tie.Need-returns-3
-unfolding isTried instanceOf
+unfolding isTriedBy instanceOf
 returns-3 c = c .plausible .ensures ∙ simp (eq-eqb _ _ (c .before .before .if2 .left))
 
 pub is-tried-spec : {M : Type 1} → statement M

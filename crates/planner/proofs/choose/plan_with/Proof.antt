@@ -1,6 +1,7 @@
 -- The numbers handed over are the problem of the length, so what the search answers is the definition's walk within the tries allowed.
 use mathlib.Core.Path.{ap, _∙_}
 use mathlib.Core.List.{[]}
+use native.Mathlib.Omega.{arith}
 use Rattle.search.specs.Placing.{Problem}
 use Rattle.search.specs.Counting.{planWalk}
 use Rattle.place.specs.Arrays.{placedWithin}
@@ -13,7 +14,7 @@ place-all-requires : tie.Need-place-all-requires
 place-all-requires c κs =
     let ends = c .before .before .before in
     let firsts = ends .before in
-    placeable (firsts .before .pre) (firsts .first-frames .ensures) (ends .end-frames .ensures)
+    placeable (firsts .before .pre) (firsts .first-frames .ensures) (ends .end-frames .ensures) (omega (arith, firsts .before .fits .f))
 
 returns : tie.Need-returns
 returns c =
