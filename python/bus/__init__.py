@@ -11,11 +11,11 @@
     bus.one_off(request, table, 5, begin=20)   # the earliest frame with time for 5 ticks more
 """
 
+from .build import NotBuilt
 from .calls import FreeFrame, check, one_off, plan, rewrite
 from .dispatcher import Dispatcher, Frame, Served
 from .files import FileFault
 from .join import join
-from .library import NotBuilt
 from .lists import ListFaults
 from .picture import picture
 from .refusals import Refused

@@ -7,7 +7,7 @@ or as the path of a table file.
 from dataclasses import replace
 from typing import NamedTuple
 
-from . import explain, library, search, table as tables
+from . import library, search, table as tables
 from .refusals import Refused
 from .sources import content, given
 
@@ -29,14 +29,6 @@ class FreeFrame(NamedTuple):
         return self.end - self.start - self.used
 
 
-def _refused(number, request, table=b""):
-    if number == 12:
-        return Refused(number, f"the table has {len(table)} bytes")
-    if number in (13, 14):
-        return Refused(number, explain.of_table(number, request, tables.decode(table)))
-    return Refused(number, explain.of_bytes(number, bytes(request)) or explain.of_request(number, request))
-
-
 def plan(request, tries=search.TRIES, tell=None):
     """The chosen table of a request; its `tries` are those that the search made, as those of a refusal are.
 
@@ -46,13 +38,9 @@ def plan(request, tries=search.TRIES, tell=None):
     if not 0 <= tries <= library.MOST_TRIES:
         raise ValueError(f"the tries that are allowed are a number from 0 to {library.MOST_TRIES}")
     data, request = given(request)
-    answer, count, table = search.plan(data, tries, tell)
-    if answer == -search.ENDED:
-        raise Refused(search.ENDED, explain.of_search(request, tries), tries=count)
+    answer, table, count = search.plan(data, tries, tell)
     if answer < 0:
-        refused = _refused(-answer, request)
-        refused.tries = count
-        raise refused
+        raise Refused.of(-answer, tries=count, data=data, request=request, allowed=tries)
     return replace(tables.decode(table), tries=count)
 
 
@@ -62,7 +50,7 @@ def _checked(request, table):
     table = content(table)
     answer = library.check(data, table)
     if answer < 0:
-        raise _refused(-answer, request, table)
+        raise Refused.of(-answer, data=data, request=request, table=table)
     return data, request, table
 
 
@@ -77,7 +65,7 @@ def rewrite(request, table):
     table = content(table)
     answer, written = library.rewrite(data, table)
     if answer < 0:
-        raise _refused(-answer, request, table)
+        raise Refused.of(-answer, data=data, request=request, table=table)
     return tables.decode(written)
 
 
@@ -94,7 +82,7 @@ def one_off(request, table, length, begin=0, until=None):
         until = 2 * plan.cycle
     frame = library.one_off(data, table, length, begin, until)
     if frame < 0:
-        raise Refused(-frame, explain.of_one_off(-frame, request, plan, length, begin, until))
+        raise Refused.of(-frame, request=request, table=table, length=length, begin=begin, until=until)
     row = frame % len(plan.rows)
     entries = plan.rows[row]
     return FreeFrame(frame, frame * plan.frame, (frame + 1) * plan.frame, row, entries, request.used(entries))

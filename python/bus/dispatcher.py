@@ -5,7 +5,7 @@ from typing import NamedTuple
 
 from . import library, table as tables
 from .refusals import Refused
-from .sources import content, given
+from .sources import content, given, table_in
 
 COUNTS = 16
 
@@ -35,10 +35,10 @@ class Dispatcher:
 
     def __init__(self, table, request=None):
         self._bytes = content(table)
-        self._table = tables.read(self._bytes)
-        self._request = None if request is None else given(request)[0]
+        self._table = table_in(self._bytes)
+        self._request = None if request is None else given(request).data
         self._served = 0
-        self.state = library.fresh()
+        self.state = library.fresh_state()
 
     @property
     def row(self):

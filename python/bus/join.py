@@ -4,10 +4,11 @@ import itertools
 import os
 from dataclasses import replace
 
-from . import explain, library, request as requests
+from . import library, request as requests
 from .lists import ListFaults
+from .progress import tell as tell_on_screen
 from .refusals import Refused
-from .sources import given
+from .sources import given, judge
 from .text import quoted
 
 
@@ -18,12 +19,12 @@ def _called(source, otherwise):
 def _part(source, called):
     """A request's bytes, which the library can read, and the request in them; a refusal says whose it is."""
     try:
-        data, request = given(source)
-        requests.read(data)
+        part = given(source)
+        judge(part.data)
     except (ListFaults, Refused) as refusal:
         refusal.source = called
         raise
-    return data, request
+    return part
 
 
 def _free(name, taken):
@@ -51,7 +52,7 @@ def second_names(first, second):
     return names
 
 
-def join(first, second, tell=library.tell):
+def join(first, second, tell=tell_on_screen):
     """One request of two: the first's tasks and pairs, then the second's, with the silent ticks that both have.
 
     Names are kept as far as they can be told apart; `tell` is called with a line about those of the second that are
@@ -62,7 +63,7 @@ def join(first, second, tell=library.tell):
     second_bytes, second = _part(second, called[1])
     answer, written = library.join(first_bytes, second_bytes)
     if answer < 0:
-        raise Refused(-answer, explain.of_two(-answer, first, second), " and ".join(called))
+        raise Refused.of(-answer, " and ".join(called), first=first, second=second)
     before, old = ([task.name for task in request.tasks] for request in (first, second))
     new = second_names(before, old)
     changed = [f"{quoted(name)} to {quoted(now)}" for name, now in zip(old, new) if name != now]

@@ -1,11 +1,14 @@
-"""Signs of a long search for the person at the screen."""
+"""Lines for the person at the screen, and signs of a long search."""
 
 import os
 import sys
 
-from .library import tell
-
 WIDTH = 80
+
+
+def tell(text):
+    """A line to the person at the screen."""
+    print(f"bus: {text}", file=sys.stderr, flush=True)
 
 
 def about(number):

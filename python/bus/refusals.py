@@ -1,111 +1,160 @@
-"""What each refusal number says, in the words of docs/FORMATS.md, and the exception that carries it."""
+"""Every refusal is one row: its number, what it speaks of, its details, and its words and advice as in docs/FORMATS.md.
 
-# number: (when it is given, what a team can do)
-REFUSALS = {
-    1: (
+A number that is new is a row here and, if there is more to say than the words, a function in details.py.
+"""
+
+from typing import Callable, NamedTuple, Optional
+
+from . import details
+
+# The argument of the command whose file a refusal speaks of. NO_ONE: no file, or two, which join.py names.
+LIST, TABLE, NO_ONE = "list", "table", ""
+
+
+class Refusal(NamedTuple):
+    """A row: the number, what it speaks of, what can be said about the case, when it is given, and what to do."""
+
+    number: int
+    speaks_of: str
+    details: Optional[Callable]
+    words: str
+    advice: str
+
+
+ROWS = (
+    Refusal(
+        1, LIST, details.cut_bytes,
         "the request's bytes end inside a section or before its count",
         "the file was cut: write it again, whole",
     ),
-    2: (
+    Refusal(
+        2, LIST, details.said_tasks,
         "no task, or more than 16",
         "leave the list to 16 tasks, or split it over two buses",
     ),
-    3: (
+    Refusal(
+        3, LIST, details.first_task_fault,
         "a task breaks 1 ≤ C ≤ D ≤ T or P < T",
         "correct that task: a transfer fits its deadline, the deadline its period, and the phase is below the period",
     ),
-    4: (
+    Refusal(
+        4, LIST, details.said_pairs,
         "more than 16 pairs",
         "drop pairs that follow from others",
     ),
-    5: (
+    Refusal(
+        5, LIST, details.first_pair_fault,
         "a pair breaks a < b < n or its tasks have different periods",
         "number the tasks so that the earlier one has the lower number; give both the same period",
     ),
-    6: (
+    Refusal(
+        6, LIST, details.bytes_too_many,
         "bytes follow the last section",
         "the counts are too small, or the file has something appended",
     ),
-    7: (
+    Refusal(
+        7, LIST, details.periods,
         "H is above 10,000",
         "choose periods that share factors: 20 and 40 instead of 20 and 41",
     ),
-    8: (
+    Refusal(
+        8, LIST, details.job_counts,
         "more than 128 jobs in a cycle",
         "longer periods, or periods that share factors",
     ),
-    9: (
+    Refusal(
+        9, LIST, details.longest_and_shortest,
         "no frame length is plausible: none divides H into at most 256 rows, holds the longest transfer with its"
         " silent ticks and lies whole in each window of every task",
         "the longest transfer is long against the shortest deadline: shorten or cut it, relax the deadline, ask for"
         " fewer silent ticks, or move a phase: a window that opens where a frame begins has room for the longest one",
     ),
-    10: (
+    Refusal(
+        10, LIST, details.asked_for,
         "some length is plausible, so each window by itself holds a frame, and yet no placing keeps windows, capacity"
         " and order: all were searched",
         "less load, fewer silent ticks, later deadlines, other phases or fewer pairs; no other placing would do",
     ),
-    11: (
+    Refusal(
+        11, NO_ONE, None,
         "the buffer is shorter than the table, or than the joined request",
         "lend 7 + F + 2·(number of jobs) bytes for a table; 519 are always enough, and 164 for a request",
     ),
-    12: (
+    Refusal(
+        12, TABLE, details.table_length,
         "bytes that are not a table",
         "the file was cut or is something else",
     ),
-    13: (
+    Refusal(
+        13, TABLE, details.table_sizes,
         "the table's H is not the request's, or its f is not plausible: too short for a transfer, or some window holds"
         " no whole frame of that length",
         "the table belongs to another request, or the request was changed: plan again",
     ),
-    14: (
+    Refusal(
+        14, TABLE, details.plan_breaches,
         "the table does not describe a plan of the request",
         "plan again; the table was edited or belongs to another request",
     ),
-    15: (
+    Refusal(
+        15, NO_ONE, None,
         "the state's row is not below F",
         "the state belongs to another table: begin with a fresh one",
     ),
-    16: (
+    Refusal(
+        16, NO_ONE, None,
         "the report's task number is not below n",
         "the report names a task that the request does not have",
     ),
-    17: (
+    Refusal(
+        17, LIST, details.third_section,
         "the request's third section has a count above 1, or g is above 15; judged after 5 and before 6",
         "write `01` and a g from 0 to 15, or leave the section out; what the line needs beyond 15 ticks can be added"
         " to every C",
     ),
-    18: (
+    Refusal(
+        18, NO_ONE, details.tasks_in_both,
         "two requests that are joined have more than 16 tasks together",
         "leave the two to 16 tasks together, or give the second board a bus of its own",
     ),
-    19: (
+    Refusal(
+        19, NO_ONE, details.pairs_in_both,
         "two requests that are joined have more than 16 pairs together",
         "drop pairs that follow from others",
     ),
-    20: (
+    Refusal(
+        20, NO_ONE, details.silent_in_both,
         "two requests that are joined have different g",
         "the boards share one line: give both the g that the line needs, in a list by a line `silent,TICKS`",
     ),
-    21: (
+    Refusal(
+        21, NO_ONE, details.badly_asked,
         "a one-off transfer is asked for with length 0, from a tick after its last, or until a tick after 2H",
         "ask for 1 tick or more, between two ticks of the first two cycles; every later cycle is like these: for a"
         " later time take whole cycles off both ticks",
     ),
-    22: (
+    Refusal(
+        22, TABLE, details.no_room,
         "no frame between the two ticks leaves enough unused time for the one-off transfer and its silent ticks",
         "ask for a longer time or a shorter transfer, or send it in parts, each asked for from the end of the frame"
         " before; where a whole cycle has no frame for it, no other has: plan with less load",
     ),
-    23: (
+    Refusal(
+        23, LIST, details.tries_allowed,
         "the search needs more tries than are allowed; whether there is a plan is not known",
         "allow more, in the command by `--tries N`; or make the search shorter: put transfers that are alike, with the"
         " same C, T, D and P and in no other pair, in order by pairs, down the list, which changes no table; or ask for"
         " less load",
     ),
-}
+)
 
-UNKNOWN = ("a number that this command has no words for", "look it up in docs/FORMATS.md")
+REFUSALS = {row.number: row for row in ROWS}
+
+
+def row(number):
+    """The row of a number, or one that says that there is none."""
+    unknown = "a number that this command has no words for", "look it up in docs/FORMATS.md"
+    return REFUSALS.get(number) or Refusal(number, LIST, None, *unknown)
 
 
 class Refused(Exception):
@@ -116,11 +165,17 @@ class Refused(Exception):
 
     def __init__(self, number, about="", source="", tries=0):
         self.number = number
-        self.words, self.advice = REFUSALS.get(number, UNKNOWN)
+        self.words, self.advice = row(number).words, row(number).advice
         self.about = about
         self.source = source
         self.tries = tries
         super().__init__(number, about, source, tries)
+
+    @classmethod
+    def of(cls, number, source="", tries=0, **asked):
+        """The refusal with the details of its row, from all that was asked, by the names that details.py has."""
+        tell = row(number).details
+        return cls(number, tell(**asked) if tell else "", source, tries)
 
     def __str__(self):
         source = f"{self.source}: " if self.source else ""

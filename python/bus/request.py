@@ -5,10 +5,6 @@ import struct
 from dataclasses import dataclass, field
 from typing import NamedTuple
 
-from . import library
-from .explain import of_bytes
-from .refusals import Refused
-
 
 @dataclass(frozen=True)
 class Task:
@@ -96,11 +92,3 @@ def decode(data):
     pairs = tuple((data[k], data[k + 1]) for k in range(at + 1, at + 1 + 2 * data[at], 2))
     third = data[at + 1 + 2 * data[at] :]
     return Request(tasks, pairs, third[1] if len(third) > 1 else 0)
-
-
-def read(data):
-    """The request in the bytes; refused as the library refuses to read them."""
-    number = library.unreadable(data)
-    if number:
-        raise Refused(number, of_bytes(number, data))
-    return decode(data)

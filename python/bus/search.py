@@ -37,7 +37,7 @@ def _search(request, allowance, parent, writer):
     ctypes.CDLL(None).prctl(PARENT_DEATH_SIGNAL, signal.SIGKILL)
     if os.getppid() == parent:
         begin = time.monotonic()
-        answer, count, table = library.plan(request, allowance)
+        answer, table, count = library.plan(request, allowance)
         os.write(writer, HEAD.pack(answer, count, time.monotonic() - begin) + table)
 
 
@@ -78,7 +78,7 @@ def _in_child(request, allowance, tell):
 
 
 def plan(request, allowance=TRIES, tell=None):
-    """The library's answer to bus_plan, the count of tries and the table's bytes.
+    """The library's answer to bus_plan, the table's bytes and the count of tries.
 
     `tell` is called about once a second of a long search, with about how many tries are used, or None while that is
     not known.
@@ -90,4 +90,4 @@ def plan(request, allowance=TRIES, tell=None):
         speed = few / max(seconds, 0.001)
         used = tell and (lambda gone: tell(min(round(speed * gone), allowance)))
         answer, count, _, table = _in_child(request, allowance, used)
-    return answer, count, table
+    return answer, table, count

@@ -4,9 +4,6 @@ import struct
 from dataclasses import dataclass, field
 from typing import NamedTuple
 
-from . import library
-from .refusals import Refused
-
 CARRY = 128
 
 
@@ -62,11 +59,3 @@ def decode(data):
         rows.append(entries_of(data[at + 1 : end]))
         at = end
     return Table(frame, cycle, tuple(rows))
-
-
-def read(data):
-    """The table in the bytes; refused with 12 if the library finds none in them."""
-    number = library.no_table(data)
-    if number:
-        raise Refused(number, f"the table has {len(data)} bytes")
-    return decode(data)

@@ -1,14 +1,14 @@
 """Reading and writing request and table bytes, beside the library's reading of the same bytes."""
 
 import bus
-from bus import library, request as requests, table as tables
+from bus import library, sources, table as tables
 from tests.helper import EXAMPLES, Case, damaged, request, seeded_request, stored, unhex
 
 
 class Requests(Case):
     def lengths_agree(self, read, data):
         """A report of C ticks is no overrun, one of C + 1 is; a task beyond the last is refused with 16."""
-        fresh = library.fresh()
+        fresh = library.fresh_state()
         for number, task in enumerate(read.tasks):
             self.assertEqual(library.report(data, number, task.length, fresh), (0, fresh))
             self.assertNotEqual(library.report(data, number, task.length + 1, fresh), (0, fresh))
@@ -18,7 +18,7 @@ class Requests(Case):
         for _ in range(300):
             drawn = seeded_request(self.draw)
             data = bytes(drawn)
-            self.assertEqual(requests.read(data), drawn)
+            self.assertEqual(sources.request_in(data), drawn)
             self.lengths_agree(drawn, data)
 
     def test_damaged(self):
@@ -29,10 +29,10 @@ class Requests(Case):
             number = library.unreadable(data)
             numbers.add(number)
             if number:
-                refused = self.refused(number, requests.read, data)
+                refused = self.refused(number, sources.request_in, data)
                 self.assertTrue(refused.about, data.hex())
             else:
-                self.lengths_agree(requests.read(data), data)
+                self.lengths_agree(sources.request_in(data), data)
         self.assertLessEqual({0, 1, 2, 3, 4, 5}, numbers)
 
     def test_cycle_and_jobs(self):
@@ -40,7 +40,7 @@ class Requests(Case):
         planned = 0
         for words, lines in stored("plain.txt"):
             if int(lines[0][1]) > 0:
-                read, table = requests.read(unhex(words[1])), tables.read(unhex(lines[0][2]))
+                read, table = sources.request_in(unhex(words[1])), sources.table_in(unhex(lines[0][2]))
                 self.assertEqual(read.cycle, table.cycle)
                 frames = table.frames()
                 self.assertEqual({(job.task, job.number) for job in read.jobs()}, set(frames))
@@ -77,9 +77,9 @@ class Tables(Case):
                         number = library.no_table(data)
                         if number:
                             self.assertEqual(number, 12)
-                            self.refused(12, tables.read, data)
+                            self.refused(12, sources.table_in, data)
                         else:
-                            table = tables.read(data)
+                            table = sources.table_in(data)
                             self.assertEqual(bytes(table), data)
                             self.rows_agree(table, data)
                             read += 1

@@ -163,12 +163,6 @@ class Lists(Case):
 
 
 class WrongUse(Case):
-    def test_help(self):
-        for words in ([], ["plan"], ["check"], ["fly"], ["list"]):
-            out = self.answered(*words, "--help")
-            self.assertIn("example:\n  bus ", out)
-            self.assertIn("exit status: 0 answered; 1 refused; 2 wrong use", out)
-
     def test_words(self):
         for words in (
             [],

@@ -3,7 +3,7 @@
 import os
 
 import bus
-from bus import library, lists, request as requests
+from bus import library, lists, sources
 from bus.join import second_names
 from tests.helper import EXAMPLES, ROOT, Case, damaged, example, request, seeded_request
 
@@ -48,7 +48,7 @@ class Requests(Case):
         else:
             self.assertEqual((answer, written), (len(bytes(wanted)), bytes(wanted)))
             self.assertEqual(bus.join(bytes(first), bytes(second), tell=None), wanted)
-            self.assertEqual(requests.read(written), wanted)
+            self.assertEqual(sources.request_in(written), wanted)
         return number
 
     def test_seeded(self):
@@ -56,7 +56,7 @@ class Requests(Case):
         for round_ in range(400):
             first = small_request(self.draw, silent=round_ % 5 == 0)
             second = small_request(self.draw, silent=round_ % 7 == 0)
-            second = requests.Request(second.tasks, second.pairs, first.silent if round_ % 3 else second.silent)
+            second = bus.Request(second.tasks, second.pairs, first.silent if round_ % 3 else second.silent)
             numbers.add(self.compare(first, second))
         self.assertEqual(numbers, {0, 18, 19, 20})
 
@@ -325,6 +325,3 @@ class Command(Case):
             self.failed(2, "join", first, second, says=[f"bus: cannot read {missing}: No such file or directory"])
         self.failed(2, "join", OLD, NEW, "-o", missing / "t", says=[f"bus: cannot write {missing}/t: No such file"])
         self.assertEqual(os.listdir(self.folder), ["t.csv"])
-        out = self.answered("join", "--help")
-        self.assertIn("example:\n  bus join ", out)
-        self.assertIn("exit status: 0 answered; 1 refused; 2 wrong use", out)

@@ -1,7 +1,7 @@
 """Time for a one-off transfer: needs a library that has bus_one_off."""
 
 import bus
-from bus import explain, library, lists, table as tables
+from bus import details, library, lists, table as tables
 from tests.helper import EXAMPLES, ROOT, Case, example, stored, unhex
 from tests.test_stored_answers import number_of
 
@@ -75,7 +75,7 @@ class Stored(Case):
 
     def compare_most(self, data, table, length, begin, until, met):
         read, plan = bus.read_request(data), tables.decode(table)
-        most = explain.most_unused(read, plan, begin, until)
+        most = details.most_unused(read, plan, begin, until)
         about = self.refused(22, bus.one_off, data, table, length, begin, until).about
         if most is None:
             self.assertIn("no whole frame of", about)
@@ -275,9 +275,3 @@ class Command(Case):
         for words in ([missing, self.table], [TEAM, missing]):
             says = [f"bus: cannot read {missing}: No such file or directory"]
             self.failed(2, "one-off", *words, "--length", 5, says=says)
-
-    def test_help(self):
-        out = self.answered("one-off", "--help")
-        self.assertIn("example:\n  bus one-off ", out)
-        self.assertIn("exit status: 0 answered; 1 refused; 2 wrong use", out)
-        self.assertIn("one-off   finds the earliest frame with time for a one-off transfer", self.answered("--help"))

@@ -1,7 +1,7 @@
 """Silent ticks after every transfer: needs a library that reads a request's third section."""
 
 import bus
-from bus import library, lists, request as requests
+from bus import library, lists, sources
 from tests import test_picture, test_stored_answers
 from tests.helper import EXAMPLES, Case, example, request, seeded_request, stored, unhex
 
@@ -19,10 +19,10 @@ class Silent(Case):
         """A g of 0 is written by leaving the section out, and read from each of its three forms."""
         for _ in range(100):
             drawn = seeded_request(self.draw, silent=True)
-            self.assertEqual(requests.read(bytes(drawn)), drawn)
+            self.assertEqual(sources.request_in(bytes(drawn)), drawn)
         p1 = example("p1.req")
         for section in (b"", b"\x00", b"\x01\x00"):
-            read = requests.read(p1 + section)
+            read = sources.request_in(p1 + section)
             self.assertEqual((read.silent, bytes(read)), (0, p1))
 
     def test_limits_are_the_library_s(self):
@@ -32,11 +32,11 @@ class Silent(Case):
             self.assertEqual(library.unreadable(p1 + bytes([1, g])), 0 if g <= 15 else 17)
             wanted = {0: 0, 1: 1}.get(g, 17)
             self.assertEqual(library.unreadable(p1 + bytes([g])), wanted)
-        self.assertEqual(self.refused(17, requests.read, p1 + b"\x02").about, "the count is 2")
-        self.assertEqual(self.refused(17, requests.read, p1 + b"\x01\x10").about, "it asks for 16 silent ticks")
-        cut = self.refused(1, requests.read, p1 + b"\x01").about
+        self.assertEqual(self.refused(17, sources.request_in, p1 + b"\x02").about, "the count is 2")
+        self.assertEqual(self.refused(17, sources.request_in, p1 + b"\x01\x10").about, "it asks for 16 silent ticks")
+        cut = self.refused(1, sources.request_in, p1 + b"\x01").about
         self.assertEqual(cut, "the file has 27 bytes: it ends inside the third section")
-        self.assertEqual(self.refused(6, requests.read, p1 + b"\x01\x03\x00").about, "1 bytes too many")
+        self.assertEqual(self.refused(6, sources.request_in, p1 + b"\x01\x03\x00").about, "1 bytes too many")
 
     def test_examples(self):
         """The listings of the examples with a third section."""

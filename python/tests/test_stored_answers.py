@@ -1,7 +1,7 @@
 """The calls for a notebook beside the stored answers of the second implementation."""
 
 import bus
-from bus import library, request as requests
+from bus import library, sources
 from tests.helper import Case, stored, unhex
 
 
@@ -27,7 +27,7 @@ class Stored(Case):
 
     def compare_reading(self, words):
         data = unhex(words[1])
-        number, read = number_of(requests.read, data)
+        number, read = number_of(sources.request_in, data)
         self.assertEqual(fields(read) if read else ["refused", str(-number)], words[2:])
         self.assertEqual(library.unreadable(data), -number)
 

@@ -13,7 +13,7 @@ import time
 from unittest import mock
 
 import bus
-from bus import explain, library, progress, search
+from bus import details, library, progress, search
 from tests.helper import COMMAND, EXAMPLES, Case, pigeons, request, stored, unhex
 from tests.test_search import as_from_a_terminal
 
@@ -22,12 +22,12 @@ WITHOUT_END = 10**15
 
 
 def planned(data, tries):
-    """The answer, the count of tries and the table's bytes that a notebook gets."""
+    """The answer, the table's bytes and the count of tries that a notebook gets."""
     try:
         table = bus.plan(data, tries=tries)
     except bus.Refused as refused:
-        return -refused.number, refused.tries, b""
-    return len(bytes(table)), table.tries, bytes(table)
+        return -refused.number, b"", refused.tries
+    return len(bytes(table)), bytes(table), table.tries
 
 
 class Stored(Case):
@@ -37,7 +37,7 @@ class Stored(Case):
         for words, lines in stored("tries.txt"):
             data = unhex(words[1])
             for _, allowance, answer, count, table in lines:
-                expected = int(answer), int(count), unhex(table)
+                expected = int(answer), unhex(table), int(count)
                 with self.subTest(request=words[1], allowance=allowance):
                     self.assertEqual(library.plan(data, int(allowance)), expected)
                     self.assertEqual(planned(data, int(allowance)), expected)
@@ -106,7 +106,7 @@ class Words(Case):
             (twins + three, [(1, 2)], "; alike are task3, task4"),
             (twins + three, [(0, 1), (2, 3), (3, 4)], ""),
         ):
-            said = explain.of_search(request(*tasks, pairs=pairs), 1000)
+            said = details.tries_allowed(request=request(*tasks, pairs=pairs), allowed=1000)
             self.assertEqual(said, f"1,000 tries are allowed{alike}")
 
     def test_what_the_command_allows(self):

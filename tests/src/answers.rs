@@ -5,14 +5,16 @@
 //! A line is a question with its answer behind it, words apart by single blanks, bytes in
 //! hexadecimal, no bytes as `-`. Stored text can be answered anew, whatever its answers were.
 
-use crate::bus::{Asked, Bus, ENTRIES_LEN, STATE_LEN, TRIES_LEN};
-use crate::exact;
+use crate::bus::{Bus, ENTRIES_LEN, STATE_LEN, TRIES_LEN};
+use crate::comparison::MOST_TRIES;
 use crate::generate;
-use crate::one_off;
+use crate::given_tries;
 use crate::random::Random;
+use crate::reference::one_off::Asked;
 use crate::reference::request::{self, Request};
 use crate::reference::{planned, tries_within, Reference};
-use crate::rounds::{allowances, MOST_TRIES};
+use crate::rounds::one_off;
+use crate::rounds::planning::allowances;
 use crate::sheet;
 
 const TABLES_OF_A_REQUEST: usize = 4;
@@ -109,12 +111,8 @@ impl Answerer {
     }
 
     fn one_off(&self, table: &str, asked: &[&str]) -> String {
-        let asked = Asked {
-            length: number(asked[0]),
-            from: number(asked[1]),
-            until: number(asked[2]),
-        };
-        let answer = Reference.one_off(&self.request, &from_hex(table), asked);
+        let [length, from, until] = [0, 1, 2].map(|place| number(asked[place]));
+        let answer = Reference.one_off(&self.request, &from_hex(table), length, from, until);
         answer.to_string()
     }
 }
@@ -200,7 +198,10 @@ pub fn drawn_tries(seed: u64, requests: usize) -> String {
         }
     }
     all.extend((0..requests / 3).map(|_| generate::request_bytes(&mut rng)));
-    all.extend([exact::planned_after(20_000), exact::refused_after(20_000)]);
+    all.extend([
+        given_tries::planned_after(20_000),
+        given_tries::refused_after(20_000),
+    ]);
     all.extend([sheet::pigeons(11, 10, 0), sheet::pigeons(16, 15, 0)]);
     let mut text = String::new();
     for bytes in all {

@@ -1,6 +1,13 @@
-//! The eight calls of the library, as every implementation here offers them.
+//! What follows from all rows: the calls that a tool has, the rows as data, and each call as data. And
+//! the sizes of the buffers that a caller lends.
 
 use std::ops::Range;
+
+use crate::call::{Call, Value};
+use crate::fuzzer::Fuzzer;
+use crate::reference;
+use crate::row::{Argument, Change, Handed, Kind, Row};
+use crate::rows::{argument_type, every_call};
 
 /// Bytes of dispatcher state that a caller lends.
 pub const STATE_LEN: usize = 64;
@@ -13,7 +20,7 @@ pub const ENTRIES_LEN: usize = 32;
 /// Bytes of a count of tries.
 pub const TRIES_LEN: usize = 8;
 /// Refusal of a state, entries or tries buffer that is too short, or of a mark that is not 0 or 1.
-pub const NOT_A_STATE: i32 = 99;
+pub const BAD_BUFFER: i32 = 99;
 
 /// Where the count of a task stands in a state.
 pub fn count_bytes(task: usize) -> Range<usize> {
@@ -28,36 +35,111 @@ pub fn counts(state: &[u8]) -> [u16; TASKS] {
     })
 }
 
-/// A one-off transfer: so many ticks, not before the one tick and not after the other.
-#[derive(Clone, Copy, Debug, PartialEq, Eq)]
-pub struct Asked {
-    pub length: u32,
-    pub from: u32,
-    pub until: u32,
+/// Where the count stands of the task that the call names.
+fn own_count(call: &Call) -> Range<usize> {
+    count_bytes(call.number("task") as usize)
 }
 
-/// An answer below 0 is a refusal, its number negated.
-pub trait Bus {
-    /// The length of the table written to the front of `out`, if so many tries are enough; the first
-    /// 8 bytes of `tries` get the count of tries, whatever the answer is but 99.
-    fn plan(&self, request: &[u8], allowance: u64, out: &mut [u8], tries: &mut [u8]) -> i32;
-    /// 0 if the table describes a plan of the request.
-    fn check(&self, request: &[u8], table: &[u8]) -> i32;
-    /// The length of the table written to the front of `out`.
-    fn rewrite(&self, request: &[u8], table: &[u8], out: &mut [u8]) -> i32;
-    /// 0, with a fresh state in the first 64 bytes.
-    fn fresh(&self, state: &mut [u8]) -> i32;
-    /// The number of entries served; `entries` gets 16 places of a task and a job byte.
-    fn next_frame(&self, table: &[u8], state: &mut [u8], entries: &mut [u8]) -> i32;
-    /// 0, with the task's overrun counted in the state.
-    fn report(&self, request: &[u8], task: u8, ticks: u32, state: &mut [u8]) -> i32;
-    /// The length of the request, of the two joined, written to the front of `out`.
-    fn join(&self, first: &[u8], second: &[u8], out: &mut [u8]) -> i32;
-    /// The earliest frame, counted from time 0, with time for the transfer.
-    fn one_off(&self, request: &[u8], table: &[u8], asked: Asked) -> i32;
-
-    /// The answer of `plan` with every try allowed; the count is left aside.
-    fn plan_freely(&self, request: &[u8], out: &mut [u8]) -> i32 {
-        self.plan(request, u64::MAX, out, &mut [0; TRIES_LEN])
-    }
+/// The type of an argument of a call that is not made yet: of a buffer what it holds before.
+macro_rules! content_type {
+    (read) => {
+        &[u8]
+    };
+    (write) => {
+        &[u8]
+    };
+    ($width:ident) => {
+        $width
+    };
 }
+
+macro_rules! content {
+    (read $bytes:ident) => {
+        Value::Bytes($bytes.to_vec())
+    };
+    (write $bytes:ident) => {
+        Value::Bytes($bytes.to_vec())
+    };
+    ($width:ident $number:ident) => {
+        Value::Number(u64::from($number))
+    };
+}
+
+macro_rules! kind {
+    (read $drawn:expr) => {
+        Kind::Read($drawn)
+    };
+    (write $drawn:expr, $change:expr) => {
+        Kind::Write($drawn, $change)
+    };
+    ($width:ident $drawn:expr) => {
+        Kind::Number(stringify!($width), $drawn)
+    };
+}
+
+fn next<'a>(handed: &mut impl Iterator<Item = Handed<'a>>) -> Handed<'a> {
+    handed.next().expect("every argument is handed over")
+}
+
+/// The next argument of those that are handed over.
+macro_rules! taken {
+    (read $handed:ident) => {
+        next(&mut $handed).read()
+    };
+    (write $handed:ident) => {
+        next(&mut $handed).write()
+    };
+    ($width:ident $handed:ident) => {
+        $width::try_from(next(&mut $handed).number()).expect("it has that width")
+    };
+}
+
+macro_rules! declare {
+    ($(
+        $(#[$doc:meta])*
+        $call:ident($($name:ident: $kind:ident($($says:tt)*),)*) refuses [$($number:literal),*];
+    )*) => {
+        /// A tool with every call of the library. An answer below 0 is a refusal, its number negated.
+        /// What a tool does not say of itself it answers as the reference does.
+        pub trait Bus: Sync {
+            $(
+                $(#[$doc])*
+                fn $call(&self, $($name: argument_type!($kind)),*) -> i32 {
+                    reference::answer(reference::calls::$call($($name),*))
+                }
+            )*
+
+            /// The answer of `plan` with every try allowed; the count is left aside.
+            fn plan_freely(&self, request: &[u8], out: &mut [u8]) -> i32 {
+                self.plan(request, u64::MAX, out, &mut [0; TRIES_LEN])
+            }
+        }
+
+        /// All rows.
+        pub static ROWS: &[Row] = &[$(Row {
+            name: stringify!($call),
+            arguments: &[$(Argument {
+                name: stringify!($name),
+                kind: kind!($kind $($says)*),
+            }),*],
+            refusals: &[$($number),*],
+            make: |bus, handed| {
+                let mut handed = handed.into_iter();
+                $(let $name = taken!($kind handed);)*
+                bus.$call($($name),*)
+            },
+        }),*];
+
+        /// A call, with what its buffers hold before it.
+        impl Call {
+            $(
+                $(#[$doc])*
+                pub fn $call($($name: content_type!($kind)),*) -> Call {
+                    Call::of(stringify!($call), vec![$(content!($kind $name)),*])
+                }
+            )*
+        }
+    };
+}
+
+every_call!(declare);

@@ -4,13 +4,14 @@
 use std::collections::BTreeMap;
 
 use crate::bus::{count_bytes, counts, Bus, ENTRIES_LEN, STATE_LEN, TASKS};
-use crate::call::{hex, run, Call};
+use crate::call::{hex, Call};
+use crate::comparison::MOST_TRIES;
 use crate::generate;
+use crate::lending::run;
 use crate::random::Random;
 use crate::reference::cycle::{Cycle, Job};
 use crate::reference::table::{decode, encode, Entry, Table};
 use crate::reference::{read_cycle, request, tries_within};
-use crate::rounds::MOST_TRIES;
 
 /// A job of one cycle: task, job number, cycle.
 type Instance = (i64, i64, i64);
@@ -143,11 +144,7 @@ impl<'a> Flight<'a> {
 
     fn serve(&mut self, rng: &mut Random) -> Result<(), String> {
         let m = self.plain.frames;
-        let call = Call::NextFrame {
-            table: self.table_bytes.clone(),
-            state: self.state.clone(),
-            entries: rng.bytes(ENTRIES_LEN),
-        };
+        let call = Call::next_frame(&self.table_bytes, &self.state, &rng.bytes(ENTRIES_LEN));
         let outcome = run(self.bus, &call)?;
         let expected = self.plain.next_frame(&self.table);
         let served = &outcome.buffers[1];
@@ -207,12 +204,7 @@ impl<'a> Flight<'a> {
     }
 
     fn make_report(&mut self, bytes: Vec<u8>, task: u8, ticks: u32) -> Result<(), String> {
-        let call = Call::Report {
-            request: bytes.clone(),
-            task,
-            ticks,
-            state: self.state.clone(),
-        };
+        let call = Call::report(&bytes, task, ticks, &self.state);
         let outcome = run(self.bus, &call)?;
         let expected = self.plain.report(&bytes, task, ticks);
         if outcome.answer != expected {

@@ -3,7 +3,7 @@
 
 mod common;
 
-use bus_tests::exact;
+use bus_tests::given_tries;
 use bus_tests::reference::model::plausible_lengths;
 use bus_tests::reference::{listing, planned, read_cycle, PROGRAM_TRIES};
 use bus_tests::sheet::{self, request, silent_request, with_section, Short};
@@ -31,7 +31,10 @@ fn files_of_the_folder() {
 /// times as many: 11 jobs that fill a frame each, for 10 frames. The test above has their listings.
 #[test]
 fn at_and_beyond_the_last_try() {
-    assert_eq!(example("last-try.req"), exact::planned_after(PROGRAM_TRIES));
+    assert_eq!(
+        example("last-try.req"),
+        given_tries::planned_after(PROGRAM_TRIES)
+    );
     assert_eq!(example("long-search.req"), sheet::pigeons(11, 10, 0));
     assert_eq!(example("long-search.txt"), b"refused 23\n");
 }

@@ -4,12 +4,13 @@
 mod common;
 
 use bus_tests::bus::{ENTRIES_LEN, STATE_LEN, TRIES_LEN};
-use bus_tests::call::{compare, Call};
-use bus_tests::exact;
+use bus_tests::call::Call;
+use bus_tests::compare::compare;
+use bus_tests::comparison::MOST_TRIES;
+use bus_tests::given_tries;
 use bus_tests::reference::cycle::Cycle;
 use bus_tests::reference::table::{encode, of_plan};
 use bus_tests::reference::{planned, read_cycle, tries_within};
-use bus_tests::rounds::MOST_TRIES;
 use bus_tests::sheet::{self, request, silent_request, Short};
 use common::{subject, tell_cut};
 
@@ -22,12 +23,8 @@ fn same(call: &Call) -> i32 {
 
 /// Plans with so many tries allowed and this much room.
 fn plans_within(request: &[u8], allowance: u64, room: usize) -> i32 {
-    same(&Call::Plan {
-        request: request.to_vec(),
-        allowance,
-        out: vec![0x3C; room],
-        tries: vec![0x3C; TRIES_LEN],
-    })
+    let (out, tries) = (vec![0x3C; room], [0x3C; TRIES_LEN]);
+    same(&Call::plan(request, allowance, &out, &tries))
 }
 
 /// How many requests were planned, refused, and planned with fewer tries allowed than they need.
@@ -54,19 +51,14 @@ impl Counts {
         }
         if let Ok(table) = planned(&request) {
             let table = encode(&table);
-            assert_eq!(same(&Call::Check { request, table }), 0);
+            assert_eq!(same(&Call::check(&request, &table)), 0);
         }
     }
 
     /// Plans, and reports to a fresh state.
     fn read_alike(&mut self, request: Vec<u8>) {
         self.plans_alike(request.clone());
-        same(&Call::Report {
-            request,
-            task: 0,
-            ticks: 3,
-            state: fresh(),
-        });
+        same(&Call::report(&request, 0, 3, &fresh()));
     }
 
     fn tell(&self, what: &str) {
@@ -134,8 +126,8 @@ fn every_allowance() {
         sheet::p6(),
         sheet::p11(),
         sheet::pigeons(6, 5, 0),
-        exact::refused_after(700),
-        exact::planned_after(700),
+        given_tries::refused_after(700),
+        given_tries::planned_after(700),
     ];
     for request in requests {
         let full = tries_within(&request, MOST_TRIES).expect("the search is short");
@@ -173,10 +165,7 @@ fn every_length_of_every_short_task() {
                 let request = request(&[(1, t, d, p), (1, other, other, 0)], &[]);
                 let cycle = read_cycle(&request).expect("within the limits");
                 for f in (1..=cycle.h).filter(|f| cycle.h % f == 0) {
-                    let call = Call::Check {
-                        request: request.clone(),
-                        table: early_table(&cycle, f),
-                    };
+                    let call = Call::check(&request, &early_table(&cycle, f));
                     refused += i32::from(same(&call) == -13);
                 }
             }
@@ -239,22 +228,11 @@ fn every_byte_of_a_table() {
     for request in [sheet::p1(), sheet::p3(), sheet::p6(), sheet::p7(), silent] {
         let table = encode(&planned(&request).expect("it has a table"));
         for changed in every_byte(&table) {
-            same(&Call::Check {
-                request: request.clone(),
-                table: changed.clone(),
-            });
-            same(&Call::Rewrite {
-                request: request.clone(),
-                table: changed.clone(),
-                out: vec![0x3C; table.len()],
-            });
+            same(&Call::check(&request, &changed));
+            same(&Call::rewrite(&request, &changed, &vec![0x3C; table.len()]));
             let mut state = fresh();
             state[0] = changed[1] % 4;
-            same(&Call::NextFrame {
-                table: changed,
-                state,
-                entries: vec![0x3C; ENTRIES_LEN],
-            });
+            same(&Call::next_frame(&changed, &state, &[0x3C; ENTRIES_LEN]));
         }
     }
 }
@@ -263,16 +241,7 @@ fn every_byte_of_a_table() {
 fn every_byte_of_a_state() {
     let table = encode(&planned(&sheet::p3()).expect("it has a table"));
     for state in every_byte(&fresh()) {
-        same(&Call::NextFrame {
-            table: table.clone(),
-            state: state.clone(),
-            entries: vec![0x3C; ENTRIES_LEN],
-        });
-        same(&Call::Report {
-            request: sheet::p3(),
-            task: 1,
-            ticks: 3,
-            state,
-        });
+        same(&Call::next_frame(&table, &state, &[0x3C; ENTRIES_LEN]));
+        same(&Call::report(&sheet::p3(), 1, 3, &state));
     }
 }

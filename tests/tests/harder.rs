@@ -5,12 +5,12 @@ mod common;
 
 use bus_tests::bus::{Bus, TRIES_LEN};
 use bus_tests::call::hex;
-use bus_tests::exact;
+use bus_tests::comparison::MOST_TRIES;
 use bus_tests::generate;
+use bus_tests::given_tries;
 use bus_tests::plain;
 use bus_tests::random::Random;
 use bus_tests::reference::PROGRAM_TRIES;
-use bus_tests::rounds::MOST_TRIES;
 use bus_tests::sheet;
 use common::{subject, tell_cut};
 
@@ -89,7 +89,10 @@ fn the_last_try() {
         2 * MOST_TRIES
     };
     for tries in [allowed - 1, allowed, allowed + 1] {
-        let (with, without) = (exact::planned_after(tries), exact::refused_after(tries));
+        let (with, without) = (
+            given_tries::planned_after(tries),
+            given_tries::refused_after(tries),
+        );
         let ended = tries > allowed;
         assert_eq!(plans_alike(&with, allowed) == -23, ended, "{tries}");
         assert!(plans_alike(&with, tries) > 0, "{tries}");

@@ -4,7 +4,8 @@
 mod common;
 
 use bus_tests::bus::Bus;
-use bus_tests::call::{compare, Call};
+use bus_tests::call::Call;
+use bus_tests::compare::compare;
 use bus_tests::reference::request::{read, Request};
 use bus_tests::reference::Reference;
 use bus_tests::sheet::{self, request, silent_request, with_section, Short};
@@ -340,11 +341,7 @@ fn every_value_of_every_byte() {
 
 /// 1 if the two are joined and 0 if not, alike by the subject and the reference.
 fn files_of(first: &[u8], second: &[u8]) -> usize {
-    let call = Call::Join {
-        first: first.to_vec(),
-        second: second.to_vec(),
-        out: vec![0x3C; 50],
-    };
+    let call = Call::join(first, second, &[0x3C; 50]);
     let outcome = compare(subject(), &call).unwrap_or_else(|fault| panic!("{fault}"));
     usize::from(outcome.answer > 0)
 }

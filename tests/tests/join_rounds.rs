@@ -3,68 +3,38 @@
 
 mod common;
 
-use std::io::{stdout, Write};
-use std::thread;
-
 use bus_tests::bus::Bus;
-use bus_tests::by_reference;
-use bus_tests::joining;
+use bus_tests::comparison::{Seeded, Tally, MOST_TRIES};
 use bus_tests::reference::join::joined;
 use bus_tests::reference::request::{read, write};
 use bus_tests::reference::{read_cycle, Reference};
-use bus_tests::rounds::{Comparison, Tally, MOST_TRIES};
-use common::subject;
+use bus_tests::rounds::joining;
+use bus_tests::shams::Hunt;
+use common::{subject, tell};
 
-const SEEDS: [u64; 4] = [41, 42, 43, 44];
 const PAIRS: u64 = if cfg!(feature = "linked") { 6_000 } else { 600 };
 
-/// The comparison of so many pairs, which goes on while the answers are the same.
-fn rounds(subject: &dyn Bus, seed: u64, pairs: u64) -> (Tally, Result<(), String>) {
-    let mut comparison = Comparison::new(subject, seed);
-    while comparison.tally.requests < pairs {
-        if let Err(fault) = joining::round(&mut comparison) {
-            return (comparison.tally, Err(fault));
-        }
-    }
-    (comparison.tally, Ok(()))
-}
-
-fn compared(seed: u64) -> Tally {
-    let (tally, done) = rounds(subject(), seed, PAIRS);
-    println!("seed {seed}: {}", tally.summary());
-    if let Err(fault) = done {
-        panic!("seed {seed}, pair {}: {fault}", tally.requests);
-    }
-    for number in [0, 1, 2, 3, 4, 5, 17, 6, 18, 19, 20, 11] {
-        let count = tally.count("join", -number);
-        assert!(count >= PAIRS / 600, "{number} only {count} times");
-    }
+fn judge(tally: &Tally) {
+    tally.judge_variety(&["join"], PAIRS / 600);
     assert!(tally.count("join", 0) > tally.requests / 2, "few files");
     assert!(tally.count("plan", 0) > tally.requests / 20, "few tables");
-    tally
 }
 
 #[test]
 fn every_answer_and_byte_is_the_same() {
-    let (mut pairs, mut left_out) = (0, 0);
-    thread::scope(|scope| {
-        let running = SEEDS.map(|seed| scope.spawn(move || compared(seed)));
-        for seed in running {
-            let tally = seed.join().expect("no fault");
-            pairs += tally.requests;
-            left_out += tally.left_out;
-        }
-    });
-    let line = format!(
-        "joining: {pairs} pairs; {left_out} of the files planned up to {MOST_TRIES} tries, since their search is longer\n"
-    );
-    stdout()
-        .write_all(line.as_bytes())
-        .expect("a line is written");
+    let seeded = Seeded {
+        round: joining::round,
+        seeds: &[41, 42, 43, 44],
+        requests: PAIRS,
+    };
+    let tally = seeded.compare(subject(), judge);
+    tell(format!(
+        "joining: {} pairs; {} of the files planned up to {MOST_TRIES} tries, since their search is longer\n",
+        tally.requests, tally.left_out
+    ));
 }
 
-#[derive(Clone, Copy, Debug, PartialEq, Eq)]
-enum Lie {
+bus_tests::shams! {
     RaisesNoNumber,
     RaisesTheFirstNumberOnly,
     RaisesByThePairs,
@@ -85,31 +55,6 @@ enum Lie {
     WritesBeforeRefusing,
     AsksForOneByteMore,
 }
-
-const LIES: [Lie; 19] = [
-    Lie::RaisesNoNumber,
-    Lie::RaisesTheFirstNumberOnly,
-    Lie::RaisesByThePairs,
-    Lie::SecondFirst,
-    Lie::SecondsPairsFirst,
-    Lie::SecondsNumberFirst,
-    Lie::TwentyBeforeEighteen,
-    Lie::NineteenBeforeEighteen,
-    Lie::ElevenFirst,
-    Lie::JoinsAnySilence,
-    Lie::WritesAGOfZero,
-    Lie::CutsAtSixteen,
-    Lie::SixteenTasksAreTooMany,
-    Lie::DropsAPairThatStandsTwice,
-    Lie::JudgesTheCycle,
-    Lie::TakesBytesBehind,
-    Lie::WritesBehindTheFile,
-    Lie::WritesBeforeRefusing,
-    Lie::AsksForOneByteMore,
-];
-
-/// The reference with one lie about joining.
-struct Sham(Lie);
 
 impl Sham {
     /// The number that the lie gives in place of the reference's.
@@ -233,14 +178,14 @@ impl Bus for Sham {
             },
         }
     }
-
-    by_reference!(plan, check, rewrite, fresh, next_frame, report, one_off);
 }
 
 #[test]
 fn every_lie_is_caught() {
-    for lie in LIES {
-        let (_, done) = rounds(&Sham(lie), 45, 2_000);
-        assert!(done.is_err(), "{lie:?} was not caught");
-    }
+    let hunt = Hunt {
+        round: joining::round,
+        seed: 45,
+        requests: 2_000,
+    };
+    hunt.catches(19, Sham);
 }

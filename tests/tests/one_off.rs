@@ -3,8 +3,8 @@
 
 mod common;
 
-use bus_tests::bus::Asked;
-use bus_tests::call::{compare, Call};
+use bus_tests::call::Call;
+use bus_tests::compare::compare;
 use bus_tests::reference::read_cycle;
 use bus_tests::reference::table::decode;
 use bus_tests::sheet::{self, request, silent_request};
@@ -30,14 +30,9 @@ impl Planned {
 
 fn answers(request: &[u8], table: &[u8], three: (u32, u32, u32), expected: i32) {
     let (length, from, until) = three;
-    let asked = Asked {
-        length,
-        from,
-        until,
-    };
     for (name, bus) in subjects() {
-        let answer = bus.one_off(request, table, asked);
-        assert_eq!(answer, expected, "{name}: {asked:?}");
+        let answer = bus.one_off(request, table, length, from, until);
+        assert_eq!(answer, expected, "{name}: {three:?}");
     }
 }
 
@@ -264,18 +259,9 @@ fn everything_that_may_be_asked() {
 #[test]
 fn every_value_of_every_byte() {
     let planned = p1();
-    let asked = Asked {
-        length: 5,
-        from: 15,
-        until: 80,
-    };
     let mut found = 0;
     let mut made = |request: Vec<u8>, table: Vec<u8>| {
-        let call = Call::OneOff {
-            request,
-            table,
-            asked,
-        };
+        let call = Call::one_off(&request, &table, 5, 15, 80);
         let outcome = compare(subject(), &call).unwrap_or_else(|fault| panic!("{fault}"));
         found += u64::from(outcome.answer >= 0);
     };

@@ -3,65 +3,41 @@
 
 mod common;
 
-use std::thread;
-
-use bus_tests::bus::{Asked, Bus, ENTRIES_LEN, STATE_LEN};
-use bus_tests::by_reference;
+use bus_tests::bus::{Bus, ENTRIES_LEN, STATE_LEN};
+use bus_tests::comparison::{Seeded, Tally, MOST_TRIES};
 use bus_tests::generate;
-use bus_tests::one_off::{self, asked};
 use bus_tests::random::Random;
 use bus_tests::reference::cycle::Cycle;
-use bus_tests::reference::one_off::in_plan;
+use bus_tests::reference::one_off::{in_plan, Asked};
 use bus_tests::reference::table::{decode, encode, Table};
 use bus_tests::reference::{check, planned, read_cycle, tries_within, Reference};
-use bus_tests::rounds::{Comparison, Tally, MOST_TRIES};
+use bus_tests::rounds::one_off::{self, asked};
+use bus_tests::shams::Hunt;
 use common::{subject, tell_left_out};
 
-const SEEDS: [u64; 4] = [61, 62, 63, 64];
 const REQUESTS: u64 = if cfg!(feature = "linked") { 2_000 } else { 300 };
 
-/// The comparison of so many requests, which goes on while the answers are the same; and how many
-/// of the frames answered are of the second cycle.
-fn rounds(subject: &dyn Bus, seed: u64, requests: u64) -> (Tally, Result<u64, String>) {
-    let mut comparison = Comparison::new(subject, seed);
-    let mut of_the_second = 0;
-    while comparison.tally.requests < requests {
-        match one_off::round(&mut comparison) {
-            Ok(more) => of_the_second += more,
-            Err(fault) => return (comparison.tally, Err(fault)),
-        }
-    }
-    (comparison.tally, Ok(of_the_second))
-}
-
-fn compared(seed: u64) -> Tally {
-    let (tally, done) = rounds(subject(), seed, REQUESTS);
-    println!("seed {seed}: {}", tally.summary());
-    let of_the_second = match done {
-        Ok(count) => count,
-        Err(fault) => panic!("seed {seed}, request {}: {fault}", tally.requests),
-    };
-    for number in [1, 2, 3, 4, 5, 17, 6, 7, 8, 12, 13, 14, 21, 22] {
-        let count = tally.count("one_off", -number);
-        assert!(count >= REQUESTS / 100, "{number} only {count} times");
-    }
+fn judge(tally: &Tally) {
+    tally.judge_variety(&["one_off"], REQUESTS / 100);
     assert!(tally.count("one_off", 0) > tally.calls / 8, "few frames");
-    assert!(of_the_second > tally.calls / 20, "few of the second cycle");
-    tally
+    let second = tally.second_cycle;
+    assert!(second > tally.calls / 20, "few of the second cycle");
 }
 
 #[test]
 fn every_answer_is_the_same() {
-    let (mut requests, mut left_out) = (0, 0);
-    thread::scope(|scope| {
-        let running = SEEDS.map(|seed| scope.spawn(move || compared(seed)));
-        for seed in running {
-            let tally = seed.join().expect("no fault");
-            requests += tally.requests;
-            left_out += tally.left_out;
-        }
-    });
-    tell_left_out("one-off transfers", requests, left_out, MOST_TRIES);
+    let seeded = Seeded {
+        round: one_off::round,
+        seeds: &[61, 62, 63, 64],
+        requests: REQUESTS,
+    };
+    let tally = seeded.compare(subject(), judge);
+    tell_left_out(
+        "one-off transfers",
+        tally.requests,
+        tally.left_out,
+        MOST_TRIES,
+    );
 }
 
 /// A request with a plan: its bytes, its cycle, a table and the frames of its jobs.
@@ -113,16 +89,17 @@ fn the_extra_transfer_ends_in_its_frame() {
         let (bytes, f, g) = (encode(&table), table.f, cycle.request.g);
         for _ in 0..8 {
             let asked = asked(&mut rng, &request, &bytes);
-            let frame = subject().one_off(&request, &bytes, asked);
+            let (length, from, until) = (asked.length, asked.from, asked.until);
+            let frame = subject().one_off(&request, &bytes, length, from, until);
             if frame < 0 {
                 continue;
             }
             sent += 1;
             let begin = i64::from(frame) * f;
             let start = behind(&mut rng, &cycle, &served(&bytes, frame), begin);
-            let end = start + i64::from(asked.length);
-            assert!(start >= i64::from(asked.from), "{asked:?}");
-            assert!(end <= i64::from(asked.until), "{asked:?}");
+            let end = start + i64::from(length);
+            assert!(start >= i64::from(from), "{asked:?}");
+            assert!(end <= i64::from(until), "{asked:?}");
             assert!(end + g <= begin + f, "{asked:?}");
             to_the_tick += u64::from(end + g == begin + f);
         }
@@ -164,8 +141,7 @@ fn the_reference_itself() {
     }
 }
 
-#[derive(Clone, Copy, Debug, PartialEq, Eq)]
-enum Lie {
+bus_tests::shams! {
     CarriedFreeAtFirst,
     ForgetsSilenceAfterIt,
     ForgetsSilenceOfOthers,
@@ -184,29 +160,6 @@ enum Lie {
     LengthWraps,
     PassesEveryTable,
 }
-
-const LIES: [Lie; 17] = [
-    Lie::CarriedFreeAtFirst,
-    Lie::ForgetsSilenceAfterIt,
-    Lie::ForgetsSilenceOfOthers,
-    Lie::FirstCycleOnly,
-    Lie::AnswersTheRow,
-    Lie::TwentyTwoFirst,
-    Lie::TakesTheLatest,
-    Lie::TakesTheEmptiest,
-    Lie::StartsWithinFrames,
-    Lie::EndsWithinFrames,
-    Lie::LeavesOneTick,
-    Lie::FillsOneTickMore,
-    Lie::TakesAnyEnd,
-    Lie::RefusesEqualTicks,
-    Lie::TakesLengthZero,
-    Lie::LengthWraps,
-    Lie::PassesEveryTable,
-];
-
-/// The reference with one lie about one-off transfers.
-struct Sham(Lie);
 
 impl Sham {
     fn badly_asked(&self, h: i64, asked: Asked) -> bool {
@@ -285,7 +238,7 @@ impl Sham {
 }
 
 impl Bus for Sham {
-    fn one_off(&self, request: &[u8], table: &[u8], asked: Asked) -> i32 {
+    fn one_off(&self, request: &[u8], table: &[u8], length: u32, from: u32, until: u32) -> i32 {
         let number = Reference.check(request, table);
         let passes = self.0 == Lie::PassesEveryTable && number == -14;
         if number < 0 && !passes {
@@ -294,19 +247,24 @@ impl Bus for Sham {
         let cycle = read_cycle(request).expect("it was checked");
         let read = decode(table).expect("it was checked");
         let plan = check::plan_in(&cycle, &read).unwrap_or_default();
+        let asked = Asked {
+            length,
+            from,
+            until,
+        };
         match self.answer(&cycle, read.f, &plan, asked) {
             Ok(frame) => frame as i32,
             Err(number) => -number,
         }
     }
-
-    by_reference!(plan, check, rewrite, fresh, next_frame, report, join);
 }
 
 #[test]
 fn every_lie_is_caught() {
-    for lie in LIES {
-        let (_, done) = rounds(&Sham(lie), 67, 2_000);
-        assert!(done.is_err(), "{lie:?} was not caught");
-    }
+    let hunt = Hunt {
+        round: one_off::round,
+        seed: 67,
+        requests: 2_000,
+    };
+    hunt.catches(17, Sham);
 }

@@ -11,15 +11,15 @@ use std::thread;
 use std::time::Duration;
 
 use bus_tests::call::hex;
-use bus_tests::exact;
+use bus_tests::comparison::MOST_TRIES;
 use bus_tests::generate;
+use bus_tests::given_tries;
 use bus_tests::plain;
 use bus_tests::programs::{command, fed, given};
 use bus_tests::random::Random;
 use bus_tests::reference::printed::{by_check_table, by_planners, by_planning, Printed};
 use bus_tests::reference::table::{decode, encode, Table};
 use bus_tests::reference::{planned, tries_within, PROGRAM_TRIES};
-use bus_tests::rounds::MOST_TRIES;
 use bus_tests::sheet;
 
 const SEED: u64 = 51;
@@ -249,10 +249,10 @@ fn planned_plainly(request: &[u8]) -> Result<Table, i32> {
 #[test]
 fn programs_allow_so_many_tries() {
     for (request, refused) in [
-        (exact::planned_after(PROGRAM_TRIES), None),
-        (exact::refused_after(PROGRAM_TRIES), Some(10)),
-        (exact::planned_after(PROGRAM_TRIES + 1), Some(23)),
-        (exact::refused_after(PROGRAM_TRIES + 1), Some(23)),
+        (given_tries::planned_after(PROGRAM_TRIES), None),
+        (given_tries::refused_after(PROGRAM_TRIES), Some(10)),
+        (given_tries::planned_after(PROGRAM_TRIES + 1), Some(23)),
+        (given_tries::refused_after(PROGRAM_TRIES + 1), Some(23)),
         (sheet::pigeons(11, 10, 0), Some(23)),
         (sheet::pigeons(16, 15, 0), Some(23)),
     ] {

@@ -4,6 +4,7 @@ mod common;
 
 use bus_tests::bus::Bus;
 use bus_tests::call::hex;
+use bus_tests::comparison::MOST_TRIES;
 use bus_tests::generate;
 use bus_tests::plain;
 use bus_tests::random::Random;
@@ -16,7 +17,7 @@ use bus_tests::reference::search::{
 use bus_tests::reference::table::{decode, encode, of_plan};
 use bus_tests::reference::tries::{within, Tests};
 use bus_tests::reference::{planned, planned_within, read_cycle, tries_within, Reference};
-use bus_tests::rounds::{allowances, MOST_TRIES};
+use bus_tests::rounds::planning::allowances;
 use common::tell_cut;
 
 fn random_cycles(seed: u64, count: usize) -> Vec<Cycle> {

@@ -3,7 +3,6 @@
 mod common;
 
 use bus_tests::bus::{count_bytes, Bus, STATE_USED, TASKS};
-use bus_tests::by_reference;
 use bus_tests::random::Random;
 use bus_tests::reference::cycle::{self, Cycle, Job};
 use bus_tests::reference::model::{plausible_lengths, window};
@@ -11,12 +10,12 @@ use bus_tests::reference::request::{self, Task};
 use bus_tests::reference::search::{plan_of_length, Direction, Effort, Found};
 use bus_tests::reference::table::{decode, encode, of_plan};
 use bus_tests::reference::{planned, read_cycle, Reference};
-use bus_tests::rounds::Comparison;
+use bus_tests::rounds::planning;
+use bus_tests::shams::Hunt;
 use bus_tests::sheet;
 use bus_tests::simulate::{fly_long, fly_many, Flight};
 
-#[derive(Clone, Copy, Debug, PartialEq, Eq)]
-enum Lie {
+bus_tests::shams! {
     TenForAll,
     NineForTen,
     TenBeforeElevenFirst,
@@ -73,67 +72,6 @@ enum Lie {
     PhaseModuloTheFrame,
     TwoFramesAtPhaseZero,
 }
-
-const LIES: [Lie; 55] = [
-    Lie::TenForAll,
-    Lie::NineForTen,
-    Lie::TenBeforeElevenFirst,
-    Lie::OneTableForAll,
-    Lie::ClipsWindowsAtH,
-    Lie::StopsAtFirstPlausible,
-    Lie::TakesSmallestLength,
-    Lie::TakesLatestFrames,
-    Lie::ForgetsPairs,
-    Lie::LooksOneWayAtPairs,
-    Lie::ComparesRowsOfPairs,
-    Lie::ForgetsCarriedLoad,
-    Lie::OverfillsRows,
-    Lie::WritesBehindTheTable,
-    Lie::WritesBeforeRefusing,
-    Lie::AsksForOneByteMore,
-    Lie::IgnoresBytesBehindRequest,
-    Lie::PassesEveryTable,
-    Lie::PassesNoTable,
-    Lie::PassesOnlyTheChosenTable,
-    Lie::IgnoresCarryBits,
-    Lie::FourteenBeforeThirteen,
-    Lie::RewritesTheChosenTable,
-    Lie::NeverMovesTheRow,
-    Lie::ServesEmptyFramesLater,
-    Lie::ServesCarriedInFirstCycle,
-    Lie::NeverClearsTheMark,
-    Lie::LeavesUnusedPlaces,
-    Lie::ClearsFreeBytes,
-    Lie::RefusesNoMark,
-    Lie::ReportsChangeNothing,
-    Lie::CountsEveryReport,
-    Lie::CountsTicksEqualToC,
-    Lie::CountWraps,
-    Lie::RaisesTheNextCount,
-    Lie::RaisesAllCounts,
-    Lie::OneLimitForAllCounts,
-    Lie::ClearsCountsWithTheCycle,
-    Lie::ReportJudgesTheCycle,
-    Lie::TicksCutTo16Bits,
-    Lie::FreshForgetsTheMark,
-    Lie::ForgetsSilentTicks,
-    Lie::SilenceInLengthsOnly,
-    Lie::SilenceInCapacityOnly,
-    Lie::NoSilenceAfterTheLast,
-    Lie::SilenceBeforeTheDeadline,
-    Lie::CheckForgetsSilentTicks,
-    Lie::SixBeforeSeventeen,
-    Lie::TakesAnyG,
-    Lie::ZeroIsNoSection,
-    Lie::ReportAllowsSilence,
-    Lie::PlansWithoutThePhase,
-    Lie::ChecksWithoutThePhase,
-    Lie::PhaseModuloTheFrame,
-    Lie::TwoFramesAtPhaseZero,
-];
-
-/// The reference with one lie.
-struct Sham(Lie);
 
 fn put(bytes: &[u8], out: &mut [u8]) -> i32 {
     if out.len() < bytes.len() {
@@ -604,8 +542,6 @@ impl Bus for Sham {
         }
         answer
     }
-
-    by_reference!(join, one_off);
 }
 
 /// One more in the count of a task, up to 65,535.
@@ -617,14 +553,12 @@ fn raise(state: &mut [u8], task: usize) {
 
 #[test]
 fn the_comparison_catches_every_sham() {
-    for lie in LIES {
-        let sham = Sham(lie);
-        let mut comparison = Comparison::new(&sham, 21);
-        let caught = comparison.rounds(6_000).is_err();
-        let after = comparison.tally.requests;
-        println!("{lie:?} caught after {after} requests");
-        assert!(caught, "{lie:?} was not caught in {after} requests");
-    }
+    let hunt = Hunt {
+        round: planning::round,
+        seed: 21,
+        requests: 6_000,
+    };
+    hunt.catches(55, Sham);
 }
 
 /// A flight needs no reference answer to see these.
@@ -677,8 +611,6 @@ impl Bus for Careless {
     fn check(&self, request: &[u8], table: &[u8]) -> i32 {
         Sham(Lie::PassesEveryTable).check(request, table)
     }
-
-    by_reference!(rewrite, fresh, next_frame, report, join, one_off);
 }
 
 #[test]

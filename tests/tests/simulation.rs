@@ -3,7 +3,7 @@
 
 mod common;
 
-use bus_tests::rounds::MOST_TRIES;
+use bus_tests::comparison::MOST_TRIES;
 use bus_tests::sheet;
 use bus_tests::simulate::{fly_long, fly_many};
 use common::{subject, tell_left_out};

@@ -1,9 +1,16 @@
 //! Every call in a thread with a stack of 256 KiB; an overflow ends the whole run.
 #![cfg(feature = "linked")]
 
-use bus_tests::bus::{Asked, Bus, TRIES_LEN};
+use bus_tests::bus::{ENTRIES_LEN, STATE_LEN, TRIES_LEN};
+use bus_tests::call::{Call, Outcome};
+use bus_tests::compare::expected;
+use bus_tests::comparison::Comparison;
+use bus_tests::fuzzer::Fuzzer;
+use bus_tests::lending::run;
 use bus_tests::library::Library;
-use bus_tests::reference::{tries_within, Reference};
+use bus_tests::reference::planned_within;
+use bus_tests::reference::table::encode;
+use bus_tests::rounds;
 use bus_tests::sheet::{self, request, silent_request};
 
 const STACK: usize = 256 * 1024;
@@ -28,44 +35,64 @@ fn deep_requests() -> Vec<Vec<u8>> {
     ]
 }
 
-fn all_calls(request: &[u8]) {
-    let (mut table, mut again) = (vec![0; 600], vec![0; 600]);
-    let length = Library.plan_freely(request, &mut table);
-    assert!(length > 0, "{length}");
-    let full = tries_within(request, u64::MAX).expect("no search is that long");
-    let mut tries = [0; TRIES_LEN];
-    let answer = Library.plan(request, full - 1, &mut again, &mut tries);
-    assert_eq!((answer, u64::from_le_bytes(tries)), (-23, full - 1));
-    table.truncate(length as usize);
-    assert_eq!(Library.check(request, &table), 0);
-    assert_eq!(Library.rewrite(request, &table, &mut again), length);
-    assert_eq!(again[..table.len()], table);
-    let (mut state, mut entries) = ([0; 64], [0; 32]);
-    assert_eq!(Library.fresh(&mut state), 0);
-    for _ in 0..300 {
-        assert!(Library.next_frame(&table, &mut state, &mut entries) >= 0);
-        assert_eq!(Library.report(request, 0, 1_000, &mut state), 0);
+/// Calls with the outcomes of the reference, which needs a longer stack.
+#[derive(Default)]
+struct Calls(Vec<(Call, Outcome)>);
+
+impl Calls {
+    fn add(&mut self, call: &Call) -> Result<Outcome, String> {
+        let outcome = expected(call)?;
+        self.0.push((call.clone(), outcome.clone()));
+        Ok(outcome)
     }
-    let (mut file, mut expected) = ([0; 164], [0; 164]);
-    for other in [request, &sheet::p1()] {
-        let answer = Reference.join(request, other, &mut expected);
-        assert_eq!(Library.join(request, other, &mut file), answer);
-        assert_eq!(file, expected);
+
+    /// Planning to the end and to the last try but one, and what can be done with the table.
+    fn add_deep(&mut self, request: &[u8]) -> Result<(), String> {
+        let (table, full) = planned_within(request, u64::MAX);
+        let table = encode(&table.expect("it has a table"));
+        let room = vec![0; table.len()];
+        self.add(&Call::plan(request, u64::MAX, &room, &[0; TRIES_LEN]))?;
+        self.add(&Call::plan(request, full - 1, &room, &[0; TRIES_LEN]))?;
+        self.add(&Call::check(request, &table))?;
+        self.add(&Call::rewrite(request, &table, &room))?;
+        self.add(&Call::join(request, &sheet::p1(), &[0; 164]))?;
+        for (length, from, until) in [(1, 0, 16), (1, 17, 80), (u32::MAX, 0, 32), (0, 0, 0)] {
+            self.add(&Call::one_off(request, &table, length, from, until))?;
+        }
+        let mut state = self.add(&Call::fresh(&[0; STATE_LEN]))?.buffers.remove(0);
+        for _ in 0..300 {
+            let served = self.add(&Call::next_frame(&table, &state, &[0; ENTRIES_LEN]))?;
+            let reported = self.add(&Call::report(request, 0, 1_000, &served.buffers[0]))?;
+            state = reported.buffers[0].clone();
+        }
+        Ok(())
     }
-    for (length, from, until) in [(1, 0, 16), (1, 17, 80), (u32::MAX, 0, 32), (0, 0, 0)] {
-        let asked = Asked {
-            length,
-            from,
-            until,
-        };
-        let answer = Reference.one_off(request, &table, asked);
-        assert_eq!(Library.one_off(request, &table, asked), answer);
+
+    /// The calls of some rounds of each kind, and some that the fuzzer draws.
+    fn add_any(&mut self) -> Result<(), String> {
+        for round in rounds::ALL {
+            let judge = Box::new(|call: &Call| self.add(call));
+            Comparison::judged_by(judge, 51).rounds(round, 40)?;
+        }
+        let mut fuzzer = Fuzzer::new(51);
+        (0..2_000).try_for_each(|_| self.add(&fuzzer.call()).map(|_| ()))
     }
 }
 
 #[test]
-fn a_small_stack_is_enough() {
+fn a_small_stack_is_enough() -> Result<(), String> {
+    let mut calls = Calls::default();
+    for request in deep_requests() {
+        calls.add_deep(&request)?;
+    }
+    calls.add_any()?;
+    let work = move || {
+        for (call, outcome) in calls.0 {
+            let actual = run(&Library, &call);
+            assert_eq!(actual, Ok(outcome), "{}", call.describe());
+        }
+    };
     let thread = std::thread::Builder::new().stack_size(STACK);
-    let work = || deep_requests().iter().for_each(|bytes| all_calls(bytes));
     thread.spawn(work).unwrap().join().unwrap();
+    Ok(())
 }

@@ -4,7 +4,7 @@
 mod common;
 
 use bus_tests::bus::{Bus, TRIES_LEN};
-use bus_tests::by_reference;
+use bus_tests::comparison::MOST_TRIES;
 use bus_tests::generate;
 use bus_tests::random::Random;
 use bus_tests::reference::cycle::Job;
@@ -12,7 +12,8 @@ use bus_tests::reference::model::window;
 use bus_tests::reference::request::{read, write};
 use bus_tests::reference::tries::{Test, Tests};
 use bus_tests::reference::{read_cycle, tries_within, Reference};
-use bus_tests::rounds::{Comparison, MOST_TRIES};
+use bus_tests::rounds::planning;
+use bus_tests::shams::Hunt;
 use bus_tests::sheet::{self, request};
 use common::{plan, subjects, table};
 
@@ -185,9 +186,7 @@ fn pairs_of_transfers_that_are_alike() {
     );
 }
 
-#[derive(Clone, Copy, Debug, PartialEq, Eq)]
-enum Lie {
-    None,
+bus_tests::shams! {
     FramesPassedOverAreNoTries,
     FullFramesAreNoTries,
     FramesThatBreakAPairAreNoTries,
@@ -222,45 +221,6 @@ enum Lie {
     NinetyNineBehindTheRequest,
     WritesTheTableOfAnEndedSearch,
 }
-
-const LIES: [Lie; 33] = [
-    Lie::FramesPassedOverAreNoTries,
-    Lie::FullFramesAreNoTries,
-    Lie::FramesThatBreakAPairAreNoTries,
-    Lie::CountsAnewForEachLength,
-    Lie::AllowsAnewForEachLength,
-    Lie::CountsTheRestOfTheWindow,
-    Lie::CountsJobs,
-    Lie::EndsWithTheLastTry,
-    Lie::AllowsOneMore,
-    Lie::NoneAllowedIsNoLimit,
-    Lie::TenWhenTheTriesAreUsedUp,
-    Lie::ElevenBeforeTwentyThree,
-    Lie::TwentyThreeBeforeNine,
-    Lie::TwentyThreeForTablesOnly,
-    Lie::TwentyThreeForTenOnly,
-    Lie::NoCountWithTwentyThree,
-    Lie::FullCountWithTwentyThree,
-    Lie::AllowanceWithEleven,
-    Lie::NoCountWithEleven,
-    Lie::NoCountWithTen,
-    Lie::AllowanceWithTables,
-    Lie::CountsNothingOfARefusal,
-    Lie::CountsATryOfNine,
-    Lie::AllowanceCutTo32Bits,
-    Lie::CountCutToAByte,
-    Lie::WritesFourBytes,
-    Lie::HighByteFirst,
-    Lie::ClearsTheRestOfTheBuffer,
-    Lie::AsksForNineBytes,
-    Lie::TakesFourBytes,
-    Lie::WritesWhatFits,
-    Lie::NinetyNineBehindTheRequest,
-    Lie::WritesTheTableOfAnEndedSearch,
-];
-
-/// The reference with one lie about tries.
-struct Sham(Lie);
 
 /// The tests of a request's search, as far as they are looked at here.
 fn tests(request: &[u8]) -> Vec<Test> {
@@ -411,30 +371,14 @@ impl Bus for Sham {
         self.put(count, answer, tries);
         answer
     }
-
-    by_reference!(check, rewrite, fresh, next_frame, report, join, one_off);
-}
-
-/// Rounds of comparison with the tool; how many requests there were, and the fault if one was found.
-fn compared(lie: Lie, requests: u64) -> (u64, Result<(), String>) {
-    let sham = Sham(lie);
-    let mut comparison = Comparison::new(&sham, 61);
-    let done = comparison.rounds(requests);
-    (comparison.tally.requests, done)
 }
 
 #[test]
 fn the_comparison_catches_every_sham() {
-    for lie in LIES {
-        let (after, done) = compared(lie, 2_000);
-        println!("{lie:?} after {after} requests: {done:?}");
-        assert!(done.is_err(), "{lie:?} was not caught in {after} requests");
-    }
-}
-
-/// What is caught is the lie: the same tool without one passes.
-#[test]
-fn the_tool_without_a_lie_passes() {
-    let (_, done) = compared(Lie::None, 300);
-    assert_eq!(done, Ok(()));
+    let hunt = Hunt {
+        round: planning::round,
+        seed: 61,
+        requests: 2_000,
+    };
+    hunt.catches(33, Sham);
 }

@@ -1,14 +1,15 @@
+-- replies and states
 pub mod Reply
 pub mod ReplyLaws
 pub mod State
 pub mod StateLaws
-pub mod Calls
-pub mod CallLaws
+-- requests
+pub mod Join
+-- tables
 pub mod Plan
-pub mod Tries
+pub mod Check
 pub mod Rewrite
 pub mod OneOff
-pub mod RoundTrip
-pub mod Changed
-pub mod Answered
-pub mod Join
+-- dispatch
+pub mod Dispatch
+pub mod DispatchLaws

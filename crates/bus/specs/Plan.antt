@@ -9,6 +9,8 @@ use lib.Dec.{ltb}
 use borrow.Author.Tests.{lt-ltb, le-ltb}
 use Rattle.cursor.specs.Choice.{pick}
 use Rattle.cursor.specs.Pieces.{PartWay, part-start, part-end}
+use Rattle.cursor.specs.Written.{written-most}
+use Rattle.table.specs.Table.{encode}
 use Rattle.table.specs.Left.{less-one, none-left}
 use Rattle.planned_table.specs.Outcome.{Outcome, handed, refusal, outcomeAnswer, outcomeBuffer}
 use Rattle.planner.specs.Outcome.{outcomeWithin, searchedAnswer}
@@ -17,7 +19,6 @@ use Rattle.planner.specs.declared.Searched.{Searched}
 use Rattle.bus.specs.Reply.{refused, reply}
 use Rattle.bus.specs.ReplyLaws.{reply-refused, reply-value}
 use Rattle.bus.specs.StateLaws.{one-more}
-use Rattle.bus.specs.CallLaws.{written-few}
 
 -- a number in n bytes, low byte first
 unfoldable pub lowFirst : ℕ → ℕ → List ℕ
@@ -79,7 +80,7 @@ module _ (allowance : ℕ) (request out tries : List ℕ) where
     plan-few = rw is (go (outcomeWithin allowance request) (outcome-within-good allowance request))
       where
         go : (o : Outcome) → GoodOutcome o → outcomeAnswer o out .length < 65536
-        go (handed t) good = written-few t out (omega (arith, good .short))
+        go (handed t) good = omega (arith, written-most (encode t) out, good .short)
         go (refusal number) good = omega arith
 
     module _ (out′ tries′ : List ℕ) (left : out′ ≡ outcomeBuffer (outcomeWithin allowance request) out) (counted : tries′ ≡ lowFirst 8 (s .tries) ++ drop 8 tries) where

@@ -3,6 +3,7 @@ use Prim.Native.Nat.{ℕ}
 use lib.IntN.{ℤ, pos, negℤ}
 use lib.Dec.{eqb}
 use Rattle.cursor.specs.Choice.{pick}
+use Rattle.cursor.specs.declared.Written.{Written}
 
 abbrev pub refused : ℕ → ℤ
 refused number = negℤ (pos number)
@@ -10,6 +11,10 @@ refused number = negℤ (pos number)
 -- the refusal 0 is none
 unfoldable pub reply : ℕ → ℕ → ℤ
 reply refusal value = pick (eqb refusal 0) (pos value) (refused refusal)
+
+-- of a file, a table or a request, its length
+abbrev pub writtenReply : Written → ℤ
+writtenReply w = reply (w .refusal) (w .length)
 
 -- a buffer after a call: on a refusal it is as it was
 unfoldable pub after : {A : Type 0} → ℕ → A → A → A

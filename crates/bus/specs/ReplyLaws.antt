@@ -8,7 +8,8 @@ use lib.Signed.{mag}
 use mir.Syntax.{w32}
 use mir.Val.{SFits, toZ, ofZ, hbits}
 use mir.Facts.{toZ-ofZ, toZ-pos}
-use Rattle.bus.specs.Reply.{refused, reply, after}
+use Rattle.cursor.specs.declared.Written.{Written}
+use Rattle.bus.specs.Reply.{refused, reply, writtenReply, after}
 
 refused-fits : (n : ℕ) → n < 256 → SFits w32 (refused n)
 refused-fits zero h = record { sfits = omega arith }
@@ -38,6 +39,14 @@ module _ (number value : ℕ) where
   pub reply-value : number ≡ 0 → pos value ≡ reply number value
   unfolding reply
   reply-value h = rw (eq-eqb number 0 h)
+
+-- a writer's answer w
+module _ (w answer : Written) (e : w ≡ answer) where
+  pub written-refused : (w .refusal ≡ 0 → ⊥) → refused (w .refusal) ≡ writtenReply answer
+  written-refused h = reply-refused (w .refusal) (w .length) h ∙ ap writtenReply e
+
+  pub written-length : w .refusal ≡ 0 → pos (w .length) ≡ writtenReply answer
+  written-length h = reply-value (w .refusal) (w .length) h ∙ ap writtenReply e
 
 module _ {A : Type 0} (number : ℕ) (new old : A) where
   pub after-refusal : (number ≡ 0 → ⊥) → old ≡ after number new old

@@ -1,13 +1,12 @@
--- bus_rewrite: what it answers and leaves in the buffer, its two ways out, and that the length is small.
+-- bus_rewrite: what it answers and leaves in the buffer, and that the length is small.
 use Prim.Native.Nat.{ℕ, _<_}
-use mathlib.Core.Path.{_≡_, refl, ap, _∙_}
+use mathlib.Core.Path.{_≡_, refl}
 use mathlib.Core.List.{List}
 use native.Mathlib.Omega.{arith}
-use lib.IntN.{ℤ, pos}
-use lib.ListN.{length}
+use lib.IntN.{ℤ}
 use Rattle.cycle.specs.Cycle.{cycleOf}
-use Rattle.table.specs.Table.{decode}
-use Rattle.table.specs.declared.Written.{Written}
+use Rattle.table.specs.Table.{decode, encode}
+use Rattle.cursor.specs.Written.{written-most}
 use Rattle.model.specs.Plan.{Instance, IsPlan}
 use Rattle.model.specs.Good.{Good}
 use Rattle.model.specs.Within.{within-good}
@@ -18,12 +17,10 @@ use Rattle.checker.specs.Checked as checker
 use Rattle.checker.specs.Verdicts.{plan-read}
 use Rattle.rewriter.specs.Rewritten.{rewritten}
 use Rattle.rewriter.specs.RewriteLaws.{rewritten-plan, rewritten-refused}
-use Rattle.bus.specs.Reply.{refused, reply}
-use Rattle.bus.specs.ReplyLaws.{reply-refused, reply-value}
-use Rattle.bus.specs.CallLaws.{written-few}
+use Rattle.bus.specs.Reply.{writtenReply}
 
 unfoldable pub rewriteReply : List ℕ → List ℕ → List ℕ → ℤ
-rewriteReply request table out = reply (outcomeAnswer (rewritten request table) out .refusal) (outcomeAnswer (rewritten request table) out .length)
+rewriteReply request table out = writtenReply (outcomeAnswer (rewritten request table) out)
 
 unfoldable pub rewriteBuffer : List ℕ → List ℕ → List ℕ → List ℕ
 rewriteBuffer request table out = outcomeBuffer (rewritten request table) out
@@ -33,19 +30,10 @@ unfolding outcomeAnswer
 rewrite-few request bytes out = go (checker.checked (cycleOf request) (decode bytes)) refl
   where
     plan-few : (f : ℕ) (frames : List ℕ) (o : Outcome) (x : Instance) → Good x → IsPlan x f frames → o ≡ handed (planTable x f frames) → outcomeAnswer o out .length < 65536
-    plan-few f frames o x good plan e = rw e (written-few (planTable x f frames) out (omega (arith, plan-table-length x good f frames plan, plan .few-rows, good .few-jobs)))
+    plan-few f frames o x good plan e = rw e (omega (arith, written-most (encode (planTable x f frames)) out, plan-table-length x good f frames plan, plan .few-rows, good .few-jobs))
 
     go : (v : checker.Verdict) → checker.checked (cycleOf request) (decode bytes) ≡ v → outcomeAnswer (rewritten request bytes) out .length < 65536
     go (checker.accepted f frames) is =
         let p = plan-read request bytes f frames is in
         plan-few f frames (rewritten request bytes) (p .x) (within-good request (p .x) (p .within)) (p .is-plan) (rewritten-plan request bytes f frames is)
     go (checker.refusal n) is = rw (rewritten-refused request bytes n is) (omega arith)
-
-module _ (request bytes out : List ℕ) (w : Written) (e : w ≡ outcomeAnswer (rewritten request bytes) out) where
-  pub rewrite-refused : (w .refusal ≡ 0 → ⊥) → refused (w .refusal) ≡ rewriteReply request bytes out
-  unfolding rewriteReply
-  rewrite-refused h = reply-refused (w .refusal) (w .length) h ∙ ap (λ (x : Written). reply (x .refusal) (x .length)) e
-
-  pub rewrite-written : w .refusal ≡ 0 → pos (w .length) ≡ rewriteReply request bytes out
-  unfolding rewriteReply
-  rewrite-written h = reply-value (w .refusal) (w .length) h ∙ ap (λ (x : Written). reply (x .refusal) (x .length)) e

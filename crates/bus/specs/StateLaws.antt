@@ -1,11 +1,11 @@
 -- The lent bytes: when 64 are there, and what stores one behind the other come to.
-use Prim.Native.Nat.{ℕ, _+_, _*_, _-_, _%_, _/_, _≤_, _<_}
+use Prim.Native.Nat.{ℕ, _+_, _*_, _-_, _≤_, _<_}
 use mathlib.Core.Path.{_≡_, refl, ap, _∙_}
 use mathlib.Core.Bool.{Bool, true, false, false≢true}
 use mathlib.Core.List.{List, [], _∷_, _++_}
 use native.Mathlib.Omega.{arith}
 use lib.ListN.{length, getD, set, take, drop, length-append, length-replicate}
-use lib.Seq.{sets-eq, drop-drop, length-take-le}
+use lib.Seq.{sets, sets-eq, drop-drop, length-take-le}
 use lib.Dec.{ltb}
 use borrow.Author.Tests.{ltb-false, lt-ltb, le-ltb}
 use mir.Val.{boolByte}
@@ -39,7 +39,7 @@ mark-is false = refl
 
 -- three stores, and the counts behind them
 pub state-stored : (s : State) (bytes : List ℕ) → 64 ≤ length bytes
-    → let out = set (set (set bytes 0 (s .row % 256)) 1 (s .row / 256)) 2 (boolByte (s .first)) in
+    → let out = set (sets bytes 0 (wordBytes (s .row))) 2 (boolByte (s .first)) in
     take 3 out ++ countBytes (s .counts) 16 0 ++ drop 35 out ≡ stateBytes s bytes
 unfolding stateBytes wordBytes
 state-stored s bytes h =
@@ -110,13 +110,14 @@ module _ (counts old : List ℕ) where
   stored-start h = record { front = refl; back = refl; long = refl; room = omega arith }
 
   module _ (out : List ℕ) (i : ℕ) (so : CountsStored out i) where
-    pub stored-more : i < 16 → CountsStored (set (set out (3 + 2 * i) (getD counts i 0 % 256)) (4 + 2 * i) (getD counts i 0 / 256)) (i + 1)
+    pub stored-more : i < 16 → CountsStored (sets out (3 + 2 * i) (wordBytes (getD counts i 0))) (i + 1)
     unfolding countBytes wordBytes
     stored-more h =
-        let left : countBytes counts (16 - i) i ≡ (getD counts i 0 % 256) ∷ (getD counts i 0 / 256) ∷ countBytes counts (16 - (i + 1)) (i + 1) = rw (less-one 16 i h) in
-        let high : 4 + 2 * i ≡ 3 + 2 * i + 1 = omega arith in
+        let word = wordBytes (getD counts i 0) in
+        let left : countBytes counts (16 - i) i ≡ word ++ countBytes counts (16 - (i + 1)) (i + 1) = rw (less-one 16 i h) in
         let next : 3 + 2 * (i + 1) ≡ 3 + 2 * i + 2 = omega arith in
-        rw (high, next) (two-more countsPlaced old out (countBytes counts (16 - i) i) (3 + 2 * i) so (getD counts i 0 % 256) (getD counts i 0 / 256) _ left)
+        let stored = sets-eq word out (3 + 2 * i) (omega (arith, so .room, so .long, ap length left)) in
+        rw next (part-more countsPlaced old out (countBytes counts (16 - i) i) (3 + 2 * i) so word _ _ left stored)
 
     pub stored-end : 16 ≤ i → out ≡ countsPlaced ++ drop 35 old
     unfolding countBytes wordBytes

@@ -4,15 +4,16 @@ use mathlib.Core.Bool.{Bool, true, false}
 use mathlib.Core.List.{List, [], _∷_}
 use lib.ListN.{getD, replicate}
 use Rattle.cursor.specs.Padded.{padded}
+use Rattle.cycle.specs.declared.Cycle.{Cycle}
 use Rattle.table.specs.Table.{Entry, entryOf}
 use Rattle.checker.specs.Checked.{Verdict, accepted, refusal}
 use Rattle.checker.specs.declared.Read.{Read}
 use Rattle.checker.specs.declared.walk.Frames.{Frames}
 
--- the frame length and the frames, in 128 places; zeros on a refusal
-abbrev pub readAnswer : Verdict → Read
-readAnswer (accepted f frames) = record { refusal = 0; f = f; frames = padded 128 0 frames }
-readAnswer (refusal number) = record { refusal = number; f = 0; frames = replicate 128 0 }
+-- the cycle as it was read, the frame length and the frames, in 128 places; zeros for these on a refusal
+abbrev pub readAnswer : Cycle → Verdict → Read
+readAnswer c (accepted f frames) = record { refusal = 0; cycle = c; f = f; frames = padded 128 0 frames }
+readAnswer c (refusal number) = record { refusal = number; cycle = c; f = 0; frames = replicate 128 0 }
 
 -- the frames of all jobs, or that some job has none
 abbrev pub framesAnswer : Bool → List ℕ → Frames

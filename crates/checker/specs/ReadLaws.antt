@@ -93,7 +93,7 @@ module _ (c : Cycle) (few-jobs : c .count ≤ 128) where
 
         pub plan-read : entriesKept (firsts (c .count) 0 (read .frames)) ≡ true
             → rulesRight (instanceOf c) height f (firsts (min (c .count) 128) 0 (read .frames)) ≡ true
-            → record { refusal = 0; f = f; frames = read .frames } ≡ readAnswer (planOf (instanceOf c) f (rowsOf s height))
+            → record { refusal = 0; cycle = c; f = f; frames = read .frames } ≡ readAnswer c (planOf (instanceOf c) f (rowsOf s height))
         plan-read e q =
             let p : planOf (instanceOf c) f (rowsOf s height) ≡ accepted f framesOf
             = plan-is ∙ rw (← all-is, all, rw frames-first at e, rw (count-is, frames-first) at q) in
@@ -109,7 +109,7 @@ pub record Formed (bytes : List ℕ) (z : Sizes) : Type 0 where
 
 -- the request is refused
 pub request-refused : (request : List ℕ) (number : ℕ) (d : Decoded) → cycleOf request ≡ noCycle number
-    → readAnswer (refusal number) ≡ readAnswer (checked (cycleOf request) d)
+    → checked (cycleOf request) d ≡ refusal number
 unfolding checkedBy
 request-refused request number d e = rw e
 
@@ -163,6 +163,11 @@ module _ (request bytes : List ℕ) (c : Cycle) (z : Sizes) (w : Taken request c
     unfolding judgedBy
     rows-judged k e = judged-is ∙ rw (same-h, rw (o .f-is) at e, o .f-is, o .height-is, rows-in-bytes bytes (o .t) k (o .is))
 
-pub answer-number : (v : Verdict) → readAnswer v .refusal ≡ numberOf v
-answer-number (accepted f frames) = refl
-answer-number (refusal number) = refl
+module _ (c : Cycle) where
+  pub answer-number : (v : Verdict) → readAnswer c v .refusal ≡ numberOf v
+  answer-number (accepted f frames) = refl
+  answer-number (refusal number) = refl
+
+  pub answer-cycle : (v : Verdict) → readAnswer c v .cycle ≡ c
+  answer-cycle (accepted f frames) = refl
+  answer-cycle (refusal number) = refl

@@ -1,24 +1,29 @@
 -- What a verdict says: a plan was read from a table that describes it, and a refusal has a number.
 use Prim.Native.Nat.{ℕ, _≤_, _<_}
-use mathlib.Core.Path.{_≡_, refl}
+use mathlib.Core.Path.{_≡_, refl, sym, ap, _∙_}
 use mathlib.Core.Bool.{Bool, true, false}
 use mathlib.Core.List.{List}
 use native.Mathlib.Omega.{arith}
 use lib.ListN.{length}
 use lib.Dec.{eqb}
 use Rattle.cursor.specs.Choice.{pick, both}
+use Rattle.cursor.specs.Padded.{padded}
 use Rattle.cursor.specs.ParsedLaws.{never}
 use Rattle.cycle.specs.Cycle.{Cycle, cycle, noCycle, cycleOf}
+use Rattle.cycle.specs.Answers.{answered}
+use Rattle.cycle.specs.declared.Cycle as answer
 use Rattle.cycle.specs.LimitLaws.{no-cycle-number, request-number-pos, request-number-few}
 use Rattle.table.specs.Table.{Table, Decoded, table, malformed, decode}
 use Rattle.model.specs.Plan.{Instance, IsPlan}
 use Rattle.model.specs.Plausible.{plausible}
-use Rattle.model.specs.Answers.{instance}
-use Rattle.model.specs.Within.{Within}
+use Rattle.model.specs.Answers.{instance, instanceOf}
+use Rattle.model.specs.Within.{Within, Taken, read-within}
 use Rattle.model.specs.Described.{Describes}
 use Rattle.rules.specs.Rules.{rulesRight}
-use Rattle.checker.specs.Checked.{framesIn, entriesRight, accepted, refusal, planOf, judgedBy, checkedBy, checked}
+use Rattle.checker.specs.Checked.{framesIn, entriesRight, Verdict, accepted, refusal, planOf, judgedBy, checkedBy, checked}
 use Rattle.checker.specs.Accepts.{accepts-described}
+use Rattle.checker.specs.Answers.{readAnswer}
+use Rattle.checker.specs.declared.Read.{Read}
 
 pub record PlanRead (request bytes : List ℕ) (f : ℕ) (frames : List ℕ) : Type 0 where
   pub x : Instance
@@ -65,3 +70,37 @@ module _ (request bytes : List ℕ) where
           let frames = framesIn (t .rows) jobs in
           rules (t .f) frames (both (eqb (t .h) h) (plausible x (t .f)))
           (both (entriesRight x (t .rows) frames) (rulesRight x (length (t .rows)) (t .f) frames)) q
+
+-- What an answer without a refusal hands on: the cycle that was read, and a plan of it, which the table describes. Crates above go by this.
+pub record HandedOn (request bytes : List ℕ) (r : Read) : Type 0 where
+  pub taken : Taken request (r .cycle)
+  pub frames : List ℕ
+  pub frames-are : r .frames ≡ padded 128 0 frames
+  pub verdict : checked (cycleOf request) (decode bytes) ≡ accepted (r .f) frames
+  pub t : Table
+  pub read : decode bytes ≡ table t
+  pub is-plan : IsPlan (instanceOf (r .cycle)) (r .f) frames
+  pub describes : Describes (instanceOf (r .cycle)) (r .f) frames t
+
+module _ (request bytes : List ℕ) (r : Read) (e : r ≡ readAnswer (answered (cycleOf request)) (checked (cycleOf request) (decode bytes))) where
+  pub handed-on : r .refusal ≡ 0 → HandedOn request bytes r
+  handed-on z = go (checked (cycleOf request) (decode bytes)) refl e
+    where
+      go : (v : Verdict) → checked (cycleOf request) (decode bytes) ≡ v → r ≡ readAnswer (answered (cycleOf request)) v → HandedOn request bytes r
+      go (accepted f frames) is q =
+          let p = plan-read request bytes f frames is in
+          let same : r .cycle ≡ answered (cycleOf request) = ap (λ (y : Read). y .cycle) q in
+          let taken = read-within request (r .cycle) same (ap (λ (y : answer.Cycle). y .refusal) (same ∙ ap answered (p .within))) in
+          let verdict : checked (cycleOf request) (decode bytes) ≡ accepted (r .f) frames = is ∙ ap (λ (n : ℕ). accepted n frames) (sym (ap (λ (y : Read). y .f) q)) in
+          let right = accepts-described request bytes (instanceOf (r .cycle)) (p .t) (taken .within) (p .read) (r .f) frames .0 verdict in
+          record {
+            taken = taken;
+            frames = frames;
+            frames-are = ap (λ (y : Read). y .frames) q;
+            verdict = verdict;
+            t = p .t;
+            read = p .read;
+            is-plan = right .0;
+            describes = right .1;
+          }
+      go (refusal n) is q = absurd (omega (arith, refusal-number request bytes n is .0, ap (λ (y : Read). y .refusal) q))

@@ -51,8 +51,8 @@ fn find(table: &[u8], height: u16, job: Job) -> Place
         'entries: while e < n {
             let task = byte_or_zero(table, at);
             let byte = byte_or_zero(table, at + 1);
-            if rules::is_job(job, task, byte % 128) {
-                place = Place::At(row, 128 <= byte);
+            if rules::is_job(job, task, table::job::number(byte)) {
+                place = Place::At(row, table::job::is_carried(byte));
                 break 'rows;
             }
             at += 2;
@@ -135,8 +135,8 @@ fn row_kept(
     while e < n {
         let task = byte_or_zero(table, at);
         let byte = byte_or_zero(table, at + 1);
-        let k = frame(height, row, 128 <= byte);
-        if !is_there(jobs, frames, count, task, byte % 128, k) {
+        let k = frame(height, row, table::job::is_carried(byte));
+        if !is_there(jobs, frames, count, task, table::job::number(byte), k) {
             return false;
         }
         at += 2;

@@ -11,3 +11,4 @@ pub mod Padded
 pub mod RecordLaws
 pub mod Parts
 pub mod Pieces
+pub mod Written

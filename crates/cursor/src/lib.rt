@@ -1,6 +1,7 @@
-// A cursor over a byte string: it takes one field and gives itself on, one field further.
+// A cursor over a byte string: it takes one field and gives itself on, one field further. And a field put into a buffer.
 ghost use mathlib.Core.Path.{_≡_};
-ghost use Rattle.cursor.specs.Fields.{byteAt, wordAt};
+ghost use lib.Seq.{sets};
+ghost use Rattle.cursor.specs.Fields.{byteAt, wordAt, wordBytes};
 
 pub struct Cursor {
     pub at: usize,
@@ -14,6 +15,12 @@ pub enum ByteRead {
 pub enum WordRead {
     Word(u16, Cursor),
     NoWord,
+}
+
+// What a writer answers: the number of bytes written; or the number of the refusal, and 0.
+pub struct Written {
+    pub refusal: u8,
+    pub length: usize,
 }
 
 impl Cursor {
@@ -40,4 +47,18 @@ impl Cursor {
         };
         WordRead::Word((low as u16) + (high as u16) * 256, next)
     }
+}
+
+// A u16 into the two bytes from a place on. A byte behind the end is left out.
+pub fn put_word(out: &mut [u8], at: usize, w: u16)
+    ensures { λ r. ⌜ now (out .exit) ≡ sets (now (out .entry)) at (wordBytes w) ⌝ }
+{
+    if out.len() <= at {
+        return;
+    }
+    out[at] = (w % 256) as u8;
+    if out.len() <= at + 1 {
+        return;
+    }
+    out[at + 1] = (w / 256) as u8;
 }

@@ -3,13 +3,15 @@ use Prim.Native.Nat.{ℕ, _≤_, _<_, _∣_}
 use mathlib.Core.Path.{_≡_}
 use mathlib.Core.List.{List, map}
 use lib.ListN.{length, take, getD, replicate}
-use lib.Dec.{ltb}
+use lib.Dec.{ltb, eqb}
 use Rattle.cursor.specs.Choice.{pick}
 use Rattle.cursor.specs.Padded.{padded}
-use Rattle.request.specs.Request.{noTask, noPair, periodOf}
-use Rattle.request.specs.Readable.{TaskKept}
+use Rattle.request.specs.Request.{Reading, readable, unreadable, noTask, noPair, periodOf}
+use Rattle.request.specs.Answers as request
+use Rattle.request.specs.Readable.{TaskKept, KeptReading}
 use Rattle.request.specs.declared.Task.{Task}
-use Rattle.cycle.specs.Cycle.{Cycle, cycle, noCycle, hyperperiod, allJobs}
+use Rattle.request.specs.declared.Request.{Request}
+use Rattle.cycle.specs.Cycle.{Cycle, cycle, noCycle, hyperperiod, allJobs, afterReading}
 use Rattle.cycle.specs.Planned.{noJob}
 use Rattle.cycle.specs.declared.Job.{Job}
 use Rattle.cycle.specs.declared.Cycle as answer
@@ -63,3 +65,17 @@ answered (cycle tasks pairs g h jobs) =
       jobs = listed jobs;
     }
 answered (noCycle number) = refused number
+
+-- the reading that stands in a request's places
+unfoldable pub readingOf : Request → Reading
+readingOf r = pick (eqb (r .refusal) 0) (readable (take (r .n) (r .tasks)) (take (r .m) (r .pairs)) (r .g)) (unreadable (r .refusal))
+
+-- the cycle of a request that was read already
+unfoldable pub cycleFor : Request → Cycle
+cycleFor r = afterReading (readingOf r)
+
+-- what is asked of such a request: its places hold a reading that keeps the form, and nothing else, as in the answers of `request::read`
+pub record AsRead (r : Request) : Type 0 where
+  pub read : Reading
+  pub is : r ≡ request.answered read
+  pub kept : KeptReading read

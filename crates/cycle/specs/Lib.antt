@@ -8,3 +8,4 @@ pub mod LoopLaws
 pub mod Pending
 pub mod Listing
 pub mod ReadLaws
+pub mod PhaseLaws

@@ -14,7 +14,7 @@ use Rattle.cursor.specs.Choice.{pick}
 use Rattle.arith.specs.Lcm.{lcmOf, dvd-lcm-left, dvd-lcm-right, lcm-dvd, lcm-pos}
 use Rattle.arith.specs.Residue.{quotient-pos}
 use Rattle.request.specs.Request.{Reading, readable, unreadable, reading, noTask, periodOf}
-use Rattle.request.specs.Readable.{TaskKept, Readable, readable-kept, unreadable-number}
+use Rattle.request.specs.Readable.{TaskKept, Readable, KeptReading, reading-kept}
 use Rattle.request.specs.declared.Task.{Task}
 use Rattle.request.specs.declared.Pair.{Pair}
 use Rattle.cycle.specs.Cycle.{lcmWith, hyperperiod, jobsIn, jobOf, allJobs, planned, Cycle, cycle, noCycle, afterReading, cycleOf}
@@ -150,34 +150,41 @@ pub request-number-own : {number : ℕ} → RequestNumber number → 8 < number 
 request-number-own (inl n) l h = omega (arith, n .1)
 request-number-own (inr n) l h = omega arith
 
--- what the cycle of some bytes keeps, which has the tasks, the pairs and the silent ticks that were read; the number of a refusal
-abbrev Kept : List ℕ → Cycle → Type 0
-Kept bytes (cycle tasks pairs g h jobs) = WithinLimits tasks pairs h jobs × (reading bytes ≡ readable tasks pairs g)
-Kept bytes (noCycle number) = RequestNumber number
+-- what the cycle of a reading keeps, which has the tasks, the pairs and the silent ticks that were read; the number of a refusal
+abbrev Kept : Reading → Cycle → Type 0
+Kept r (cycle tasks pairs g h jobs) = WithinLimits tasks pairs h jobs × (r ≡ readable tasks pairs g)
+Kept r (noCycle number) = RequestNumber number
 
-cycle-kept : (bytes : List ℕ) → Kept bytes (cycleOf bytes)
-unfolding cycleOf
-cycle-kept bytes = first (reading bytes) refl
+after-kept : (r : Reading) → KeptReading r → Kept r (afterReading r)
+after-kept (unreadable number) k = ⊎-elim (λ n. inl (n .0, omega (arith, n .1))) (λ n. inr n) k
+after-kept (readable tasks pairs g) k = go (ltb 10000 (hyperperiod tasks)) (ltb 128 (length (allJobs tasks (hyperperiod tasks)))) refl refl
   where
-    second : (tasks : List Task) (pairs : List Pair) (g : ℕ) → reading bytes ≡ readable tasks pairs g
-        → (s t : Bool) → ltb 10000 (hyperperiod tasks) ≡ s → ltb 128 (length (allJobs tasks (hyperperiod tasks))) ≡ t
-        → Kept bytes (pick s (noCycle 7) (pick t (noCycle 8) (cycle tasks pairs g (hyperperiod tasks) (planned tasks (hyperperiod tasks)))))
-    second tasks pairs g e true t p q = inl (omega arith, omega arith)
-    second tasks pairs g e false true p q = inl (omega arith, omega arith)
-    second tasks pairs g e false false p q = (within-limits tasks pairs (readable-kept bytes tasks pairs g e) (ltb-false _ _ p) (ltb-false _ _ q), e)
+    go : (s t : Bool) → ltb 10000 (hyperperiod tasks) ≡ s → ltb 128 (length (allJobs tasks (hyperperiod tasks))) ≡ t
+        → Kept (readable tasks pairs g) (pick s (noCycle 7) (pick t (noCycle 8) (cycle tasks pairs g (hyperperiod tasks) (planned tasks (hyperperiod tasks)))))
+    go true t p q = inl (omega arith, omega arith)
+    go false true p q = inl (omega arith, omega arith)
+    go false false p q = (within-limits tasks pairs k (ltb-false _ _ p) (ltb-false _ _ q), refl)
 
-    first : (r : Reading) → reading bytes ≡ r → Kept bytes (afterReading r)
-    first (readable tasks pairs g) e = second tasks pairs g e (ltb 10000 (hyperperiod tasks)) (ltb 128 (length (allJobs tasks (hyperperiod tasks)))) refl refl
-    first (unreadable number) e = ⊎-elim (λ n. inl (n .0, omega (arith, n .1))) (λ n. inr n) (unreadable-number bytes number e)
+module _ (r : Reading) (k : KeptReading r) where
+  pub after-within : (tasks : List Task) (pairs : List Pair) (g h : ℕ) (jobs : List Job)
+      → afterReading r ≡ cycle tasks pairs g h jobs → WithinLimits tasks pairs h jobs
+  after-within tasks pairs g h jobs e = subst (Kept r) e (after-kept r k) .0
+
+  pub after-number : (number : ℕ) → afterReading r ≡ noCycle number → RequestNumber number
+  after-number number e = subst (Kept r) e (after-kept r k)
+
+cycle-kept : (bytes : List ℕ) → Kept (reading bytes) (cycleOf bytes)
+unfolding cycleOf
+cycle-kept bytes = after-kept (reading bytes) (reading-kept bytes)
 
 pub cycle-within : (bytes : List ℕ) (tasks : List Task) (pairs : List Pair) (g h : ℕ) (jobs : List Job)
     → cycleOf bytes ≡ cycle tasks pairs g h jobs → WithinLimits tasks pairs h jobs
-cycle-within bytes tasks pairs g h jobs e = subst (Kept bytes) e (cycle-kept bytes) .0
+cycle-within bytes tasks pairs g h jobs e = subst (Kept (reading bytes)) e (cycle-kept bytes) .0
 
 pub no-cycle-number : (bytes : List ℕ) (number : ℕ) → cycleOf bytes ≡ noCycle number → RequestNumber number
-no-cycle-number bytes number e = subst (Kept bytes) e (cycle-kept bytes)
+no-cycle-number bytes number e = subst (Kept (reading bytes)) e (cycle-kept bytes)
 
 -- a cycle has the tasks, the pairs and the silent ticks that were read
 pub cycle-reading : (bytes : List ℕ) (tasks : List Task) (pairs : List Pair) (g h : ℕ) (jobs : List Job)
     → cycleOf bytes ≡ cycle tasks pairs g h jobs → reading bytes ≡ readable tasks pairs g
-cycle-reading bytes tasks pairs g h jobs e = subst (Kept bytes) e (cycle-kept bytes) .1
+cycle-reading bytes tasks pairs g h jobs e = subst (Kept (reading bytes)) e (cycle-kept bytes) .1

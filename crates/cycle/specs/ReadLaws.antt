@@ -1,4 +1,4 @@
--- The laws by which a request's cycle is read: each way out of the reading is one case of the definition.
+-- The laws by which the cycle of a request that was read is found: each way out is one case of the definition.
 use Prim.Native.Nat.{ℕ, _≤_, _<_, _∣_}
 use mathlib.Core.Path.{_≡_, refl, sym, ap, subst, subst₂, _∙_}
 use mathlib.Core.Bool.{Bool, true, false}
@@ -6,12 +6,12 @@ use mathlib.Core.List.{List}
 use native.Mathlib.Omega.{arith}
 use lib.ListN.{length, take}
 use lib.Dec.{ltb}
-use borrow.Author.Tests.{lt-ltb, le-ltb, ltb-true, ltb-false}
+use borrow.Author.Tests.{lt-ltb, le-ltb, ltb-true, ltb-false, ne-eqb}
 use Rattle.cursor.specs.Choice.{pick}
 use Rattle.cursor.specs.Padded.{padded, padded-length, take-padded, getD-padded}
-use Rattle.request.specs.Request.{Reading, readable, unreadable, reading, noTask, periodOf}
+use Rattle.request.specs.Request.{Reading, readable, unreadable, reading, noTask, noPair, periodOf}
 use Rattle.request.specs.Answers as request
-use Rattle.request.specs.Readable.{Readable, TaskKept, readable-kept, unreadable-number, unread-pos}
+use Rattle.request.specs.Readable.{Readable, TaskKept, KeptReading, reading-kept, unread-pos}
 use Rattle.request.specs.declared.Task.{Task}
 use Rattle.request.specs.declared.Pair.{Pair}
 use Rattle.request.specs.declared.Request.{Request}
@@ -19,25 +19,47 @@ use Rattle.cycle.specs.Cycle.{hyperperiod, allJobs, planned, cycle, limi
 use Rattle.cycle.specs.PlannedLaws.{planned-length}
 use Rattle.cycle.specs.LimitLaws.{hyperperiod-pos, hyperperiod-divides, readable-periodic}
 use Rattle.cycle.specs.LoopLaws.{task-at}
-use Rattle.cycle.specs.Answers.{shortCycle, Sized, Listable, listed, refused, answered}
+use Rattle.cycle.specs.Answers.{shortCycle, Sized, Listable, AsRead, readingOf, cycleFor, listed, refused, answered}
 use Rattle.cycle.specs.declared.Job.{Job}
 use Rattle.cycle.specs.declared.Cycle as answer
 
+-- a reading is found again in the places that hold it
+pub reading-back : (x : Reading) → KeptReading x → readingOf (request.answered x) ≡ x
+unfolding readingOf
+reading-back (readable tasks pairs g) k = rw (take-padded 16 noTask tasks, take-padded 16 noPair pairs)
+reading-back (unreadable number) k = rw (ne-eqb number 0 (λ z. omega (arith, unread-pos k)))
+
+-- every answer of `request::read` is as it was read, and its cycle is that of the bytes
+module _ (s : List ℕ) {r : Request} (e : r ≡ request.answered (reading s)) where
+  pub bytes-as-read : AsRead r
+  bytes-as-read = record { read = reading s; is = e; kept = reading-kept s }
+
+  pub bytes-cycle : cycleFor r ≡ cycleOf s
+  unfolding cycleFor cycleOf
+  bytes-cycle = ap (λ (y : Request). afterReading (readingOf y)) e ∙ ap afterReading (reading-back (reading s) (reading-kept s))
+
+-- the reading of such a request
+pub as-read-is : {r : Request} (a : AsRead r) → readingOf r ≡ a .read
+as-read-is a = ap readingOf (a .is) ∙ reading-back (a .read) (a .kept)
+
+pub as-read-cycle : {r : Request} (a : AsRead r) → cycleFor r ≡ afterReading (a .read)
+unfolding cycleFor
+as-read-cycle a = ap afterReading (as-read-is a)
+
 -- the request is refused
-pub not-read : (s : List ℕ) (r : Request) → r ≡ request.answered (reading s) → (r .refusal ≡ 0 → ⊥) → refused (r .refusal) ≡ answered (cycleOf s)
-unfolding cycleOf
-not-read s r e ne = go (reading s) e
+pub not-read : {r : Request} → AsRead r → (r .refusal ≡ 0 → ⊥) → refused (r .refusal) ≡ answered (cycleFor r)
+not-read {r} a ne = go (a .read) (a .is) ∙ ap answered (sym (as-read-cycle a))
   where
     go : (x : Reading) → r ≡ request.answered x → refused (r .refusal) ≡ answered (afterReading x)
     go (readable tasks pairs g) q = absurd (ne (ap (λ (y : Request). y .refusal) q))
     go (unreadable number) q = ap refused (ap (λ (y : Request). y .refusal) q)
 
--- what is known once it is read
-pub record Read (s : List ℕ) (r : Request) : Type 0 where
+-- what is known where it is not
+pub record Read (r : Request) : Type 0 where
   pub tasks : List Task
   pub pairs : List Pair
   pub g : ℕ
-  pub is : reading s ≡ readable tasks pairs g
+  pub is : readingOf r ≡ readable tasks pairs g
   pub kept : Readable tasks pairs
   pub request-is : r ≡ request.answered (readable tasks pairs g)
   pub sized : Sized (r .tasks) (r .n)
@@ -51,29 +73,21 @@ sized-of tasks pairs kept = record {
   kept = λ i h. subst TaskKept (sym (getD-padded 16 noTask tasks i h)) (kept .task i h);
 }
 
-read-is : (s : List ℕ) (r : Request) (tasks : List Task) (pairs : List Pair) (g : ℕ)
-    → reading s ≡ readable tasks pairs g → r ≡ request.answered (readable tasks pairs g) → Read s r
-read-is s r tasks pairs g is e =
-    let kept = readable-kept s tasks pairs g is in
-    record {
+pub was-read : {r : Request} → AsRead r → r .refusal ≡ 0 → Read r
+was-read {r} a z = go (a .read) (as-read-is a) (a .is) (a .kept)
+  where
+    go : (x : Reading) → readingOf r ≡ x → r ≡ request.answered x → KeptReading x → Read r
+    go (readable tasks pairs g) is q kept = record {
       tasks = tasks;
       pairs = pairs;
       g = g;
       is = is;
       kept = kept;
-      request-is = e;
-      sized = rw e (sized-of tasks pairs kept);
-      named = rw e (take-padded 16 noTask tasks);
+      request-is = q;
+      sized = rw q (sized-of tasks pairs kept);
+      named = rw q (take-padded 16 noTask tasks);
     }
-
-pub was-read : (s : List ℕ) (r : Request) → r ≡ request.answered (reading s) → r .refusal ≡ 0 → Read s r
-was-read s r e z = go (reading s) refl e
-  where
-    go : (x : Reading) → reading s ≡ x → r ≡ request.answered x → Read s r
-    go (readable tasks pairs g) is q = read-is s r tasks pairs g is q
-    go (unreadable number) is q =
-        let positive = unread-pos (unreadable-number s number is) in
-        absurd (omega (arith, ap (λ (y : Request). y .refusal) q))
+    go (unreadable number) is q kept = absurd (omega (arith, unread-pos kept, ap (λ (y : Request). y .refusal) q))
 
 -- h is 0 where H is above 10,000, and H elsewhere
 abbrev ShortOr0 : List Task → ℕ → Type 0
@@ -87,7 +101,7 @@ short-cases tasks h pos e = go (ltb 10000 (hyperperiod tasks)) refl e
     go true q w = (λ z. ltb-true 10000 (hyperperiod tasks) q, λ ne. absurd (ne w))
     go false q w = (λ z. absurd (omega arith), λ ne. (w, ltb-false 10000 (hyperperiod tasks) q))
 
-module _ {s : List ℕ} {r : Request} (read : Read s r) {h : ℕ} (h-is : h ≡ shortCycle (take (r .n) (r .tasks))) where
+module _ {r : Request} (read : Read r) {h : ℕ} (h-is : h ≡ shortCycle (take (r .n) (r .tasks))) where
   abbrev tasks : List Task
   tasks = read .tasks
 
@@ -97,12 +111,12 @@ module _ {s : List ℕ} {r : Request} (read : Read s r) {h : ℕ} (h-is : h ≡ 
   cases : ShortOr0 tasks h
   cases = short-cases tasks h pos (h-is ∙ ap shortCycle (read .named))
 
-  cycle-is : cycleOf s ≡ limited tasks (read .pairs) (read .g) (hyperperiod tasks)
-  unfolding cycleOf
+  cycle-is : cycleFor r ≡ limited tasks (read .pairs) (read .g) (hyperperiod tasks)
+  unfolding cycleFor
   cycle-is = ap afterReading (read .is)
 
   -- 7
-  pub too-long : h ≡ 0 → refused 7 ≡ answered (cycleOf s)
+  pub too-long : h ≡ 0 → refused 7 ≡ answered (cycleFor r)
   too-long z = rw (cycle-is, lt-ltb 10000 (hyperperiod tasks) (cases .0 z)) refl
 
   module _ (some : h ≡ 0 → ⊥) {count : ℕ} (count-is : count ≡ length (allJobs (take (r .n) (r .tasks)) h)) where
@@ -116,7 +130,7 @@ module _ {s : List ℕ} {r : Request} (read : Read s r) {h : ℕ} (h-is : h ≡ 
     counted = count-is ∙ rw (read .named, h-all)
 
     -- 8
-    pub too-many : 128 < count → refused 8 ≡ answered (cycleOf s)
+    pub too-many : 128 < count → refused 8 ≡ answered (cycleFor r)
     too-many more = rw (cycle-is, le-ltb 10000 (hyperperiod tasks) few, lt-ltb 128 (length (allJobs tasks (hyperperiod tasks))) (rw counted at more)) refl
 
     pub listable : count ≤ 128 → Listable (r .tasks) (r .n) h count
@@ -139,7 +153,7 @@ module _ {s : List ℕ} {r : Request} (read : Read s r) {h : ℕ} (h-is : h ≡ 
     abbrev parts : List Job → answer.Cycle
     parts jobs = record { refusal = 0; n = r .n; tasks = r .tasks; m = r .m; pairs = r .pairs; g = r .g; h = h; count = count; jobs = jobs }
 
-    pub all-read : count ≤ 128 → {jobs : List Job} → jobs ≡ listed (planned (take (r .n) (r .tasks)) h) → parts jobs ≡ answered (cycleOf s)
+    pub all-read : count ≤ 128 → {jobs : List Job} → jobs ≡ listed (planned (take (r .n) (r .tasks)) h) → parts jobs ≡ answered (cycleFor r)
     all-read l {jobs} e =
         let in-order : jobs ≡ listed (planned tasks (hyperperiod tasks)) = e ∙ rw (read .named, h-all) in
         let total : count ≡ length (planned tasks (hyperperiod tasks)) = counted ∙ sym (planned-length tasks (hyperperiod tasks)) in

@@ -8,12 +8,12 @@ use native.Mathlib.Omega.{arith}
 use lib.ListN.{length, getD, set, replicate}
 use lib.Seq.{append-snoc}
 use lib.Dec.{ltb}
-use borrow.Author.Tests.{le-leb, lt-leb}
+use borrow.Author.Tests.{leb-false}
 use Rattle.request.specs.Request.{reading, noTask}
 use Rattle.request.specs.Answers.{answered}
 use Rattle.request.specs.AnswerLaws.{WasRead, not-read}
 use Rattle.request.specs.declared.Request.{Request}
-use Rattle.table.specs.Table.{Entry, decode, entryOf, rowOf}
+use Rattle.table.specs.Table.{Entry, carriedIn, decode, entryOf, rowOf}
 use Rattle.table.specs.EntryLaws.{carried-of-byte}
 use Rattle.table.specs.RisingLaws.{row-rises, row-few}
 use Rattle.table.specs.Inverse.{decode-wellformed}
@@ -47,19 +47,20 @@ module _ (tasks jobs : List ℕ) (n : ℕ) where
     abbrev behind-it : List Entry
     behind-it = entriesAt tasks jobs (n - (i + 1)) (i + 1)
 
-    pub kept-more : i < n → count < 16 → getD jobs i 0 < 128
+    pub kept-more : i < n → count < 16 → carriedIn (getD jobs i 0) ≡ false
         → KeptSoFar tasks jobs n (set kept-tasks count (getD tasks i 0)) (set kept-jobs count (getD jobs i 0)) (count + 1) (i + 1)
-    kept-more h room low =
-        let kept : here .carried ≡ false = carried-of-byte (getD tasks i 0) (getD jobs i 0) ∙ lt-leb 128 (getD jobs i 0) low in
+    kept-more h room bit =
+        let kept : here .carried ≡ false = carried-of-byte (getD tasks i 0) (getD jobs i 0) ∙ bit in
+        let low : getD jobs i 0 < 128 = leb-false 128 (getD jobs i 0) bit in
         record {
           done = so .done ++ (here ∷ []);
           placed = one-placed (so .done) count kept-tasks kept-jobs (so .placed) (getD tasks i 0) (getD jobs i 0) room (omega arith);
           left = append-snoc (so .done) here (uncarried behind-it) ∙ rw (entries-more tasks jobs n i h, uncarried-kept here behind-it kept) at (so .left);
         }
 
-    pub kept-passed : i < n → 128 ≤ getD jobs i 0 → KeptSoFar tasks jobs n kept-tasks kept-jobs count (i + 1)
-    kept-passed h high =
-        let passed : here .carried ≡ true = carried-of-byte (getD tasks i 0) (getD jobs i 0) ∙ le-leb 128 (getD jobs i 0) high in
+    pub kept-passed : i < n → carriedIn (getD jobs i 0) ≡ true → KeptSoFar tasks jobs n kept-tasks kept-jobs count (i + 1)
+    kept-passed h bit =
+        let passed : here .carried ≡ true = carried-of-byte (getD tasks i 0) (getD jobs i 0) ∙ bit in
         record { done = so .done; placed = so .placed; left = rw (entries-more tasks jobs n i h, uncarried-passed here behind-it passed) at (so .left) }
 
     pub kept-all : n ≤ i → record { refusal = 0; count = count; tasks = kept-tasks; jobs = kept-jobs } ≡ rowGiven (uncarried (entriesAt tasks jobs n 0))

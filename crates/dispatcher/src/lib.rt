@@ -66,7 +66,7 @@ fn without_carried(row: Row) -> Row
     let mut i: usize = 0;
     while i < n {
         let job = jobs[i];
-        if job < 128 {
+        if !table::job::is_carried(job) {
             kept_tasks[count] = tasks[i];
             kept_jobs[count] = job;
             count += 1;

@@ -20,7 +20,7 @@ use Rattle.flight.specs.Overruns.{overruns}
 use Rattle.flight.specs.Flight.{framesFlown, plainAnswered, plainAfter, Flight}
 use Rattle.bus.specs.Reply.{refused, reply, after}
 use Rattle.bus.specs.State.{countIn, stateBytes, pairBytes, zeros}
-use Rattle.bus.specs.Calls.{freshReply, freshBytes, frameReply, frameState, frameEntries, reportReply, reportState}
+use Rattle.bus.specs.Dispatch.{freshReply, freshBytes, frameReply, frameState, frameEntries, reportReply, reportState}
 
 -- a call of bus_next_frame, with the entries' buffer as it was lent, or of bus_report, with any bytes as its request, any task number and any ticks
 pub data CallInC : Type 0 where

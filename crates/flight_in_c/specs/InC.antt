@@ -28,12 +28,13 @@ use Rattle.flight.specs.Flight.{framesFlown, Flight}
 use Rattle.flight.specs.Joined.{Flies, checked-flight, planned-flight}
 use Rattle.bus.specs.Reply.{after}
 use Rattle.bus.specs.State.{stateBytes, pairBytes, zeros}
-use Rattle.bus.specs.Calls.{checkReply, freshReply, freshBytes, canServe, frameReply, frameState, frameEntries, reportReply, reportState}
+use Rattle.bus.specs.Check.{checkReply}
+use Rattle.bus.specs.Dispatch.{freshReply, freshBytes, canServe, frameReply, frameState, frameEntries, reportReply, reportState}
 use Rattle.bus.specs.Plan.{planReply, planBuffer}
 use Rattle.bus.specs.ReplyLaws.{reply-refused, reply-value, after-refusal, after-value}
-use Rattle.bus.specs.CallLaws.{fresh-made, no-room}
-use Rattle.bus.specs.RoundTrip.{state-is, count-there, state-read, state-over, pair-there}
-use Rattle.bus.specs.Answered.{check-told, fresh-told, plan-told}
+use Rattle.bus.specs.DispatchLaws.{fresh-made, no-room}
+use Rattle.bus_laws.specs.RoundTrip.{state-is, count-there, state-read, state-over, pair-there}
+use Rattle.bus_laws.specs.Answered.{check-told, fresh-told, plan-told}
 use Rattle.flight_in_c.specs.CallsInC.{CallInC, next-frame, report, Seen, frame, seen, leaves, allSeen, stateLeft}
 use Rattle.flight_in_c.specs.CallsInC.{entriesRead, withSeen, framesRead, lends, asked, fed, shownInC, sentBack, shownNext, allShown}
 use Rattle.flight_in_c.specs.CallsInC.{framesInC, plainState, FlightInC, FliesInC}

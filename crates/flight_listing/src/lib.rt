@@ -4,9 +4,8 @@ use dispatcher::Frame;
 use table::Sizes;
 ghost use Prim.Native.Nat.{_*_, _/_, _-_, _≤_, _<_};
 ghost use mathlib.Core.Path.{_≡_};
-ghost use lib.Dec.{leb};
 ghost use Rattle.cursor.specs.Choice.{pick};
-ghost use Rattle.table.specs.Table.{entryOf, decode};
+ghost use Rattle.table.specs.Table.{carriedIn, entryOf, decode};
 ghost use Rattle.dispatcher.specs.Dispatch.{entriesOf};
 ghost use Rattle.text.specs.Text.{filledTo, putAllOf, PutIn};
 ghost use Rattle.listing.specs.Listing.{each};
@@ -15,9 +14,9 @@ ghost use Rattle.flight_listing.specs.Flown.{servedText, frameLine, flig
 
 // The cycle of an entry's job, in cycle q: a carried one is of the cycle before.
 fn job_cycle(job: u8, q: u32) -> u32
-    ensures { λ r. ⌜ r ≡ pick (leb 128 job) (q - 1) q ⌝ }
+    ensures { λ r. ⌜ r ≡ pick (carriedIn job) (q - 1) q ⌝ }
 {
-    if job < 128 {
+    if !table::job::is_carried(job) {
         return q;
     }
     if q == 0 {

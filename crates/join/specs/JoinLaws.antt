@@ -17,10 +17,11 @@ use Rattle.request.specs.AnswerLaws.{not-read}
 use Rattle.request.specs.declared.Task.{Task}
 use Rattle.request.specs.declared.Pair.{Pair}
 use Rattle.request.specs.declared.Request.{Request}
-use Rattle.request_writer.specs.Written.{written, buffer, requestAnswer, requestBuffer}
+use Rattle.cursor.specs.Written.{written, buffer}
+use Rattle.request_writer.specs.Written.{requestAnswer, requestBuffer}
 use Rattle.request_writer.specs.FileLaws.{refusal-answered, request-answered}
 use Rattle.request_writer.specs.Places.{ReadAs, first-tasks, first-pairs, places-hold, numbers-few}
-use Rattle.request_writer.specs.declared.Written.{Written}
+use Rattle.cursor.specs.declared.Written.{Written}
 use Rattle.join.specs.Joined.{raised, joinedTasks, joinedPairs, misfit, unless, joined}
 use Rattle.join.specs.Promises.{Few}
 

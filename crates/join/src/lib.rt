@@ -1,7 +1,7 @@
 // Joining two requests: the tasks and pairs of the first and then those of the second, whose numbers are raised by the first's number of tasks.
+use cursor::Written;
 use request::Pair;
 use request::Task;
-use request_writer::Written;
 ghost use mathlib.Core.Path.{_≡_};
 ghost use mathlib.Core.List.{_++_, map};
 ghost use Prim.Native.Nat.{_+_, _≤_};

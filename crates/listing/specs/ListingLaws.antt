@@ -6,6 +6,7 @@ use native.Mathlib.Numerals.{add-one}
 use native.Mathlib.Omega.{arith}
 use lib.ListN.{length, drop, getD, drop-of-length-le}
 use lib.Seq.{drop-cons}
+use Rattle.cursor.specs.Front.{Bytes}
 use Rattle.cursor.specs.Padded.{padded, padded-length, getD-padded-any}
 use Rattle.request.specs.Request.{Reading, readable, unreadable, reading, noTask}
 use Rattle.request.specs.Readable.{readable-kept}
@@ -16,9 +17,11 @@ use Rattle.table.specs.Table.{Entry, Table, Decoded, table, malformed, decode, 
 use Rattle.table.specs.Inverse.{decode-wellformed}
 use Rattle.table.specs.EntryLaws.{task-of-byte, number-of-byte}
 use Rattle.table.specs.RisingLaws.{row-rises, row-few}
-use Rattle.table.specs.Answers.{sizesOf, rowGiven, rowAnswer, entriesAt, entriesSaid}
+use Rattle.table.specs.Answers.{sizesOf, rowGiven, rowAnswer, rowAt, entriesAt, entriesSaid}
 use Rattle.table.specs.AnswerLaws.{entries-more, entries-none, entries-given, given-count, row-answered}
+use Rattle.table.specs.RowsLeft.{RowsLeft, row-there, rows-go-on}
 use Rattle.table.specs.declared.Sizes.{Sizes}
+use Rattle.table.specs.declared.TakenRow.{TakenRow}
 use Rattle.table.specs.declared.Row.{Row}
 use Rattle.text.specs.Text.{ascii, decimalOf, Filled, putAllOf}
 use Rattle.text.specs.TextLaws.{put-none, put-append}
@@ -68,7 +71,7 @@ pub record RowRead (bytes : List ℕ) (k : ℕ) (row : Row) : Type 0 where
   pub few : row .count ≤ 16
   pub entries : entriesSaid row ≡ rowOf (tableIn (decode bytes)) k
 
-pub row-read : (bytes : List ℕ) (k : ℕ) (row : Row) → row ≡ rowAnswer k (decode bytes) → k < length (tableIn (decode bytes) .rows) → RowRead bytes k row
+row-read : (bytes : List ℕ) (k : ℕ) (row : Row) → row ≡ rowAnswer k (decode bytes) → k < length (tableIn (decode bytes) .rows) → RowRead bytes k row
 row-read bytes k row e h = go (decode bytes) refl h
   where
     go : (d : Decoded) → decode bytes ≡ d → k < length (tableIn d .rows) → RowRead bytes k row
@@ -76,6 +79,15 @@ row-read bytes k row e h = go (decode bytes) refl h
         let given : row ≡ rowGiven (rowOf t k) = e ∙ row-answered bytes t k is below in
         let form = decode-wellformed bytes t is in
         record { few = rw (given, given-count (rowOf t k)) (row-few t k form); entries = rw (given, is) (entries-given (rowOf t k) (row-rises t k form)) }
+    go malformed is below = absurd (omega arith)
+
+-- the row that begins at the cursor is row k, and behind it begins the next
+pub row-taken : (bytes : List ℕ) (at k : ℕ) → RowsLeft bytes at k → Bytes bytes → (r : TakenRow) → r ≡ rowAt bytes at
+    → k < length (tableIn (decode bytes) .rows) → RowRead bytes k (r .row) × RowsLeft bytes (r .next .at) (k + 1)
+row-taken bytes at k so are r e h = go (decode bytes) refl h
+  where
+    go : (d : Decoded) → decode bytes ≡ d → k < length (tableIn d .rows) → RowRead bytes k (r .row) × RowsLeft bytes (r .next .at) (k + 1)
+    go (table t) is below = (row-read bytes k (r .row) (row-there bytes at k so are t is below r e) h, rows-go-on bytes at k so are t is below r e)
     go malformed is below = absurd (omega arith)
 
 -- The request's tasks and the table's sizes

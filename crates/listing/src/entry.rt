@@ -11,5 +11,5 @@ pub fn put_name(out: &mut [u8], at: usize, task: u8, job: u8) -> usize
     let space = text::put(out, at, b' ');
     let number = text::put_number(out, space, task as u32);
     let dot = text::put(out, number, b'.');
-    text::put_number(out, dot, (job % 128) as u32)
+    text::put_number(out, dot, table::job::number(job) as u32)
 }

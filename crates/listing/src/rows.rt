@@ -19,7 +19,7 @@ fn put_entry(out: &mut [u8], at: usize, task: u8, job: u8) -> usize
     ensures { λ r. ⌜ filledTo r (now (out .exit)) ≡ putAllOf (filledTo at (now (out .entry))) (entryText (entryOf task job)) ⌝ }
 {
     let name = put_name(out, at, task, job);
-    if job < 128 {
+    if !table::job::is_carried(job) {
         return name;
     }
     text::put(out, name, b'+')
@@ -86,10 +86,12 @@ fn put_rows(out: &mut [u8], at: usize, table: &[u8], height: u16, tasks: [Task; 
     ensures { λ r. ⌜ filledTo r (now (out .exit)) ≡ putAllOf (filledTo at (now (out .entry))) (rowLines tasks 0 (tableIn (decode (now (table .entry))) .rows)) ⌝ }
 {
     let mut end = at;
+    let mut here = table::read::first_row();
     let mut k: u16 = 0;
     while k < height {
-        let row = table::read::row(table, k);
-        end = put_row(out, end, k, row, tasks);
+        let taken = table::read::next_row(table, here);
+        here = taken.next;
+        end = put_row(out, end, k, taken.row, tasks);
         k += 1;
     }
     end

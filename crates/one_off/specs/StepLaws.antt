@@ -2,25 +2,31 @@
 use Prim.Native.Nat.{ℕ, zero, suc, _+_, _*_, _-_, _%_, _≤_, _<_, min}
 use mathlib.Core.Path.{_≡_, refl, sym, ap, _∙_}
 use mathlib.Core.Bool.{Bool, true, false}
+use mathlib.Core.Logic.{⊎-elim}
 use mathlib.Core.List.{List, []}
 use native.Mathlib.Nat.{mod-lt}
 use native.Mathlib.Omega.{arith}
-use lib.ListN.{length, getD}
+use lib.ListN.{length, getD, set}
+use lib.Seq.{getD-set-same, getD-set-other}
 use lib.Dec.{leb}
 use borrow.Author.Tests.{lt-leb, le-leb, eq-eqb, ne-eqb}
+use Rattle.cursor.specs.ChoiceLaws.{lt-or-ge}
+use Rattle.cursor.specs.Front.{Bytes}
 use Rattle.cursor.specs.Padded.{firsts}
 use Rattle.request.specs.Request.{noTask}
 use Rattle.request.specs.declared.Task.{Task}
 use Rattle.cycle.specs.Cycle.{cycleOf}
 use Rattle.cycle.specs.Answers.{answered}
 use Rattle.cycle.specs.declared.Cycle.{Cycle}
-use Rattle.table.specs.Table.{Entry, Table, table, decode, rowOf}
+use Rattle.table.specs.Table.{Table, table, decode, rowOf}
 use Rattle.table.specs.EntryLaws.{task-of-byte}
 use Rattle.table.specs.RisingLaws.{row-rises, row-few}
 use Rattle.table.specs.Inverse.{decode-wellformed}
-use Rattle.table.specs.Answers.{sizesOf, rowAnswer, rowGiven, entriesAt, entriesSaid}
+use Rattle.table.specs.Answers.{sizesOf, rowGiven, rowAt, entriesAt, entriesSaid}
 use Rattle.table.specs.AnswerLaws.{entries-more, entries-none, entries-given, given-count, sizes-table, row-answered}
+use Rattle.table.specs.RowsLeft.{RowsLeft, row-there, rows-go-on}
 use Rattle.table.specs.declared.Row.{Row}
+use Rattle.table.specs.declared.TakenRow.{TakenRow}
 use Rattle.table.specs.declared.Sizes.{Sizes}
 use Rattle.model.specs.Plan.{Instance, slot}
 use Rattle.model.specs.Slots.{slots}
@@ -31,7 +37,7 @@ use Rattle.checker.specs.ReadLaws.{Formed, table-formed}
 use Rattle.checker.specs.Verdicts.{PlanRead, plan-read, refusal-number}
 use Rattle.one_off.specs.OneOff as spec
 use Rattle.one_off.specs.OneOff.{frameFits, wellAsked, earliestOf, earliest, offered, oneOff}
-use Rattle.one_off.specs.Answers.{offerAnswer, FitsIn, EarliestIn}
+use Rattle.one_off.specs.Answers.{offerAnswer, UsedTimes, fitsBy, FitsIn, EarliestIn}
 use Rattle.one_off.specs.declared.FrameFound.{FrameFound}
 
 -- The used time of a row
@@ -62,12 +68,9 @@ same-slots c entries jobs (suc k) p =
 pub used-all : (c : Cycle) (r : Row) → usedFrom (c .tasks) (c .n) (c .g) (r .tasks) (r .count) 0 ≡ slots (instanceOf c) (entriesSaid r)
 used-all c r = let all : r .count - 0 ≡ r .count = omega arith in rw all (same-slots c (r .tasks) (r .jobs) (r .count) 0)
 
--- One frame: the bytes are a table's, and these are its sizes
+-- The used times of the rows: the bytes are a table's, and these are its sizes
 
-module _ (L s e : ℕ) (c : Cycle) (bytes : List ℕ) (z : Sizes) (o : Formed bytes z) (k : ℕ) where
-  abbrev x : Instance
-  x = instanceOf c
-
+module _ (bytes : List ℕ) (z : Sizes) (o : Formed bytes z) where
   pub some-row : 0 < z .height
   some-row = omega (arith, o .height-is, decode-wellformed bytes (o .t) (o .is) .some-rows)
 
@@ -77,39 +80,79 @@ module _ (L s e : ℕ) (c : Cycle) (bytes : List ℕ) (z : Sizes) (o : Formed by
   same-table : (t : Table) → decode bytes ≡ table t → o .t ≡ t
   same-table t is = let q : table (o .t) ≡ table t = sym (o .is) ∙ is in cc
 
-  said-of : (r : Bool) → frameFits L s e x (o .t) k ≡ r → FitsIn L s e x bytes k r
-  said-of r q = record { of = λ t is. sym q ∙ ap (λ (y : Table). frameFits L s e x y k) (same-table t is) }
+  -- the row k is read where it begins
+  module _ (at k : ℕ) (so : RowsLeft bytes at k) (are : Bytes bytes) (below : k < z .height) (r : TakenRow) (e : r ≡ rowAt bytes at) where
+    inside : k < length (o .t .rows)
+    inside = omega (arith, o .height-is)
 
-  pub too-early : k * z .f < s → FitsIn L s e x bytes k false
-  unfolding frameFits
-  too-early h = said-of false (rw (lt-leb s (k * o .t .f) (rw (o .f-is) at h)))
+    row-is : r .row ≡ rowGiven (rowOf (o .t) k)
+    row-is = row-there bytes at k so are (o .t) (o .is) inside r e ∙ row-answered bytes (o .t) k (o .is) inside
 
-  module _ (early : s ≤ k * z .f) where
-    pub too-late : e < k * z .f + z .f → FitsIn L s e x bytes k false
-    unfolding frameFits
-    too-late h =
-        let ends : (k + 1) * z .f ≡ k * z .f + z .f = omega arith in
-        said-of false (rw (← o .f-is, le-leb s (k * z .f) early, ends, lt-leb (k * z .f + z .f) e h))
+    pub row-short : r .row .count ≤ 16
+    row-short = rw (row-is, given-count (rowOf (o .t) k)) (row-few (o .t) k (decode-wellformed bytes (o .t) (o .is)))
 
-    -- the row that was read
-    module _ (r : Row) (read : r ≡ rowAnswer (k % z .height) (decode bytes)) where
-      abbrev row : List Entry
-      row = rowOf (o .t) (k % length (o .t .rows))
+    pub next-row : RowsLeft bytes (r .next .at) (k + 1)
+    next-row = rows-go-on bytes at k so are (o .t) (o .is) inside r e
 
-      row-is : r ≡ rowGiven row
-      row-is =
-          let below : k % length (o .t .rows) < length (o .t .rows) = mod-lt k (rw (o .height-is) at some-row) in
-          rw (o .height-is) at read ∙ row-answered bytes (o .t) (k % length (o .t .rows)) (o .is) below
+    row-used : (x : Instance) → slots x (entriesSaid (r .row)) ≡ slots x (rowOf (o .t) k)
+    row-used x = rw (row-is, entries-given (rowOf (o .t) k) (row-rises (o .t) k (decode-wellformed bytes (o .t) (o .is))))
 
-      pub row-short : r .count ≤ 16
-      row-short = rw (row-is, given-count row) (row-few (o .t) (k % length (o .t .rows)) (decode-wellformed bytes (o .t) (o .is)))
+    pub one-used : (x : Instance) (times : List ℕ) (v : ℕ) → length times ≡ 256 → UsedTimes x bytes k times → v ≡ slots x (entriesSaid (r .row))
+        → v ≤ 16 * 4294967295 → UsedTimes x bytes (k + 1) (set times k v)
+    one-used x times v long before is few = record {
+      of = λ t d i h. ⊎-elim
+          (λ l. getD-set-other times k i v 0 (λ q. omega arith) ∙ before .of t d i l)
+          (λ g. let same : i ≡ k = omega arith in rw same (here ∙ is ∙ row-used x ∙ ap (λ (y : Table). slots x (rowOf y k)) (same-table t d)))
+          (lt-or-ge i k);
+      few = λ i h. ⊎-elim
+          (λ l. rw (getD-set-other times k i v 0 (λ q. omega arith)) (before .few i l))
+          (λ g. let same : i ≡ k = omega arith in rw (same, here) few)
+          (lt-or-ge i k);
+    }
+      where
+        here : getD (set times k v) k 0 ≡ v
+        here = getD-set-same times k v 0 (omega (arith, few-rows))
 
-      pub room-decides : k * z .f + z .f ≤ e → (used : ℕ) → used ≡ slots x (entriesSaid r) → FitsIn L s e x bytes k (leb (used + (L + c .g)) (z .f))
-      unfolding frameFits instanceOf
-      room-decides late used q =
-          let ends : (k + 1) * z .f ≡ k * z .f + z .f = omega arith in
-          let entries : entriesSaid r ≡ row = rw row-is (entries-given row (row-rises (o .t) (k % length (o .t .rows)) (decode-wellformed bytes (o .t) (o .is)))) in
-          said-of (leb (used + (L + c .g)) (z .f)) (rw (q, entries, ← o .f-is, le-leb s (k * z .f) early, ends, le-leb (k * z .f + z .f) e late))
+pub none-used : (x : Instance) (bytes times : List ℕ) → UsedTimes x bytes 0 times
+none-used x bytes times = record { of = λ t is i h. absurd (omega arith); few = λ i h. absurd (omega arith) }
+
+-- One frame, by the used time of its row
+
+module _ (L s e f g used k : ℕ) where
+  pub too-early : k * f < s → false ≡ fitsBy L s e f g used k
+  unfolding fitsBy
+  too-early h = rw (lt-leb s (k * f) h)
+
+  module _ (early : s ≤ k * f) where
+    ends : (k + 1) * f ≡ k * f + f
+    ends = omega arith
+
+    pub too-late : e < k * f + f → false ≡ fitsBy L s e f g used k
+    unfolding fitsBy
+    too-late h = rw (le-leb s (k * f) early, ends, lt-leb (k * f + f) e h)
+
+    pub room-decides : k * f + f ≤ e → leb (used + (L + g)) f ≡ fitsBy L s e f g used k
+    unfolding fitsBy
+    room-decides late = rw (le-leb s (k * f) early, ends, le-leb (k * f + f) e late)
+
+module _ (L s e : ℕ) (c : Cycle) (bytes : List ℕ) (z : Sizes) (o : Formed bytes z) (times : List ℕ) (used : UsedTimes (instanceOf c) bytes (z .height) times) (k : ℕ) where
+  row-below : k % z .height < z .height
+  row-below = mod-lt k (some-row bytes z o)
+
+  pub time-few : getD times (k % z .height) 0 ≤ 16 * 4294967295
+  time-few = used .few (k % z .height) row-below
+
+  -- the used time is that of the frame's row
+  pub frame-decided : (r : Bool) → r ≡ fitsBy L s e (z .f) (c .g) (getD times (k % z .height) 0) k → FitsIn L s e (instanceOf c) bytes k r
+  unfolding fitsBy frameFits instanceOf
+  frame-decided r q = record {
+    of = λ t is.
+        let same = same-table bytes z o t is in
+        let f : z .f ≡ t .f = o .f-is ∙ ap (λ (y : Table). y .f) same in
+        let height : z .height ≡ length (t .rows) = o .height-is ∙ ap (λ (y : Table). length (y .rows)) same in
+        let time = used .of t is (k % z .height) row-below in
+        q ∙ rw (time, f, height);
+  }
 
 -- The frames in turn
 

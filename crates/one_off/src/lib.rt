@@ -9,7 +9,7 @@ ghost use Rattle.model.specs.Slots.{slots};
 ghost use Rattle.model.specs.Answers.{instanceOf};
 ghost use Rattle.checker.specs.ReadLaws.{Formed};
 ghost use Rattle.one_off.specs.OneOff.{refusal, wellAsked, oneOff};
-ghost use Rattle.one_off.specs.Answers.{offerAnswer, FitsIn, EarliestIn};
+ghost use Rattle.one_off.specs.Answers.{offerAnswer, UsedTimes, fitsBy, EarliestIn};
 
 // The frame, counted from time 0; or the number of the refusal, and 0.
 pub struct FrameFound {
@@ -45,30 +45,39 @@ fn used(cycle: Cycle, row: Row) -> u64
     sum
 }
 
-// k·f ≥ s, (k+1)·f ≤ e and enough unused time in the row for L + g.
-fn fits(
-    cycle: Cycle,
-    table: &[u8],
-    sizes: Sizes,
-    length: u32,
-    from: u32,
-    until: u32,
-    k: u16,
-) -> bool
+// The used time of each row, in 256 places. The table is read once.
+fn used_times(cycle: Cycle, table: &[u8], sizes: Sizes) -> [u64; 256]
     requires { ⌜ Formed (now table) sizes ⌝ }
-    ensures { λ r. ⌜ FitsIn length from until (instanceOf cycle) (now (table .entry)) k r ⌝ }
+    ensures { λ r. ⌜ UsedTimes (instanceOf cycle) (now (table .entry)) (sizes .height) r ⌝ }
 {
-    let f = sizes.f as u32;
-    let start = (k as u32) * f;
+    let height = sizes.height;
+    let mut times = [0u64; 256];
+    let mut here = table::read::first_row();
+    let mut k: u16 = 0;
+    while k < height {
+        let taken = table::read::next_row(table, here);
+        here = taken.next;
+        times[k as usize] = used(cycle, taken.row);
+        k += 1;
+    }
+    times
+}
+
+// k·f ≥ s, (k+1)·f ≤ e and enough unused time in the row for L + g.
+fn fits(f: u16, g: u8, used: u64, length: u32, from: u32, until: u32, k: u16) -> bool
+    requires { ⌜ used ≤ 16 * 4294967295 ⌝ }
+    ensures { λ r. ⌜ r ≡ fitsBy length from until f g used k ⌝ }
+{
+    let frame = f as u32;
+    let start = (k as u32) * frame;
     if start < from {
         return false;
     }
-    if until < start + f {
+    if until < start + frame {
         return false;
     }
-    let row = table::read::row(table, k % sizes.height);
-    let taken = used(cycle, row) + ((length as u64) + (cycle.g as u64));
-    taken <= (f as u64)
+    let taken = used + ((length as u64) + (g as u64));
+    taken <= (frame as u64)
 }
 
 // The earliest frame that fits, of the frames of two cycles; or 22.
@@ -83,10 +92,12 @@ fn earliest(
     requires { ⌜ Formed (now table) sizes ⌝ }
     ensures { λ r. ⌜ EarliestIn length from until (instanceOf cycle) (now (table .entry)) r ⌝ }
 {
+    let times = used_times(cycle, table, sizes);
     let frames = 2 * sizes.height;
     let mut k: u16 = 0;
     while k < frames {
-        if fits(cycle, table, sizes, length, from, until, k) {
+        let row = (k % sizes.height) as usize;
+        if fits(sizes.f, cycle.g, times[row], length, from, until, k) {
             return FrameFound {
                 refusal: 0,
                 frame: k,
@@ -114,11 +125,11 @@ fn well_asked(h: u16, length: u32, from: u32, until: u32) -> bool
 pub fn one_off(request: &[u8], table: &[u8], length: u32, from: u32, until: u32) -> FrameFound
     ensures { λ r. ⌜ r ≡ offerAnswer (oneOff length from until (now (request .entry)) (now (table .entry))) ⌝ }
 {
-    let number = checker::check(request, table);
-    if number != 0 {
-        return refused(number);
+    let read = checker::read_plan(request, table);
+    if read.refusal != 0 {
+        return refused(read.refusal);
     }
-    let cycle = cycle::read(request);
+    let cycle = read.cycle;
     if !well_asked(cycle.h, length, from, until) {
         return refused(21);
     }

@@ -17,6 +17,7 @@ use Rattle.search.specs.Walk.{Walk}
 use Rattle.search.specs.Counting.{planWalk}
 use Rattle.model.specs.Plan.{Instance, costs}
 use Rattle.model.specs.Answers.{instanceOf}
+use Rattle.model.specs.Within.{InLimits}
 use Rattle.model.specs.Plausible.{plausibleBy, plausible}
 use Rattle.model.specs.Chosen.{chosen, noPlan, noPlausible, isTriedBy, isTried, problemAt}
 use Rattle.model.specs.ChosenTries.{ChoiceWalk, goOnLengths, walkLengths, chooseWalk, fullTries, walkWith}
@@ -25,7 +26,7 @@ use Rattle.problem.specs.Answers.{linksAnswer}
 use Rattle.problem.specs.declared.JobLinks.{JobLinks}
 use Rattle.place.specs.Arrays.{placedAnswer, placedWithin}
 use Rattle.place.specs.declared.Placed.{Placed}
-use Rattle.planner.specs.Choices.{Planned, Searchable, noneChosen, choiceAnswer, choiceWithin}
+use Rattle.planner.specs.Choices.{Searchable, noneChosen, choiceAnswer, choiceWithin}
 use Rattle.planner.specs.declared.choose.ChosenPlan.{ChosenPlan}
 
 both-false : (b : Bool) → both b false ≡ false
@@ -41,7 +42,7 @@ pub tried-plausible : (x : Instance) (rows : ℕ) → isTried x rows ≡ true �
 unfolding isTriedBy
 tried-plausible x rows e = both-true (eqb (x .h % rows) 0) (plausible x (x .h / rows)) e .1
 
-pub searchable : (c : Cycle) (cost : List ℕ) (links : JobLinks) (rows : ℕ) → Planned c
+pub searchable : (c : Cycle) (cost : List ℕ) (links : JobLinks) (rows : ℕ) → InLimits c
     → cost ≡ padded 128 0 (costs (instanceOf c)) → links ≡ linksAnswer (instanceOf c) → isTried (instanceOf c) rows ≡ true → Searchable c cost links (c .h / rows)
 unfolding instanceOf
 searchable c cost links rows p e l t = record { planned = p; plausible-is = tried-plausible (instanceOf c) rows t; cost-is = e; links-are = l }

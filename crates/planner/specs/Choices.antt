@@ -1,5 +1,5 @@
 -- The answers of the functions that choose, and what they ask of their arguments.
-use Prim.Native.Nat.{ℕ, _≤_}
+use Prim.Native.Nat.{ℕ}
 use mathlib.Core.Path.{_≡_}
 use mathlib.Core.Bool.{true}
 use mathlib.Core.List.{List}
@@ -9,8 +9,8 @@ use Rattle.cursor.specs.Choice.{pick}
 use Rattle.cursor.specs.Padded.{padded}
 use Rattle.cycle.specs.declared.Cycle.{Cycle}
 use Rattle.model.specs.Plan.{costs}
-use Rattle.model.specs.Good.{Good}
 use Rattle.model.specs.Answers.{instanceOf}
+use Rattle.model.specs.Within.{InLimits}
 use Rattle.model.specs.Plausible.{plausible}
 use Rattle.model.specs.Chosen.{Choice, chosen, noPlan, noPlausible}
 use Rattle.model.specs.ChosenTries.{ChoiceWalk}
@@ -31,14 +31,9 @@ choiceAnswer noPlausible tries = noneChosen 9 tries
 unfoldable pub choiceWithin : ℕ → ChoiceWalk → ChosenPlan
 choiceWithin a w = pick (ltb a (w .tries)) (noneChosen 23 a) (choiceAnswer (w .choice) (w .tries))
 
--- the cycle of a request within the limits
-pub record Planned (c : Cycle) : Type 0 where
-  pub good : Good (instanceOf c)
-  pub few : c .count ≤ 128
-
--- with the costs and the links of its jobs, and a plausible length
+-- the cycle of a request within the limits, with the costs and the links of its jobs, and a plausible length
 pub record Searchable (c : Cycle) (cost : List ℕ) (links : JobLinks) (f : ℕ) : Type 0 where
-  pub planned : Planned c
+  pub planned : InLimits c
   pub plausible-is : plausible (instanceOf c) f ≡ true
   pub cost-is : cost ≡ padded 128 0 (costs (instanceOf c))
   pub links-are : links ≡ linksAnswer (instanceOf c)

@@ -12,7 +12,7 @@ use borrow.Author.Tests.{lt-ltb}
 use Rattle.cursor.specs.ChoiceLaws.{lt-or-ge}
 use Rattle.cycle.specs.Cycle.{noCycle, cycleOf}
 use Rattle.table.specs.Table.{Table, encode}
-use Rattle.table.specs.Layout as table
+use Rattle.cursor.specs.Written.{written, buffer}
 use Rattle.model.specs.Plan.{Instance, IsPlan, rowsAt}
 use Rattle.model.specs.Plausible.{plausible}
 use Rattle.model.specs.PlausibleLaws.{plausible-needed}
@@ -217,7 +217,7 @@ module _ (allowance : ℕ) (request out : List ℕ) (x : Instance) (within : Wit
         no-room = omega (arith, size-is)
 
         short-is : numberIs allowance request out 11 × lengthIs allowance request out 0 × bufferIs allowance request out out
-        unfolding outcomeAnswer outcomeBuffer table.written table.buffer table.tooShort
+        unfolding outcomeAnswer outcomeBuffer written buffer
         short-is =
             let is = answer-is allowance request out _ (outcome-is (chosen f frames) q) in
             let none = lt-ltb (length out) (length bytes) no-room in

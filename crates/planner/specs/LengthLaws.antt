@@ -33,7 +33,7 @@ module _ {c : Cycle} {cost : List ℕ} {links : JobLinks} {f : ℕ} (s : Searcha
   n = c .count
 
   few : n ≤ 128
-  few = s .planned .few
+  few = s .planned .few-jobs
 
   jobs-count : length (x .jobs) ≡ n
   jobs-count = jobs-counted c few

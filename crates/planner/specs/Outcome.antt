@@ -6,7 +6,7 @@ use lib.Dec.{ltb}
 use Rattle.cursor.specs.Choice.{pick}
 use Rattle.request.specs.declared.Task.{Task}
 use Rattle.cycle.specs.Cycle.{Cycle, cycle, noCycle, cycleOf}
-use Rattle.table.specs.declared.Written.{Written}
+use Rattle.cursor.specs.declared.Written.{Written}
 use Rattle.model.specs.Plan.{Instance}
 use Rattle.model.specs.Answers.{instance}
 use Rattle.model.specs.Plausible.{phaseRule}

@@ -9,7 +9,7 @@ use lib.Dec.{ltb}
 use borrow.Author.Tests.{le-ltb, lt-ltb, ltb-true, ltb-false}
 use Rattle.cycle.specs.Cycle.{Cycle, noCycle, cycleOf}
 use Rattle.cycle.specs.declared.Cycle as c
-use Rattle.table.specs.declared.Written.{Written}
+use Rattle.cursor.specs.declared.Written.{Written}
 use Rattle.model.specs.Plan.{Instance}
 use Rattle.model.specs.Answers.{instanceOf}
 use Rattle.model.specs.Within.{Taken}
@@ -20,7 +20,7 @@ use Rattle.planned_table.specs.Written.{planWritten, planBuffer}
 use Rattle.planned_table.specs.WriteLaws.{plan-written}
 use Rattle.planned_table.specs.Outcome.{refusal, outcomeAnswer, outcomeBuffer}
 use Rattle.planner.specs.Outcome.{byChoice, inCycle, outcome, triesIn, requestTries, outcomeWithin, searchedAnswer}
-use Rattle.planner.specs.Choices.{Planned, noneChosen, choiceAnswer, choiceWithin}
+use Rattle.planner.specs.Choices.{noneChosen, choiceAnswer, choiceWithin}
 use Rattle.planner.specs.declared.Searched.{Searched}
 use Rattle.planner.specs.declared.choose.ChosenPlan.{ChosenPlan}
 
@@ -56,9 +56,6 @@ not-within a s number e =
 module _ (s : List ℕ) (d : c.Cycle) (t : Taken s d) where
   abbrev x : Instance
   x = instanceOf d
-
-  pub planned : Planned d
-  planned = record { good = t .good; few = t .few-jobs }
 
   outcome-is : outcome s ≡ byChoice x (choose x)
   unfolding outcome
@@ -100,15 +97,15 @@ module _ (s : List ℕ) (d : c.Cycle) (t : Taken s d) where
             refusal-handed a s (p .refusal) (p .tries) (within-reached a s (omega (arith, tries-are)) ∙ outcome-is ∙ o .0) (omega (arith, o .1, tries-are))
 
     -- the chosen plan is written
-    pub plan-chosen : p .refusal ≡ 0 → (out : List ℕ) {w : Written} {out′ : List ℕ} → w ≡ planWritten (cycleOf s) (p .f) (p .frames) out
-        → out′ ≡ planBuffer (cycleOf s) (p .f) (p .frames) out → Hands a s out (record { refusal = w .refusal; length = w .length; tries = p .tries }) out′
+    pub plan-chosen : p .refusal ≡ 0 → (out : List ℕ) {w : Written} {out′ : List ℕ} → w ≡ planWritten x (p .f) (p .frames) out
+        → out′ ≡ planBuffer x (p .f) (p .frames) out → Hands a s out (record { refusal = w .refusal; length = w .length; tries = p .tries }) out′
     unfolding choiceAnswer choiceWithin searchedAnswer outcomeAnswer outcomeBuffer RightBy
     plan-chosen z out {w} {out′} w-is out-is = go (ltb a (fullTries x)) refl
       where
         by-choice : (o : Choice) → p ≡ choiceAnswer o (fullTries x) → RightChoice x o
             → (w ≡ outcomeAnswer (byChoice x o) out) × (out′ ≡ outcomeBuffer (byChoice x o) out) × (p .tries ≡ fullTries x)
         by-choice (chosen f frames) q r =
-            let written = plan-written s x (t .within) f frames out (r .is-plan .all) in
+            let written = plan-written x (t .limits .good) f frames out (r .is-plan .all) in
             (w-is ∙ rw q (written .0), out-is ∙ rw q (written .1), ap (λ (y : ChosenPlan). y .tries) q)
         by-choice noPlan q r = absurd (omega (arith, ap (λ (y : ChosenPlan). y .refusal) q))
         by-choice noPlausible q r = absurd (omega (arith, ap (λ (y : ChosenPlan). y .refusal) q))
@@ -119,7 +116,7 @@ module _ (s : List ℕ) (d : c.Cycle) (t : Taken s d) where
             absurd (omega (arith, ap (λ (y : ChosenPlan). y .refusal) q))
         go false e =
             let h = ltb-false a (fullTries x) e in
-            let o = by-choice (choose x) (reached-is h) (choose-right x (t .good)) in
+            let o = by-choice (choose x) (reached-is h) (choose-right x (t .limits .good)) in
             let is : outcomeWithin a s ≡ byChoice x (choose x) = within-reached a s (omega (arith, tries-are)) ∙ outcome-is in
             let tries : p .tries ≡ min a (requestTries s) = omega (arith, o .2, tries-are) in
             rw is (λ i. record { refusal = o .0 i .refusal; length = o .0 i .length; tries = tries i }, o .1)

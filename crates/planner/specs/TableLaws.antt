@@ -15,9 +15,9 @@ use Rattle.cycle.specs.Cycle.{Cycle, cycle, noCycle, cycleOf}
 use Rattle.cycle.specs.LimitLaws.{cycle-within, no-cycle-number, request-number-pos, request-number-few}
 use Rattle.table.specs.Table.{Table, encode}
 use Rattle.table.specs.WellFormed.{WellFormed}
-use Rattle.table.specs.Layout as table
+use Rattle.cursor.specs.Written.{written, buffer}
 use Rattle.table.specs.LengthLaws.{entryCount}
-use Rattle.table.specs.declared.Written.{Written}
+use Rattle.cursor.specs.declared.Written.{Written}
 use Rattle.model.specs.Plan.{Instance}
 use Rattle.model.specs.Good.{Good}
 use Rattle.model.specs.Answers.{instance, instance-good}
@@ -82,11 +82,11 @@ handed-within allowance request t e = go (ltb allowance (requestTries request)) 
 -- a table that fits is written, with the old bytes behind it
 module _ (t : Table) (out : List ℕ) (fits : length (encode t) ≤ length out) where
   pub handed-answer : outcomeAnswer (handed t) out ≡ record { refusal = 0; length = length (encode t) }
-  unfolding outcomeAnswer table.written table.tooShort
+  unfolding outcomeAnswer written
   handed-answer = rw (le-ltb (length out) (length (encode t)) fits)
 
   pub handed-buffer : outcomeBuffer (handed t) out ≡ encode t ++ drop (length (encode t)) out
-  unfolding outcomeBuffer table.buffer table.tooShort
+  unfolding outcomeBuffer buffer
   handed-buffer = rw (le-ltb (length out) (length (encode t)) fits)
 
 -- the table that was handed out stands in the first bytes of the buffer
@@ -119,7 +119,7 @@ module _ (out : List ℕ) (room : 519 ≤ length out) (w : Written) where
 
 -- the answer's length is within the buffer
 pub answer-within : (o : Outcome) (out : List ℕ) → outcomeAnswer o out .length ≤ length out
-unfolding outcomeAnswer table.written table.tooShort
+unfolding outcomeAnswer written
 answer-within (refusal number) out = omega arith
 answer-within (handed t) out = go (ltb (length out) (length (encode t))) refl
   where

@@ -7,14 +7,15 @@ use problem::JobLinks;
 ghost use mathlib.Core.Path.{_≡_};
 ghost use mathlib.Core.List.{[]};
 ghost use Rattle.model.specs.Answers.{instanceOf};
+ghost use Rattle.model.specs.Within.{InLimits};
 ghost use Rattle.model.specs.Chosen.{problemAt, isTried};
 ghost use Rattle.model.specs.ChosenTries.{chooseWalk};
 ghost use Rattle.search.specs.Counting.{planWalk};
 ghost use Rattle.place.specs.Arrays.{placedWithin};
-ghost use Rattle.planner.specs.Choices.{Planned, Searchable, choiceWithin, noneChosen};
+ghost use Rattle.planner.specs.Choices.{Searchable, choiceWithin, noneChosen};
 
 // The frame length and the frame of each job of the chosen plan; or 9, 10 or 23. And the tries that were made.
-pub(super) struct ChosenPlan {
+pub struct ChosenPlan {
     pub refusal: u8,
     pub f: u16,
     pub frames: [u16; 128],
@@ -67,9 +68,9 @@ fn none_chosen(refusal: u8, tries: u64) -> ChosenPlan
     }
 }
 
-// The chosen plan: that of the first length with a plan; or 23, where the search takes more tries than are allowed.
-pub(super) fn choose(cycle: Cycle, allowed: u64) -> ChosenPlan
-    requires { ⌜ Planned cycle ⌝ }
+// The chosen plan of a cycle: that of the first length with a plan; or 23, where the search takes more tries than are allowed.
+pub fn choose(cycle: Cycle, allowed: u64) -> ChosenPlan
+    requires { ⌜ InLimits cycle ⌝ }
     ensures { λ r. ⌜ r ≡ choiceWithin allowed (chooseWalk (instanceOf cycle)) ⌝ }
 {
     let cost = problem::costs(cycle);

@@ -1,5 +1,5 @@
 // The planner: a request becomes the table of its chosen plan, or a number that says why there is none, within an allowance of tries.
-mod choose;
+pub mod choose;
 
 ghost use mathlib.Core.Path.{_≡_};
 ghost use Rattle.planned_table.specs.Outcome.{outcomeBuffer};
@@ -41,7 +41,7 @@ pub fn plan(request: &[u8], allowance: u64, out: &mut [u8]) -> Searched
         return refused(chosen.refusal, chosen.tries);
     }
     let frames = chosen.frames;
-    let written = planned_table::write(request, chosen.f, frames, out);
+    let written = planned_table::write(cycle, chosen.f, frames, out);
     Searched {
         refusal: written.refusal,
         length: written.length,

@@ -31,6 +31,7 @@ use Rattle.request.specs.Request.{
   ended,
   afterPairs,
   afterTasks,
+  Reading,
   reading,
   readable,
   unreadable,
@@ -206,3 +207,15 @@ unreadable-number bytes number e = first (tasksOf bytes) (tasks-section bytes) e
     first : (r : Parsed (List Task)) → Section TaskNumber taskCount 8 bytes r → afterTasks r ≡ unreadable number → UnreadNumber number
     first (got ts rest) h f = second ts rest (pairsOf ts rest) (pairs-section ts rest) f
     first (refused m) h f = let same : m ≡ number = cc in inl (omega (arith, h), omega (arith, h))
+
+-- What a reading keeps: the form of a request, or the number of a refusal.
+abbrev pub KeptReading : Reading → Type 0
+KeptReading (readable tasks pairs g) = Readable tasks pairs
+KeptReading (unreadable number) = UnreadNumber number
+
+pub reading-kept : (bytes : List ℕ) → KeptReading (reading bytes)
+reading-kept bytes = go (reading bytes) refl
+  where
+    go : (r : Reading) → reading bytes ≡ r → KeptReading r
+    go (readable tasks pairs g) e = readable-kept bytes tasks pairs g e
+    go (unreadable number) e = unreadable-number bytes number e

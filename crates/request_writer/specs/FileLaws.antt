@@ -1,20 +1,17 @@
 -- What stands in the buffer after a call that writes a request or refuses: the file and behind it the old bytes, or the old bytes alone.
 use Prim.Native.Nat.{ℕ, _≤_}
 use mathlib.Core.Path.{_≡_, refl}
-use mathlib.Core.Bool.{Bool, true, false}
-use mathlib.Core.List.{List, _++_}
+use mathlib.Core.List.{List}
 use native.Mathlib.Omega.{arith}
 use lib.ListN.{length, take, drop}
-use lib.Seq.{take-append-seam, drop-append-seam}
 use borrow.Author.Tests.{le-ltb}
-use Rattle.cursor.specs.Choice.{pick}
 use Rattle.request.specs.Request.{Reading, readable, unreadable}
 use Rattle.request.specs.Encode.{requestBytes}
 use Rattle.request.specs.declared.Task.{Task}
 use Rattle.request.specs.declared.Pair.{Pair}
-use Rattle.request_writer.specs.Written.{tooShort, written, buffer, requestAnswer, requestBuffer}
+use Rattle.cursor.specs.Written.{written, buffer, written-most, file-there}
+use Rattle.request_writer.specs.Written.{requestAnswer, requestBuffer}
 use Rattle.request_writer.specs.WriteLaws.{bytes-short}
-use Rattle.request_writer.specs.declared.Written.{Written}
 
 pub refusal-answered : (number : ℕ) (out : List ℕ)
     → (requestAnswer (unreadable number) out ≡ record { refusal = number; length = 0 }) × (requestBuffer (unreadable number) out ≡ out)
@@ -47,36 +44,23 @@ pub record HasFile (r : Reading) (out : List ℕ) : Type 0 where
 
 module _ (out : List ℕ) where
   pub has-file : (r : Reading) → ((number : ℕ) → r ≡ unreadable number → number ≡ 0 → ⊥) → requestAnswer r out .refusal ≡ 0 → HasFile r out
-  unfolding requestAnswer requestBuffer written buffer
+  unfolding requestAnswer requestBuffer
   has-file (unreadable number) some z = absurd (some number refl z)
   has-file (readable tasks pairs g) some z =
-      let bytes = requestBytes tasks pairs g in
-      let h = fits bytes (tooShort bytes out) z in
-      record { tasks = tasks; pairs = pairs; g = g; is = refl; file = h .0; behind = h .1 }
-    where
-      fits : (bytes : List ℕ) (short : Bool)
-          → let answer = pick {A = Written} short (record { refusal = 11; length = 0 }) (record { refusal = 0; length = length bytes }) in
-          let after = pick short out (bytes ++ drop (length bytes) out) in
-          answer .refusal ≡ 0 → (take (answer .length) after ≡ bytes) × (drop (answer .length) after ≡ drop (answer .length) out)
-      fits bytes true e = absurd (omega arith)
-      fits bytes false e = (take-append-seam bytes (drop (length bytes) out), drop-append-seam bytes (drop (length bytes) out))
+      let h = file-there (requestBytes tasks pairs g) out z in
+      record { tasks = tasks; pairs = pairs; g = g; is = refl; file = h .file; behind = h .behind }
 
   module _ (r : Reading) (few : (tasks : List Task) (pairs : List Pair) (g : ℕ) → r ≡ readable tasks pairs g → (length tasks ≤ 16) × (length pairs ≤ 16)) where
     -- a request of at most 16 tasks and 16 pairs has at most 164 bytes
     pub answer-short : requestAnswer r out .length ≤ 164
-    unfolding requestAnswer written
+    unfolding requestAnswer
     answer-short = go r refl
       where
-        fits : (bytes : List ℕ) → length bytes ≤ 164 → (short : Bool)
-            → pick {A = Written} short (record { refusal = 11; length = 0 }) (record { refusal = 0; length = length bytes }) .length ≤ 164
-        fits bytes h true = omega arith
-        fits bytes h false = h
-
         go : (q : Reading) → r ≡ q → requestAnswer q out .length ≤ 164
         go (unreadable number) e = omega arith
         go (readable tasks pairs g) e =
             let h = few tasks pairs g e in
-            fits (requestBytes tasks pairs g) (bytes-short tasks pairs g (h .0) (h .1)) (tooShort (requestBytes tasks pairs g) out)
+            omega (arith, written-most (requestBytes tasks pairs g) out, bytes-short tasks pairs g (h .0) (h .1))
 
     -- so a buffer of 164 bytes or more is not too short for it: it is written, or refused by its own number
     pub answer-enough : 164 ≤ length out → requestAnswer r out .refusal ≡ ownNumber r

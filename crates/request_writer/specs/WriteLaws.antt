@@ -7,7 +7,6 @@ use native.Mathlib.Numerals.{add-one}
 use native.Mathlib.Omega.{arith}
 use lib.ListN.{length, getD, take, drop, set, length-append, length-drop, drop-of-length-le}
 use lib.Seq.{drop-cons, drop-drop, drop-set-lt, set-split, sets, sets-eq}
-use borrow.Author.Tests.{lt-ltb, le-ltb}
 use Rattle.cursor.specs.Fields.{wordBytes}
 use Rattle.cursor.specs.Padded.{firsts, firsts-length, getD-firsts}
 use Rattle.cursor.specs.Pieces.{Placed, PartWay, part-start, part-more, part-end, two-stored}
@@ -15,7 +14,6 @@ use Rattle.request.specs.Request.{noTask, noPair}
 use Rattle.request.specs.Encode.{taskBytes, pairBytes, sectionBytes, silentBytes, requestBytes}
 use Rattle.request.specs.declared.Task.{Task}
 use Rattle.request.specs.declared.Pair.{Pair}
-use Rattle.request_writer.specs.Written.{written, buffer}
 
 -- A section of n records, each `width` bytes wide, which stand in the first places of an array.
 module _ {A : Type 0} (write : A → List ℕ) (width : ℕ) (wide : (x : A) → length (write x) ≡ width) where
@@ -87,7 +85,8 @@ pub pair-stored : (out : List ℕ) (at : ℕ) (q : Pair) → at + 2 ≤ length o
 unfolding pairBytes
 pair-stored out at q h = two-stored out at (q .a) (q .b) h
 
-pub task-stored : (out : List ℕ) (x : Task) → 8 ≤ length out → sets out 0 (taskBytes x) ≡ taskBytes x ++ drop 8 out
+pub task-stored : (out : List ℕ) (x : Task) → 8 ≤ length out
+    → sets (sets (sets (sets out 0 (wordBytes (x .c))) 2 (wordBytes (x .t))) 4 (wordBytes (x .d))) 6 (wordBytes (x .p)) ≡ taskBytes x ++ drop 8 out
 unfolding taskBytes wordBytes
 task-stored out x h = sets-eq (taskBytes x) out 0 h
 
@@ -172,22 +171,11 @@ module _ (s p t entry : List ℕ) (fits : length (s ++ p ++ t) ≤ length entry)
     all-placed last more third =
         part-end _ _ _ _ _ (part-placed _ _ _ _ _ second-part t [] last more (sym (append-nil t)) third) refl
 
--- The two ways out of the writer.
+-- The length, which is known before the first byte.
 module _ (tasks : List Task) (n : ℕ) (pairs : List Pair) (m g : ℕ) (entry : List ℕ) where
   abbrev bytes : List ℕ
   bytes = requestBytes (firsts n noTask tasks) (firsts m noPair pairs) g
 
-  abbrev pub AnswersAs : ℕ → ℕ → List ℕ → Type 0
-  AnswersAs refusal length out = (record { refusal = refusal; length = length } ≡ written bytes entry) × (out ≡ buffer bytes entry)
-
   pub request-length : length bytes ≡ 2 + 8 * n + 2 * m + length (silentBytes g)
   request-length =
       bytes-length (firsts n noTask tasks) (firsts m noPair pairs) g ∙ rw (firsts-length noTask tasks n, firsts-length noPair pairs m)
-
-  pub request-short : length entry < length bytes → AnswersAs 11 0 entry
-  unfolding written buffer
-  request-short h = (rw (lt-ltb _ _ h), rw (lt-ltb _ _ h))
-
-  pub request-written : length bytes ≤ length entry → (out : List ℕ) (end : ℕ) → Placed bytes entry out end → AnswersAs 0 end out
-  unfolding written buffer
-  request-written h out end b = (rw (le-ltb _ _ h, b .ends), rw (le-ltb _ _ h) (b .whole))

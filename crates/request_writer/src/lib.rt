@@ -1,4 +1,5 @@
 // Writing a request: its length is known before the first byte, and each section goes into the part of the buffer behind the one before.
+use cursor::Written;
 use request::Pair;
 use request::Task;
 ghost use mathlib.Core.Path.{_≡_};
@@ -9,26 +10,16 @@ ghost use Rattle.cursor.specs.Padded.{firsts};
 ghost use Rattle.cursor.specs.Pieces.{Placed};
 ghost use Rattle.request.specs.Request.{noTask, noPair};
 ghost use Rattle.request.specs.Encode.{taskBytes, pairBytes, sectionBytes, silentBytes, requestBytes};
-ghost use Rattle.request_writer.specs.Written.{written, buffer};
-
-// The number of bytes written.
-pub struct Written {
-    pub refusal: u8,
-    pub length: usize,
-}
+ghost use Rattle.cursor.specs.Written.{written, buffer};
 
 fn write_task(out: &mut [u8], x: Task)
     requires { ⌜ 8 ≤ length (now out) ⌝ }
     ensures { λ r. ⌜ now (out .exit) ≡ taskBytes x ++ drop 8 (now (out .entry)) ⌝ }
 {
-    out[0] = (x.c % 256) as u8;
-    out[1] = (x.c / 256) as u8;
-    out[2] = (x.t % 256) as u8;
-    out[3] = (x.t / 256) as u8;
-    out[4] = (x.d % 256) as u8;
-    out[5] = (x.d / 256) as u8;
-    out[6] = (x.p % 256) as u8;
-    out[7] = (x.p / 256) as u8;
+    cursor::put_word(out, 0, x.c);
+    cursor::put_word(out, 2, x.t);
+    cursor::put_word(out, 4, x.d);
+    cursor::put_word(out, 6, x.p);
 }
 
 // The first section, at the front of `out`; answers the number of its bytes.

@@ -6,6 +6,7 @@ use mathlib.Core.List.{List, _++_}
 use lib.ListN.{length, drop}
 use Rattle.cursor.specs.Padded.{padded}
 use Rattle.cycle.specs.Cycle.{cycleOf}
+use Rattle.cycle.specs.Answers.{answered}
 use Rattle.table.specs.Table.{decode}
 use Rattle.table.specs.TableBytes.{says-decodes}
 use Rattle.model.specs.Plan.{Instance}
@@ -30,8 +31,9 @@ pub record ReadsBack (request bytes : List ℕ) : Type 0 where
   pub is-chosen : IsChosen x f frames
   -- `checker::check` answers 0
   pub passes : checker.checkNumber request bytes ≡ 0
-  -- `checker::read_plan` answers that plan
-  pub reads : readAnswer (checker.checked (cycleOf request) (decode bytes)) ≡ record { refusal = 0; f = f; frames = padded 128 0 frames }
+  -- `checker::read_plan` answers that plan, with the request's cycle
+  pub reads : readAnswer (answered (cycleOf request)) (checker.checked (cycleOf request) (decode bytes))
+      ≡ record { refusal = 0; cycle = answered (cycleOf request); f = f; frames = padded 128 0 frames }
   -- `rewriter::rewrite` writes the same bytes, and those behind them stay
   pub writes : (out : List ℕ) → length bytes ≤ length out
       → (outcomeAnswer (rewritten request bytes) out ≡ record { refusal = 0; length = length bytes })
@@ -54,6 +56,6 @@ planned-reads-back allowance request out e =
       frames = h .frames;
       is-chosen = h .is-chosen;
       passes = ap checker.numberOf verdict;
-      reads = ap readAnswer verdict;
+      reads = ap (readAnswer (answered (cycleOf request))) verdict;
       writes = own-bytes request (c .x) (c .within) bytes (h .t) says accepted (c .says .bytes-are);
     }

@@ -9,7 +9,7 @@ use Rattle.cycle.specs.Cycle.{cycleOf}
 use Rattle.table.specs.Table.{Table, table, decode, encode}
 use Rattle.cursor.specs.Front.{Bytes}
 use Rattle.table.specs.Inverse.{decode-encode, encode-decode}
-use Rattle.table.specs.Layout as layout
+use Rattle.cursor.specs.Written.{written, buffer}
 use Rattle.model.specs.Plan.{Instance, IsPlan}
 use Rattle.model.specs.Within.{Within, within-good}
 use Rattle.model.specs.Described.{Describes, Accepted}
@@ -34,7 +34,7 @@ module _ (request : List ℕ) (x : Instance) (within : Within request x) where
     pub own-bytes : encode t ≡ bytes → (out : List ℕ) → length bytes ≤ length out
         → (outcomeAnswer (rewritten request bytes) out ≡ record { refusal = 0; length = length bytes })
         × (outcomeBuffer (rewritten request bytes) out ≡ bytes ++ drop (length bytes) out)
-    unfolding outcomeAnswer outcomeBuffer layout.written layout.buffer layout.tooShort
+    unfolding outcomeAnswer outcomeBuffer written buffer
     own-bytes own out room = rw (rewritten-is, own, le-ltb (length out) (length bytes) room) (refl, refl)
 
     -- An accepted table is written again with the same bytes, and the bytes behind it keep their content.

@@ -1,5 +1,5 @@
 // Rewriting: a table is checked against its request, and the plan read from it is written again.
-use table::Written;
+use cursor::Written;
 ghost use mathlib.Core.Path.{_≡_};
 ghost use Rattle.planned_table.specs.Outcome.{outcomeAnswer, outcomeBuffer};
 ghost use Rattle.rewriter.specs.Rewritten.{rewritten};
@@ -16,6 +16,7 @@ pub fn rewrite(request: &[u8], table: &[u8], out: &mut [u8]) -> Written
             length: 0,
         };
     }
+    let cycle = read.cycle;
     let frames = read.frames;
-    planned_table::write(request, read.f, frames, out)
+    planned_table::write(cycle, read.f, frames, out)
 }

@@ -1,14 +1,17 @@
 -- The reader's answers, of what the bytes decode to, and the entries that an answer says.
-use Prim.Native.Nat.{ℕ, zero, suc, _+_}
+use Prim.Native.Nat.{ℕ, zero, suc, _+_, _*_}
 use mathlib.Core.List.{List, [], _∷_, map}
-use lib.ListN.{length, getD, replicate}
+use lib.ListN.{length, getD, drop, replicate}
 use lib.Dec.{ltb}
 use Rattle.cursor.specs.Choice.{pick}
 use Rattle.cursor.specs.Padded.{padded}
-use Rattle.table.specs.Table.{Entry, Decoded, table, malformed, jobByte, entryOf, rowOf}
+use Rattle.cursor.specs.Parsed.{Parsed, got, refused}
+use Rattle.cursor.specs.declared.Cursor.{Cursor}
+use Rattle.table.specs.Table.{Entry, Decoded, table, malformed, jobByte, entryOf, rowFrom, rowOf}
 use Rattle.table.specs.declared.Sizes.{Sizes}
 use Rattle.table.specs.declared.Row.{Row}
 use Rattle.table.specs.declared.TableRead.{TableRead}
+use Rattle.table.specs.declared.TakenRow.{TakenRow}
 
 abbrev pub sizesRefused : Sizes
 sizesRefused = record { refusal = 12; f = 0; h = 0; height = 0 }
@@ -39,6 +42,19 @@ tableRead k d = record { sizes = sizesOf d; row = rowAnswer k d }
 
 abbrev pub tableRefused : TableRead
 tableRefused = record { sizes = sizesRefused; row = rowRefused 12 }
+
+-- the first row begins behind the sizes and F
+abbrev pub firstRow : Cursor
+firstRow = record { at = 7 }
+
+-- a row, which has a byte and two for each entry, and the cursor behind it; or the number, and the cursor stays
+abbrev pub takenRow : ℕ → Parsed (List Entry) → TakenRow
+takenRow at (got es rest) = record { row = rowGiven es; next = record { at = at + 1 + 2 * length es } }
+takenRow at (refused number) = record { row = rowRefused number; next = record { at = at } }
+
+-- the row that begins at a place
+unfoldable pub rowAt : List ℕ → ℕ → TakenRow
+rowAt s at = takenRow at (rowFrom (drop at s))
 
 -- the entries that places say: n of them from place p on
 unfoldable pub entriesAt : List ℕ → List ℕ → ℕ → ℕ → List Entry

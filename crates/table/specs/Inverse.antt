@@ -55,7 +55,7 @@ entries-read [] low done rest h = rw append-nil
 entries-read (e ∷ es) low done rest h =
     rw (entry-read low e (entriesBytes es ++ rest) (h .0) (h .1) (h .2)) (entries-read es (e .task + 1) (done ++ (e ∷ [])) rest (h .3) ∙ rw append-snoc)
 
-row-read : (es : List Entry) (rest : List ℕ) → RisingFrom 0 es → rowFrom (rowBytes es ++ rest) ≡ got es rest
+pub row-read : (es : List Entry) (rest : List ℕ) → RisingFrom 0 es → rowFrom (rowBytes es ++ rest) ≡ got es rest
 unfolding rowFrom rowBytes byteOf
 row-read es rest h = rw (le-leb (length es) 16 (omega (arith, rising-few es 0 (omega arith) h))) (entries-read es 0 [] rest h)
 

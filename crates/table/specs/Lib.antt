@@ -13,3 +13,4 @@ pub mod LengthLaws
 pub mod ChainLaws
 pub mod WriteLaws
 pub mod TableBytes
+pub mod RowsLeft

@@ -1,5 +1,5 @@
 -- One turn of each loop of the reader, and its ends: some records are read, and the rest of the reading gives what the whole gives.
-use Prim.Native.Nat.{ℕ, _+_, _-_, _≤_, _<_}
+use Prim.Native.Nat.{ℕ, _+_, _*_, _-_, _≤_, _<_}
 use mathlib.Core.Path.{_≡_, refl, sym, ap, _∙_}
 use mathlib.Core.List.{List, [], _∷_, _++_}
 use mathlib.Core.Bool.{Bool, true, false}
@@ -12,10 +12,11 @@ use borrow.Author.Tests.{ltb-true, ltb-false, lt-ltb, le-ltb, le-leb}
 use Rattle.cursor.specs.Choice.{pick}
 use Rattle.cursor.specs.Parsed.{got, refused, records}
 use Rattle.cursor.specs.Fields.{byteOf, wordOf}
+use Rattle.cursor.specs.declared.Cursor.{Cursor}
 use Rattle.table.specs.Left.{less-one, none-left}
 use Rattle.table.specs.Table.{Entry, Lengths, table, malformed, entryOf, entriesFrom, rowFrom, heightFits, rowsFrom, wholeTable}
 use Rattle.table.specs.EntryLaws.{task-of-byte}
-use Rattle.table.specs.Answers.{rowGiven, rowRefused, sizesOf, rowAnswer, tableRead}
+use Rattle.table.specs.Answers.{rowGiven, rowRefused, sizesOf, rowAnswer, tableRead, rowAt}
 use Rattle.table.specs.AnswerLaws.{EntriesPlaced, none-placed, one-placed, placed-given}
 use Rattle.table.specs.Promises.{EntryAt, RowHere}
 use Rattle.table.specs.declared.Row.{Row}
@@ -29,10 +30,11 @@ pub record EntriesSoFar (s : List ℕ) (n start : ℕ) (tasks jobs : List ℕ) (
   pub done : List Entry
   pub placed : EntriesPlaced done i tasks jobs
   pub left : entriesFrom (n - i) low done (drop at s) ≡ entriesFrom n 0 [] (drop start s)
+  pub place : at ≡ start + 2 * i
 
 module _ (s : List ℕ) (n start : ℕ) where
   pub entries-start : EntriesSoFar s n start (replicate 16 0) (replicate 16 0) 0 start 0
-  entries-start = record { done = []; placed = none-placed; left = simp sub-zero }
+  entries-start = record { done = []; placed = none-placed; left = simp sub-zero; place = omega arith }
 
   module _ (tasks jobs : List ℕ) (low at i : ℕ) (so : EntriesSoFar s n start tasks jobs low at i) where
     pub entries-more : (task job : ℕ) (next : _) → i < n → n ≤ 16 → EntryAt s at low (EntryBytes task job next)
@@ -41,6 +43,7 @@ module _ (s : List ℕ) (n start : ℕ) where
     entries-more task job next h few e = record {
       done = so .done ++ (entryOf task job ∷ []);
       placed = one-placed (so .done) i tasks jobs (so .placed) task job (omega arith) (e .2);
+      place = omega (arith, so .place, e .3);
       left = ap (λ (low : ℕ). entriesFrom (n - (i + 1)) (low + 1) (so .done ++ (entryOf task job ∷ [])) (drop (next .at) s)) (sym (task-of-byte task job))
           ∙ sym (rw (less-one n i h, e .0)) ∙ so .left;
     }
@@ -49,15 +52,25 @@ module _ (s : List ℕ) (n start : ℕ) where
     unfolding entriesFrom
     entries-refused h e = sym (so .left) ∙ rw (less-one n i h, e)
 
-    pub entries-row : (first : ℕ) → n ≤ i → i ≤ n → n ≤ 16 → byteOf 12 (drop first s) ≡ got n (drop start s) → RowHere s first tasks jobs n at
+    pub entries-row : (first : ℕ) → n ≤ i → i ≤ n → n ≤ 16 → byteOf 12 (drop first s) ≡ got n (drop start s) → start ≡ first + 1 → RowHere s first tasks jobs n at
     unfolding rowFrom entriesFrom
-    entries-row first h k few byte =
+    entries-row first h k few byte begins =
         let all : i ≡ n = omega arith in
         record {
           entries = so .done;
           read = rw (byte, le-leb n 16 few) (sym (so .left) ∙ rw (none-left n i h));
           given = rw (← all) (placed-given (so .done) i tasks jobs (so .placed));
+          ends = omega (arith, so .place);
         }
+
+-- a row that was read is the one at its place
+pub row-taken : (s : List ℕ) (at : ℕ) (tasks jobs : List ℕ) (n : ℕ) (next : Cursor) → RowHere s at tasks jobs n (next .at)
+    → record { row = record { refusal = 0; count = n; tasks = tasks; jobs = jobs }; next = next } ≡ rowAt s at
+unfolding rowAt rowGiven
+row-taken s at tasks jobs n next here =
+    let count : length (here .entries) ≡ n = sym (ap (λ (r : Row). r .count) (here .given)) in
+    let place : next .at ≡ at + 1 + 2 * length (here .entries) = here .ends ∙ rw count in
+    rw (here .read) (λ i. record { row = here .given i; next = record { at = place i } })
 
 -- the rows' section as far as its first i rows: the row k is kept once it is read
 pub record RowsSoFar (s : List ℕ) (z : Lengths) (height start k : ℕ) (kept : Row) (at i : ℕ) : Type 0 where

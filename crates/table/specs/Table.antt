@@ -24,11 +24,20 @@ pub data Decoded : Type 0 where
   malformed : Decoded
 
 -- "a job byte: bits 0 to 6 the job j, bit 7 carry"
+abbrev pub jobBits : ℕ → Bool → ℕ
+jobBits number carried = number + pick carried 128 0
+
+abbrev pub numberIn : ℕ → ℕ
+numberIn byte = byte % 128
+
+abbrev pub carriedIn : ℕ → Bool
+carriedIn byte = leb 128 byte
+
 unfoldable pub jobByte : Entry → ℕ
-jobByte e = e .number + pick (e .carried) 128 0
+jobByte e = jobBits (e .number) (e .carried)
 
 unfoldable pub entryOf : ℕ → ℕ → Entry
-entryOf task byte = record { task = task; number = byte % 128; carried = leb 128 byte }
+entryOf task byte = record { task = task; number = numberIn byte; carried = carriedIn byte }
 
 -- "An entry is a task byte 0 to 15 and a job byte"; its task is at least `low`
 unfoldable pub entryFrom : ℕ → List ℕ → Parsed Entry

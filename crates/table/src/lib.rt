@@ -1,6 +1,9 @@
 // The table file: its sizes and its rows are read, and it is written. Every refusal has its number, and 0 is none.
+pub mod job;
 pub mod read;
 pub mod write;
+
+use cursor::Cursor;
 
 // f, H and F.
 pub struct Sizes {
@@ -24,6 +27,12 @@ pub struct TableRead {
     pub row: Row,
 }
 
+// A row, and the cursor behind it.
+pub struct TakenRow {
+    pub row: Row,
+    pub next: Cursor,
+}
+
 // Entries in a given order, `count` of them and at most 128, each with its row: row k of the table holds those whose row is k.
 pub struct Layout {
     pub f: u16,
@@ -33,10 +42,4 @@ pub struct Layout {
     pub rows: [u16; 128],
     pub tasks: [u8; 128],
     pub jobs: [u8; 128],
-}
-
-// The number of bytes written.
-pub struct Written {
-    pub refusal: u8,
-    pub length: usize,
 }

@@ -2,13 +2,14 @@
 use crate::Row;
 use crate::Sizes;
 use crate::TableRead;
+use crate::TakenRow;
 use cursor::ByteRead;
 use cursor::Cursor;
 use cursor::WordRead;
 ghost use mathlib.Core.Path.{_≡_};
 ghost use lib.ListN.{replicate};
 ghost use Rattle.table.specs.Table.{decode, wholeTable, rowsFrom, heightFits};
-ghost use Rattle.table.specs.Answers.{sizesOf, rowAnswer, rowRefused, tableRead, tableRefused};
+ghost use Rattle.table.specs.Answers.{sizesOf, rowAnswer, rowRefused, tableRead, tableRefused, firstRow, rowAt};
 ghost use Rattle.table.specs.Promises.{EntryAt, RowAt, SizesAt};
 
 // An entry's task byte and job byte.
@@ -200,10 +201,32 @@ pub fn sizes(table: &[u8]) -> Sizes
     r.sizes
 }
 
-// The row k: 12 where the bytes do not have the form, 15 where k is not below F.
-pub fn row(table: &[u8], k: u16) -> Row
-    ensures { λ r. ⌜ r ≡ rowAnswer k (decode (now (table .entry))) ⌝ }
+// Where the first row begins: behind the sizes and F.
+pub fn first_row() -> Cursor
+    ensures { λ r. ⌜ r ≡ firstRow ⌝ }
 {
-    let r = row_and_sizes(table, k);
-    r.row
+    Cursor { at: 7 }
+}
+
+// The row that begins at the cursor, and the cursor behind it, where the next row begins. 12 where there is no row, and the cursor stays.
+pub fn next_row(table: &[u8], here: Cursor) -> TakenRow
+    ensures { λ r. ⌜ r ≡ rowAt (now (table .entry)) (here .at) ⌝ }
+{
+    let at = here.at;
+    let mut tasks = [0u8; 16];
+    let mut jobs = [0u8; 16];
+    let RowRead::RowEntries(count, next) = read_row(table, here, &mut tasks, &mut jobs) else {
+        let row = refused_row(12);
+        return TakenRow {
+            row,
+            next: Cursor { at },
+        };
+    };
+    let row = Row {
+        refusal: 0,
+        count,
+        tasks,
+        jobs,
+    };
+    TakenRow { row, next }
 }

@@ -1,6 +1,7 @@
 //! A second planner, check, rewriter and dispatcher, written from the scope paper's words:
 //! plain, slow and obvious.
 
+pub mod calls;
 pub mod check;
 pub mod cycle;
 pub mod dispatch;
@@ -14,11 +15,10 @@ pub mod search;
 pub mod table;
 pub mod tries;
 
-use crate::bus::{count_bytes, counts, Asked, Bus, ENTRIES_LEN, NOT_A_STATE, STATE_LEN, TRIES_LEN};
+use crate::bus::Bus;
 use cycle::Cycle;
-use dispatch::State;
 use search::{Choice, Effort};
-use table::{Entry, Table};
+use table::Table;
 
 /// The request within the limits that the bytes hold, or 1 to 8 or 17.
 pub fn read_cycle(bytes: &[u8]) -> Result<Cycle, i32> {
@@ -73,163 +73,15 @@ fn checked(request: &[u8], table: &[u8]) -> Result<Table, i32> {
     Ok(table::of_plan(&cycle, read.f, &frames))
 }
 
-/// Writes the bytes to the front of the buffer; the length, or 11.
-fn write_out(bytes: &[u8], out: &mut [u8]) -> Result<i32, i32> {
-    if out.len() < bytes.len() {
-        return Err(11);
-    }
-    out[..bytes.len()].copy_from_slice(bytes);
-    Ok(bytes.len() as i32)
-}
-
-fn state_in(bytes: &[u8]) -> Option<State> {
-    if bytes.len() < STATE_LEN || bytes[2] > 1 {
-        return None;
-    }
-    Some(State {
-        row: i64::from(bytes[0]) + 256 * i64::from(bytes[1]),
-        first_cycle: bytes[2] == 1,
-        overruns: counts(bytes).map(i64::from),
-    })
-}
-
-fn put_state(state: State, bytes: &mut [u8]) {
-    bytes[0..2].copy_from_slice(&(state.row as u16).to_le_bytes());
-    bytes[2] = u8::from(state.first_cycle);
-    for (task, overruns) in state.overruns.iter().enumerate() {
-        bytes[count_bytes(task)].copy_from_slice(&(*overruns as u16).to_le_bytes());
-    }
-}
-
-fn put_entries(served: &[Entry], bytes: &mut [u8]) {
-    bytes[..ENTRIES_LEN].fill(0);
-    for (place, entry) in served.iter().enumerate() {
-        bytes[2 * place] = entry.task as u8;
-        bytes[2 * place + 1] = entry.job_byte();
-    }
-}
-
-fn answer(result: Result<i32, i32>) -> i32 {
+/// The answer of a call, a refusal as its number negated.
+pub fn answer(result: Result<i32, i32>) -> i32 {
     match result {
         Ok(value) => value,
         Err(number) => -number,
     }
 }
 
-/// The reference behind the eight calls of the library.
+/// The tool that answers every call as the reference does.
 pub struct Reference;
 
-impl Reference {
-    fn try_next_frame(table: &[u8], state: &mut [u8], entries: &mut [u8]) -> Result<i32, i32> {
-        let before = state_in(state).ok_or(NOT_A_STATE)?;
-        if entries.len() < ENTRIES_LEN {
-            return Err(NOT_A_STATE);
-        }
-        let read = table::decode(table).ok_or(12)?;
-        let (served, after) = dispatch::next_frame(&read, before)?;
-        put_state(after, state);
-        put_entries(&served, entries);
-        Ok(served.len() as i32)
-    }
-
-    fn try_report(request: &[u8], task: u8, ticks: u32, state: &mut [u8]) -> Result<i32, i32> {
-        let before = state_in(state).ok_or(NOT_A_STATE)?;
-        let read = request::read(request)?;
-        put_state(dispatch::report(&read, task, ticks, before)?, state);
-        Ok(0)
-    }
-}
-
-impl Bus for Reference {
-    fn plan(&self, request: &[u8], allowance: u64, out: &mut [u8], tries: &mut [u8]) -> i32 {
-        if tries.len() < TRIES_LEN {
-            return -NOT_A_STATE;
-        }
-        let (chosen, count) = planned_within(request, allowance);
-        tries[..TRIES_LEN].copy_from_slice(&count.to_le_bytes());
-        answer(chosen.and_then(|table| write_out(&table::encode(&table), out)))
-    }
-
-    fn check(&self, request: &[u8], table: &[u8]) -> i32 {
-        answer(checked(request, table).map(|_| 0))
-    }
-
-    fn rewrite(&self, request: &[u8], table: &[u8], out: &mut [u8]) -> i32 {
-        answer(checked(request, table).and_then(|plan| write_out(&table::encode(&plan), out)))
-    }
-
-    fn fresh(&self, state: &mut [u8]) -> i32 {
-        if state.len() < STATE_LEN {
-            return -NOT_A_STATE;
-        }
-        state[..STATE_LEN].fill(0);
-        put_state(dispatch::fresh(), state);
-        0
-    }
-
-    fn next_frame(&self, table: &[u8], state: &mut [u8], entries: &mut [u8]) -> i32 {
-        answer(Reference::try_next_frame(table, state, entries))
-    }
-
-    fn report(&self, request: &[u8], task: u8, ticks: u32, state: &mut [u8]) -> i32 {
-        answer(Reference::try_report(request, task, ticks, state))
-    }
-
-    fn join(&self, first: &[u8], second: &[u8], out: &mut [u8]) -> i32 {
-        answer(
-            join::joined(first, second).and_then(|whole| write_out(&request::write(&whole), out)),
-        )
-    }
-
-    fn one_off(&self, request: &[u8], table: &[u8], asked: Asked) -> i32 {
-        answer(one_off::earliest(request, table, asked).map(|frame| frame as i32))
-    }
-}
-
-/// Calls of a tool that it leaves to the reference, in an `impl Bus`.
-#[macro_export]
-macro_rules! by_reference {
-    (plan) => {
-        fn plan(&self, request: &[u8], allowance: u64, out: &mut [u8], tries: &mut [u8]) -> i32 {
-            $crate::reference::Reference.plan(request, allowance, out, tries)
-        }
-    };
-    (check) => {
-        fn check(&self, request: &[u8], table: &[u8]) -> i32 {
-            $crate::reference::Reference.check(request, table)
-        }
-    };
-    (rewrite) => {
-        fn rewrite(&self, request: &[u8], table: &[u8], out: &mut [u8]) -> i32 {
-            $crate::reference::Reference.rewrite(request, table, out)
-        }
-    };
-    (fresh) => {
-        fn fresh(&self, state: &mut [u8]) -> i32 {
-            $crate::reference::Reference.fresh(state)
-        }
-    };
-    (next_frame) => {
-        fn next_frame(&self, table: &[u8], state: &mut [u8], entries: &mut [u8]) -> i32 {
-            $crate::reference::Reference.next_frame(table, state, entries)
-        }
-    };
-    (report) => {
-        fn report(&self, request: &[u8], task: u8, ticks: u32, state: &mut [u8]) -> i32 {
-            $crate::reference::Reference.report(request, task, ticks, state)
-        }
-    };
-    (join) => {
-        fn join(&self, first: &[u8], second: &[u8], out: &mut [u8]) -> i32 {
-            $crate::reference::Reference.join(first, second, out)
-        }
-    };
-    (one_off) => {
-        fn one_off(&self, request: &[u8], table: &[u8], asked: $crate::bus::Asked) -> i32 {
-            $crate::reference::Reference.one_off(request, table, asked)
-        }
-    };
-    ($($call:ident),+) => {
-        $($crate::by_reference!($call);)+
-    };
-}
+impl Bus for Reference {}

@@ -2,7 +2,14 @@
 
 use super::cycle::Cycle;
 use super::{check, read_cycle, table};
-use crate::bus::Asked;
+
+/// A one-off transfer: so many ticks, not before the one tick and not after the other.
+#[derive(Clone, Copy, Debug, PartialEq, Eq)]
+pub struct Asked {
+    pub length: u32,
+    pub from: u32,
+    pub until: u32,
+}
 
 /// What the jobs of a row take of it, in every cycle alike.
 fn used(cycle: &Cycle, rows: i64, frames: &[i64], row: i64) -> i64 {

@@ -116,7 +116,7 @@ pub fn example(name: &str) -> Vec<u8> {
 }
 
 /// A line past the capture of `cargo test`, so that every run shows it.
-fn tell(line: String) {
+pub fn tell(line: String) {
     stdout()
         .write_all(line.as_bytes())
         .expect("a line is written");

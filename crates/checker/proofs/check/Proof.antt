@@ -14,7 +14,7 @@ read-plan-requires c κs = search needs
 returns : tie.Need-returns
 returns c =
     let a = c .before .before .before .args in
-    ap (λ r. r .refusal) (c .read-plan .ensures) ∙ answer-number (checked (cycleOf (a .request .now)) (decode (a .table .now)))
+    ap (λ r. r .refusal) (c .read-plan .ensures) ∙ answer-number _ (checked (cycleOf (a .request .now)) (decode (a .table .now)))
 
 pub check-spec : {M : Type 1} → statement M
 check-spec = tie.close (tie.spec read-plan-requires returns)

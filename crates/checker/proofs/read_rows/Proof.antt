@@ -13,7 +13,7 @@ returns c =
     let s = frames .before .before .before in
     let a = s .args in
     let missing = job-missing (a .cycle) (s .pre .0) (a .table .now) (a .height) (a .f) _ (frames .read-frames .ensures) (not-true _ (c .before .if1 .taken)) in
-    c .refused .ensures ∙ ap readAnswer (sym missing)
+    c .refused .ensures ∙ ap (readAnswer (a .cycle)) (sym missing)
 
 returns-2 : tie.Need-returns-2
 returns-2 c =
@@ -23,7 +23,7 @@ returns-2 c =
     let a = s .args in
     let broken = sym (c .before .before .rows-kept .ensures) ∙ not-true _ (c .before .if2 .taken) in
     let wrong = entry-wrong (a .cycle) (s .pre .0) (a .table .now) (a .height) (a .f) _ (frames .read-frames .ensures) (not-false _ (test .if1 .left)) broken in
-    c .refused2 .ensures ∙ ap readAnswer (sym wrong)
+    c .refused2 .ensures ∙ ap (readAnswer (a .cycle)) (sym wrong)
 
 returns-3 : tie.Need-returns-3
 returns-3 c =
@@ -36,7 +36,7 @@ returns-3 c =
     let broken = sym (c .before .before .rules-kept .ensures) ∙ not-true _ (c .before .if3 .taken) in
     let wrong = rule-broken (a .cycle) (s .pre .0) (a .table .now) (a .height) (a .f) _ (frames .read-frames .ensures)
     (not-false _ (test .if1 .left)) kept broken in
-    c .refused3 .ensures ∙ ap readAnswer (sym wrong)
+    c .refused3 .ensures ∙ ap (readAnswer (a .cycle)) (sym wrong)
 
 returns-4 : tie.Need-returns-4
 returns-4 c =

@@ -3,9 +3,10 @@ use borrow.Author.Needs.{needs}
 use Prim.Native.Nat.{_<_, _≤_}
 use lib.ListN.{length}
 use Rattle.cursor.specs.Padded.{firsts}
+use Rattle.cursor.specs.Written.{not-written, all-written}
 use Rattle.request.specs.Request.{noTask, noPair}
 use Rattle.request.specs.Encode.{requestBytes}
-use Rattle.request_writer.specs.WriteLaws.{request-length, request-short, request-written}
+use Rattle.request_writer.specs.WriteLaws.{request-length}
 use Rattle.request_writer.proofs.write.Statement.{statement}
 use Rattle.request_writer.proofs.write.Tie as tie
 
@@ -21,7 +22,7 @@ long c = rw (request-length _ _ _ _ _ (c .before .before .before .before .before
 returns : tie.Need-returns
 returns c =
     let n = c .before .before .before in
-    rw (← n .at-most .ensures, ← c .before .before .at-most2 .ensures) (request-short _ _ _ _ _ _ (short c))
+    rw (← n .at-most .ensures, ← c .before .before .at-most2 .ensures) (not-written _ _ (short c))
 
 write-sections-requires : tie.Need-write-sections-requires
 write-sections-requires c κs = (search needs, search needs, long (c .before))
@@ -31,7 +32,7 @@ returns-2 c =
     let wrote = c .before .before in
     let test = wrote .before .before in
     let n = test .before .before .before in
-    rw (← n .at-most .ensures, ← test .before .before .at-most2 .ensures) (request-written _ _ _ _ _ _ (long test) _ _ (wrote .write-sections .ensures))
+    rw (← n .at-most .ensures, ← test .before .before .at-most2 .ensures) (all-written _ _ (long test) _ _ (wrote .write-sections .ensures))
 
 pub write-spec : {M : Type 1} → statement M
 write-spec =

@@ -1,43 +1,20 @@
--- Eight stores one behind the other are the eight bytes.
-use borrow.Author.Needs.{needs}
-use native.Mathlib.Omega.{arith}
-use lib.ListN.{length-set}
-use Rattle.cursor.specs.Fields.{wordBytes}
-use Rattle.request.specs.Encode.{taskBytes}
+-- Four words one behind the other are the eight bytes.
 use Rattle.request_writer.specs.WriteLaws.{task-stored}
+use borrow.Author.Needs.{needs}
 use Rattle.request_writer.proofs.write_task.Statement.{statement}
 use Rattle.request_writer.proofs.write_task.Tie as tie
 
-slice-write-out-2 : tie.Need-slice-write-out-2
-slice-write-out-2 c = simp length-set (omega arith)
-
-slice-write-out-3 : tie.Need-slice-write-out-3
-slice-write-out-3 c = simp length-set (omega arith)
-
-slice-write-out-4 : tie.Need-slice-write-out-4
-slice-write-out-4 c = simp length-set (omega arith)
-
-slice-write-out-5 : tie.Need-slice-write-out-5
-slice-write-out-5 c = simp length-set (omega arith)
-
-slice-write-out-6 : tie.Need-slice-write-out-6
-slice-write-out-6 c = simp length-set (omega arith)
-
-slice-write-out-7 : tie.Need-slice-write-out-7
-slice-write-out-7 c = simp length-set (omega arith)
-
-slice-write-out-8 : tie.Need-slice-write-out-8
-slice-write-out-8 c = simp length-set (omega arith)
-
 returns : tie.Need-returns
-unfolding taskBytes wordBytes
 returns c =
-    let s = c .before .before .before .before .before .before .before .before in
-    task-stored (s .args .out .now) (s .args .x) (s .pre)
+    let four = c .before .before in
+    let three = four .before .before .before .before in
+    let two = three .before .before .before .before in
+    let one = two .before .before .before .before in
+    let s = one .before .before .before in
+    rw (four .put-word4 .ensures, three .put-word3 .ensures, two .put-word2 .ensures, one .put-word .ensures)
+    (task-stored (s .args .out .now) (s .args .x) (s .pre))
 
 pub write-task-spec : {M : Type 1} → statement M
 write-task-spec =
     tie.close
-    (tie.spec (λ c. omega arith) (λ c. omega arith) (λ c. omega arith) slice-write-out-2 (λ c. omega arith) slice-write-out-3 (λ c. omega arith)
-    slice-write-out-4 (λ c. omega arith) slice-write-out-5 (λ c. omega arith) slice-write-out-6 (λ c. omega arith) slice-write-out-7
-    (λ c. omega arith) slice-write-out-8 (λ c. search needs) returns)
+    (tie.spec (λ c κs. search needs) (λ c κs. search needs) (λ c κs. search needs) (λ c κs. search needs) (λ c. search needs) returns)

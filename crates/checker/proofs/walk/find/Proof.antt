@@ -42,10 +42,11 @@ entries-holds c =
 
 entries-again : tie.Need-entries-again Inv-entries μ-entries Inv-rows μ-rows
 entries-again c =
-    let job = c .before .before in
+    let number = c .before .before in
+    let job = number .before in
     let test = job .before .before in
     let l = test .before .entries in
-    let other = rw (job .before .byte-or-zero2 .ensures, job .byte-or-zero3 .ensures) at (sym (c .before .is-job .ensures) ∙ c .if1 .left) in (
+    let other = rw (number .number .ensures, job .before .byte-or-zero2 .ensures, job .byte-or-zero3 .ensures) at (sym (c .before .is-job .ensures) ∙ c .if1 .left) in (
       l .inv .0,
       search needs,
       search needs,
@@ -67,15 +68,18 @@ returns c =
 
 returns-2 : tie.Need-returns-2 Inv-entries μ-entries Inv-rows μ-rows
 returns-2 c =
-    let job = c .before .before in
+    let is = c .before in
+    let number = is .before .before in
+    let job = number .before in
     let test = job .before .before in
     let l = test .before .entries in
-    let named = rw (job .before .byte-or-zero2 .ensures, job .byte-or-zero3 .ensures) at (sym (c .before .is-job .ensures) ∙ c .if1 .taken) in
-    rw (job .byte-or-zero3 .ensures) (sym (entry-names _ _ _ _ (l .at) _ (l .e) (test .entries-test .taken) named) ∙ l .inv .6)
+    let named = rw (number .number .ensures, job .before .byte-or-zero2 .ensures, job .byte-or-zero3 .ensures) at (sym (is .before .is-job .ensures) ∙ is .if1 .taken) in
+    rw (c .is-carried .ensures, job .byte-or-zero3 .ensures) (sym (entry-names _ _ _ _ (l .at) _ (l .e) (test .entries-test .taken) named) ∙ l .inv .6)
 
 pub find-spec : {M : Type 1} → statement M
 find-spec =
     tie.close
     (tie.spec Inv-entries μ-entries Inv-rows μ-rows rows-holds (λ c κs. search needs) (λ c. search needs) entries-holds (λ c κs. search needs)
-    (λ c. search needs) (λ c κs. search needs) (λ c κs. search needs) (λ c. search needs) (λ c. search needs) (λ c. search needs) entries-again
+    (λ c. search needs) (λ c κs. search needs) (λ c κs. search needs) (λ c κs. search needs) (λ c κs. search needs) (λ c. search needs) (λ c. search needs)
+    (λ c. search needs) entries-again
     (λ c. search needs) (λ c. search needs) rows-again returns returns-2)

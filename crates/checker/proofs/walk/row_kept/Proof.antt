@@ -26,34 +26,38 @@ loop-holds : tie.Need-loop-holds Inv-loop μ-loop
 loop-holds c = (omega arith, omega (arith, c .before .pre .0), entries-start _ _ _ _ _ _ _ _)
 
 frame-requires : tie.Need-frame-requires Inv-loop μ-loop
-frame-requires c κs = (c .before .before .before .before .before .pre .1, c .before .before .before .before .before .pre .2)
+frame-requires c κs = let s = c .before .before .before .before .before .before in (s .pre .1, s .pre .2)
 
 is-there-requires : tie.Need-is-there-requires Inv-loop μ-loop
-is-there-requires c κs = c .before .before .before .before .before .before .pre .3
+is-there-requires c κs = c .before .before .before .before .before .before .before .before .pre .3
 
 returns : tie.Need-returns Inv-loop μ-loop
 unfolding entryKept entryOf
 returns c =
-    let read = c .before .before .before .before in
+    let frame = c .before .before .before in
+    let byte = frame .before .before in
+    let read = byte .before in
     let test = read .before in
     let l = test .before .loop in
     let a = test .before .before .before .args in
     let jobs = firsts (a .count) noJob (a .jobs) in
     let frames = firsts (a .count) 0 (a .frames) in
-    let e = rw (c .before .before .frame .ensures, read .byte-or-zero .ensures, c .before .before .before .byte-or-zero2 .ensures)
+    let e = rw (frame .frame .ensures, frame .before .is-carried .ensures, c .before .before .number .ensures, read .byte-or-zero .ensures, byte .byte-or-zero2 .ensures)
     at (sym (c .before .is-there .ensures) ∙ not-true _ (c .if1 .taken)) in
     entry-broken jobs frames (a .count) (a .height) (a .table .now) (a .row) (a .n) (l .e) (l .at) (test .loop-test .taken) e ∙ l .inv .2
 
 loop-again : tie.Need-loop-again Inv-loop μ-loop
 unfolding entryKept entryOf
 loop-again c =
-    let read = c .before .before .before .before in
+    let frame = c .before .before .before in
+    let byte = frame .before .before in
+    let read = byte .before in
     let test = read .before in
     let l = test .before .loop in
     let a = test .before .before .before .args in
     let jobs = firsts (a .count) noJob (a .jobs) in
     let frames = firsts (a .count) 0 (a .frames) in
-    let e = rw (c .before .before .frame .ensures, read .byte-or-zero .ensures, c .before .before .before .byte-or-zero2 .ensures)
+    let e = rw (frame .frame .ensures, frame .before .is-carried .ensures, c .before .before .number .ensures, read .byte-or-zero .ensures, byte .byte-or-zero2 .ensures)
     at (sym (c .before .is-there .ensures) ∙ not-false _ (c .if1 .left)) in
     (omega arith, omega (arith, l .inv .1), entry-kept jobs frames (a .count) (a .height) (a .table .now) (a .row) (a .n) (l .e) (l .at) (test .loop-test .taken) e ∙ l .inv .2)
 
@@ -68,5 +72,6 @@ returns-2 c =
 pub row-kept-spec : {M : Type 1} → statement M
 row-kept-spec =
     tie.close
-    (tie.spec Inv-loop μ-loop loop-holds (λ c κs. search needs) (λ c. search needs) (λ c κs. search needs) frame-requires is-there-requires returns
+    (tie.spec Inv-loop μ-loop loop-holds (λ c κs. search needs) (λ c. search needs) (λ c κs. search needs) (λ c κs. search needs) frame-requires
+    (λ c κs. search needs) is-there-requires returns
     (λ c. search needs) (λ c. search needs) (λ c. search needs) loop-again returns-2)

@@ -1,6 +1,7 @@
 -- The two ways are the two cases of carry.
+use mathlib.Core.Path.{sym, _∙_}
 use mathlib.Core.List.{append-nil}
-use borrow.Author.Tests.{lt-leb, le-leb}
+use borrow.Author.Tests.{not-true, not-false}
 use Rattle.table.specs.EntryLaws.{carried-of-byte}
 use Rattle.text.specs.TextLaws.{put-none, put-more, put-append}
 use Rattle.listing.specs.Listing.{entryText}
@@ -11,16 +12,17 @@ use Rattle.listing.proofs.rows.put_entry.Tie as tie
 returns : tie.Need-returns
 unfolding entryText
 returns c =
-    let named = c .before .before .before .put-name .ensures in
-    rw (named, carried-of-byte, lt-leb 128 _ (c .if1 .taken)) (simp append-nil)
+    let named = c .before .before .before .before .put-name .ensures in
+    rw (named, carried-of-byte, sym (c .before .is-carried .ensures) ∙ not-true _ (c .if1 .taken)) (simp append-nil)
 
 returns-2 : tie.Need-returns-2
 unfolding entryText
 returns-2 c =
     let plus = c .before .before .put .ensures in
-    let named = c .before .before .before .before .before .before .before .put-name .ensures in
-    rw (plus, named, carried-of-byte, le-leb 128 _ (c .before .before .before .before .if1 .left)) (simp (put-append, put-more, put-none))
+    let test = c .before .before .before .before in
+    let named = test .before .before .before .before .put-name .ensures in
+    rw (plus, named, carried-of-byte, sym (test .before .is-carried .ensures) ∙ not-false _ (test .if1 .left)) (simp (put-append, put-more, put-none))
 
 pub put-entry-spec : {M : Type 1} → statement M
 put-entry-spec =
-    tie.close (tie.spec (λ c κs. search needs) (λ c. search needs) returns (λ c κs. search needs) (λ c. search needs) returns-2)
+    tie.close (tie.spec (λ c κs. search needs) (λ c κs. search needs) (λ c. search needs) returns (λ c κs. search needs) (λ c. search needs) returns-2)

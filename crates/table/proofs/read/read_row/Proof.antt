@@ -1,13 +1,10 @@
 -- The loop keeps that the entries left, behind those in the places, are what the row has.
 use borrow.Author.Needs.{needs}
 use Prim.Native.Nat.{_≤_, _-_}
-use mathlib.Core.Path.{_≡_, sym, _∙_}
+use mathlib.Core.Path.{sym, _∙_}
 use native.Mathlib.Omega.{arith}
 use borrow.Author.Tests.{lt-leb, le-leb}
-use lib.ListN.{drop}
-use Rattle.cursor.specs.Parsed.{got}
-use Rattle.cursor.specs.Fields.{byteOf}
-use Rattle.cursor.specs.FieldLaws.{byte-taken, byte-missing}
+use Rattle.cursor.specs.FieldLaws.{ByteTaken, byte-taken, byte-missing}
 use Rattle.table.specs.Table.{rowFrom}
 use Rattle.table.specs.ReadLaws.{EntriesSoFar, entries-start, entries-more, entries-refused, entries-row}
 use Rattle.table.proofs.read.read_row.Statement.{statement}
@@ -30,8 +27,8 @@ enum-told c = c .match .keys2
 
 -- the count is read
 count-read : (c : tie.After-count Inv-loop μ-loop) → let count = c .count .given .0 in let a = c .before .before .before .before .args in
-    byteOf 12 (drop (a .first .at) (a .s .now)) ≡ got (count .0) (drop (count .1 .0 .at) (a .s .now))
-count-read c = byte-taken 12 _ _ _ _ (sym (c .before .before .byte .ensures) ∙ c .count .given .1) .field
+    ByteTaken 12 (a .s .now) (a .first .at) (count .0) (count .1 .0)
+count-read c = byte-taken 12 _ _ _ _ (sym (c .before .before .byte .ensures) ∙ c .count .given .1)
 
 returns : tie.Need-returns Inv-loop μ-loop
 unfolding rowFrom
@@ -39,7 +36,7 @@ returns c = rw (byte-missing 12 _ _ (sym (c .before .before .byte .ensures) ∙ 
 
 returns-2 : tie.Need-returns-2 Inv-loop μ-loop
 unfolding rowFrom
-returns-2 c = rw (count-read (c .before .before), lt-leb _ _ (c .if1 .taken))
+returns-2 c = rw (count-read (c .before .before) .field, lt-leb _ _ (c .if1 .taken))
 
 loop-holds : tie.Need-loop-holds Inv-loop μ-loop
 loop-holds c =
@@ -60,7 +57,7 @@ unfolding rowFrom
 returns-3 c =
     let l = c .before .before .before .before in
     let none = rw (c .enum-told2 .given .1) at (c .before .before .read-entry .ensures) in
-    rw (count-read (l .before .before .before), le-leb _ _ (l .before .if1 .left))
+    rw (count-read (l .before .before .before) .field, le-leb _ _ (l .before .if1 .left))
     (entries-refused _ _ _ _ _ _ _ _ (l .loop .inv .2) (c .before .before .before .loop-test .taken) none)
 
 add-low : tie.Need-add-low Inv-loop μ-loop
@@ -77,7 +74,8 @@ loop-again c =
 returns-4 : tie.Need-returns-4 Inv-loop μ-loop
 returns-4 c =
     let so = c .before .loop .inv in
-    entries-row _ _ _ _ _ _ _ _ (so .2) _ (c .loop-test .left) (so .0) (so .1) (count-read (c .before .before .before .before))
+    let count = count-read (c .before .before .before .before) in
+    entries-row _ _ _ _ _ _ _ _ (so .2) _ (c .loop-test .left) (so .0) (so .1) (count .field) (count .moved)
 
 pub read-row-spec : {M : Type 1} → statement M
 read-row-spec =

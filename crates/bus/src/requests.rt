@@ -1,0 +1,18 @@
+// The calls on requests.
+use crate::reply::refusal;
+use crate::reply::value;
+ghost use mathlib.Core.Path.{_≡_};
+ghost use Rattle.bus.specs.Join.{joinReply, joinBuffer};
+
+// The request of the two joined, written into `out`: its length, or 1 to 6, 17 to 20 or 11 negated.
+#[no_mangle]
+pub extern "C" fn bus_join(first: &[u8], second: &[u8], out: &mut [u8]) -> i32
+    ensures { λ r. ⌜ (r ≡ joinReply (now (first .entry)) (now (second .entry)) (now (out .entry)))
+        × (now (out .exit) ≡ joinBuffer (now (first .entry)) (now (second .entry)) (now (out .entry))) ⌝ }
+{
+    let written = join::join(first, second, out);
+    if written.refusal != 0 {
+        return refusal(written.refusal);
+    }
+    value(written.length)
+}

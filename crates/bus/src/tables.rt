@@ -1,0 +1,88 @@
+// The calls on a request and its table.
+use crate::reply::refusal;
+use crate::reply::value;
+ghost use mathlib.Core.Path.{_≡_};
+ghost use Prim.Native.Nat.{_≤_};
+ghost use mathlib.Core.List.{_++_};
+ghost use lib.ListN.{length, drop};
+ghost use Rattle.bus.specs.Plan.{lowFirst, planReply, planBuffer, planTries};
+ghost use Rattle.bus.specs.Rewrite.{rewriteReply, rewriteBuffer};
+ghost use Rattle.bus.specs.OneOff.{oneOffReply};
+ghost use Rattle.bus.specs.Check.{checkReply};
+
+// The first 8 bytes get the number, low byte first; those behind them are left alone.
+fn write_number(out: &mut [u8], number: u64)
+    requires { ⌜ 8 ≤ length (now out) ⌝ }
+    ensures { λ r. ⌜ now (out .exit) ≡ lowFirst 8 number ++ drop 8 (now (out .entry)) ⌝ }
+{
+    let mut rest = number;
+    let mut i: usize = 0;
+    while i < 8 {
+        out[i] = (rest % 256) as u8;
+        rest = rest / 256;
+        i += 1;
+    }
+}
+
+// The table of the request's chosen plan, written into `out`, if the search needs no more tries than allowed: its length, or 1 to 11, 17 or 23 negated. The
+// tries made stand in the first 8 bytes of `tries`, whatever the answer is; but for 99 negated, which comes first and leaves all as it was.
+#[no_mangle]
+pub extern "C" fn bus_plan(request: &[u8], allowance: u64, out: &mut [u8], tries: &mut [u8]) -> i32
+    ensures { λ r. ⌜ (r ≡ planReply allowance (now (request .entry)) (now (out .entry)) (now (tries .entry)))
+        × (now (out .exit) ≡ planBuffer allowance (now (request .entry)) (now (out .entry)) (now (tries .entry)))
+        × (now (tries .exit) ≡ planTries allowance (now (request .entry)) (now (out .entry)) (now (tries .entry))) ⌝ }
+{
+    if tries.len() < 8 {
+        return refusal(99);
+    }
+    let searched = planner::plan(request, allowance, out);
+    write_number(tries, searched.tries);
+    if searched.refusal != 0 {
+        return refusal(searched.refusal);
+    }
+    value(searched.length)
+}
+
+// Whether the table describes a plan of the request: 0, or 1 to 8, 17 or 12 to 14 negated.
+#[no_mangle]
+pub extern "C" fn bus_check(request: &[u8], table: &[u8]) -> i32
+    ensures { λ r. ⌜ r ≡ checkReply (now (request .entry)) (now (table .entry)) ⌝ }
+{
+    let number = checker::check(request, table);
+    if number != 0 {
+        return refusal(number);
+    }
+    0
+}
+
+// The table of the plan that is read from a table, written into `out`: its length, or 1 to 8, 17, 12 to 14 or 11 negated.
+#[no_mangle]
+pub extern "C" fn bus_rewrite(request: &[u8], table: &[u8], out: &mut [u8]) -> i32
+    ensures { λ r. ⌜ (r ≡ rewriteReply (now (request .entry)) (now (table .entry)) (now (out .entry)))
+        × (now (out .exit) ≡ rewriteBuffer (now (request .entry)) (now (table .entry)) (now (out .entry))) ⌝ }
+{
+    let written = rewriter::rewrite(request, table, out);
+    if written.refusal != 0 {
+        return refusal(written.refusal);
+    }
+    value(written.length)
+}
+
+// The earliest frame, counted from time 0, with time for a transfer of `length` ticks between the ticks `from` and `until`: its number, or 1 to 8, 17,
+// 12 to 14, 21 or 22 negated.
+#[no_mangle]
+pub extern "C" fn bus_one_off(
+    request: &[u8],
+    table: &[u8],
+    length: u32,
+    from: u32,
+    until: u32,
+) -> i32
+    ensures { λ r. ⌜ r ≡ oneOffReply length from until (now (request .entry)) (now (table .entry)) ⌝ }
+{
+    let found = one_off::one_off(request, table, length, from, until);
+    if found.refusal != 0 {
+        return refusal(found.refusal);
+    }
+    value(found.frame as usize)
+}

@@ -1,0 +1,9 @@
+"""The subcommands of `bus`, a module for each, in the order in which `bus --help` has them.
+
+A module has NAME, the word behind `bus`; HELP, what it does; EXAMPLE, lines for its help; `arguments`, which adds its
+arguments to a parser; and `run`, which does what the parsed arguments ask.
+"""
+
+from . import check, fly, join, list, one_off, plan
+
+COMMANDS = (plan, check, fly, list, join, one_off)

@@ -1,0 +1,236 @@
+"""What a refusal speaks of, as far as it can be seen. The library has refused already: nothing is decided here.
+
+A row of refusals.py names one of these functions. Each is called with all that was asked, by name, and takes what it
+needs: `data`, the bytes of a request; the `request` in them; `table`, the bytes of a table; and so on.
+"""
+
+import struct
+
+from .table import decode
+from .words import pair_faults, task_faults
+
+MOST_NAMED = 3
+
+
+def _where_it_ends(data):
+    count = data[0] if data else 0
+    pairs_at = 1 + 8 * count
+    if not data:
+        return "it is empty"
+    if len(data) < pairs_at:
+        return f"it ends inside task {(len(data) - 1) // 8}"
+    if len(data) == pairs_at:
+        return "it ends before the number of pairs"
+    if len(data) < pairs_at + 1 + 2 * data[pairs_at]:
+        return f"it ends inside pair {(len(data) - pairs_at - 1) // 2}"
+    return "it ends inside the third section"
+
+
+def cut_bytes(*, data, **_):
+    return f"the file has {len(data)} bytes: {_where_it_ends(data)}"
+
+
+def said_tasks(*, data, **_):
+    return f"the file's first byte says {data[0]} tasks"
+
+
+def first_task_fault(*, data, **_):
+    for number in range(data[0]):
+        length, period, deadline, phase = struct.unpack_from("<4H", data, 1 + 8 * number)
+        faults = task_faults(length, period, deadline, phase)
+        if faults:
+            return f"task {number}: {'; '.join(faults)}"
+    return ""
+
+
+def said_pairs(*, data, **_):
+    return f"the file says {data[1 + 8 * data[0]]} pairs"
+
+
+def first_pair_fault(*, data, **_):
+    count = data[0]
+    names = [f"task {i}" for i in range(count)]
+    periods = [struct.unpack_from("<H", data, 3 + 8 * i)[0] for i in range(count)]
+    at = 2 + 8 * count
+    for number in range(data[at - 1]):
+        first, second = data[at + 2 * number], data[at + 2 * number + 1]
+        if max(first, second) >= count:
+            return f"pair {number} is {first}, {second}, and the tasks are 0 to {count - 1}"
+        faults = pair_faults(first, second, names, periods)
+        if faults:
+            return f"pair {number}: {'; '.join(faults)}"
+    return ""
+
+
+def _behind_the_pairs(data):
+    pairs_at = 1 + 8 * data[0]
+    return data[pairs_at + 1 + 2 * data[pairs_at] :]
+
+
+def bytes_too_many(*, data, **_):
+    third = _behind_the_pairs(data)
+    return f"{len(third) - 1 - third[0] % 2} bytes too many"
+
+
+def third_section(*, data, **_):
+    third = _behind_the_pairs(data)
+    return f"the count is {third[0]}" if third[0] > 1 else f"it asks for {third[1]} silent ticks"
+
+
+def periods(*, request, **_):
+    users = {}
+    for number, task in enumerate(request.tasks):
+        users.setdefault(task.period, []).append(request.place(number))
+    each = ", ".join(f"{period} ({', '.join(names)})" for period, names in sorted(users.items()))
+    return f"the periods are {each}; their least common multiple is {request.cycle}"
+
+
+def job_counts(*, request, **_):
+    counts = [request.cycle // task.period for task in request.tasks]
+    most = sorted(range(len(counts)), key=lambda number: -counts[number])[:MOST_NAMED]
+    named = ", ".join(f"{request.place(number)} {counts[number]}" for number in most)
+    return f"a cycle of {request.cycle} ticks has {sum(counts)} jobs; the most: {named}"
+
+
+def longest_and_shortest(*, request, **_):
+    numbers = range(len(request.tasks))
+    longest = max(numbers, key=lambda i: request.tasks[i].length)
+    shortest = min(numbers, key=lambda i: request.tasks[i].deadline)
+    silent = f" and {request.silent} silent ones" if request.silent else ""
+    return (
+        f"the longest transfer is {request.place(longest)} with {request.tasks[longest].length} ticks{silent},"
+        f" the shortest deadline that of {request.place(shortest)} with {request.tasks[shortest].deadline}"
+    )
+
+
+def asked_for(*, request, **_):
+    more = ": more than there is" if request.load > 1 else ""
+    return f"the transfers ask for {100 * request.load:.0f} % of the time{more}"
+
+
+def _alike(request):
+    """Of the transfers in no pair the most that have the same numbers, in the order of the list."""
+    paired = {number for pair in request.pairs for number in pair}
+    groups = {}
+    for number, task in enumerate(request.tasks):
+        if number not in paired:
+            groups.setdefault((task.length, task.period, task.deadline, task.phase), []).append(number)
+    return max(groups.values(), key=len, default=[])
+
+
+def tries_allowed(*, request, allowed, **_):
+    said = f"{allowed:,} tries are allowed"
+    alike = _alike(request)
+    if len(alike) < 2:
+        return said
+    named = [request.place(number) for number in alike[:MOST_NAMED]]
+    more = f" and {len(alike) - MOST_NAMED} more" if len(alike) > MOST_NAMED else ""
+    return f"{said}; alike are {', '.join(named)}{more}"
+
+
+def _in_both(what, first, second):
+    return f"{what}: {first} in the first, {second} in the second"
+
+
+def tasks_in_both(*, first, second, **_):
+    return _in_both("tasks", len(first.tasks), len(second.tasks))
+
+
+def pairs_in_both(*, first, second, **_):
+    return _in_both("pairs", len(first.pairs), len(second.pairs))
+
+
+def silent_in_both(*, first, second, **_):
+    return _in_both("silent ticks after every transfer", first.silent, second.silent)
+
+
+def table_length(*, table, **_):
+    return f"the table has {len(table)} bytes"
+
+
+def table_sizes(*, request, table, **_):
+    table = decode(table)
+    sizes = f"the table has the frame {table.frame} and the cycle {table.cycle}"
+    return f"{sizes}; the request's cycle is {request.cycle}"
+
+
+def _entry_breach(request, table, jobs, seen, number, entry):
+    """What is wrong with one entry of a row, or nothing."""
+    key = (entry.task, entry.job)
+    if key not in jobs:
+        return f"row {number} names job {entry.job} of task {entry.task}, which the request does not have"
+    label = f"job {entry.job} of {request.place(entry.task)}"
+    if key in seen:
+        return f"{label} stands twice"
+    begin = (number + len(table.rows) * entry.carry) * table.frame
+    release, due = jobs[key]
+    if begin < release:
+        return f"{label} stands in row {number}, from tick {begin}, before its release at {release}"
+    if begin + table.frame > due:
+        return f"{label} stands in row {number}, until tick {begin + table.frame}, after its due time {due}"
+    return ""
+
+
+def _row_breach(request, table, number):
+    used = request.used(entry for entry in table.rows[number] if entry.task < len(request.tasks))
+    return f"row {number} needs {used} ticks, and a frame has {table.frame}" if used > table.frame else ""
+
+
+def _order_breaches(request, table):
+    frames = table.frames()
+    for first, second in request.pairs:
+        for j in range(request.cycle // request.tasks[first].period):
+            if frames.get((first, j), 0) > frames.get((second, j), 2 * len(table.rows)):
+                yield f"job {j} of {request.place(first)} runs after job {j} of {request.place(second)}"
+
+
+def _plan_breaches(request, table):
+    jobs = {(job.task, job.number): (job.release, job.due) for job in request.jobs()}
+    seen = set()
+    for number, row in enumerate(table.rows):
+        for entry in row:
+            yield _entry_breach(request, table, jobs, seen, number, entry)
+            seen.add((entry.task, entry.job))
+        yield _row_breach(request, table, number)
+    for task, j in sorted(set(jobs) - seen):
+        yield f"job {j} of {request.place(task)} is missing"
+    yield from _order_breaches(request, table)
+
+
+def plan_breaches(*, request, table, **_):
+    found = [breach for breach in _plan_breaches(request, decode(table)) if breach]
+    more = f"; and {len(found) - MOST_NAMED} more" if len(found) > MOST_NAMED else ""
+    return "; ".join(found[:MOST_NAMED]) + more
+
+
+def _badly_asked(table, length, begin, until):
+    end = 2 * table.cycle
+    if length == 0:
+        yield "the length is 0"
+    if begin > until:
+        yield f"it is asked for from tick {begin}, which is after tick {until}"
+    if until > end:
+        yield f"it is asked for until tick {until}, and two cycles end at tick {end}"
+
+
+def badly_asked(*, table, length, begin, until, **_):
+    return "; ".join(_badly_asked(decode(table), length, begin, until))
+
+
+def most_unused(request, table, begin, until):
+    """Of the frames between two ticks the first that leaves the most time, and that time; None without a frame."""
+    frames = range(-(-begin // table.frame), until // table.frame)
+    unused = {k: table.frame - request.used(table.rows[k % len(table.rows)]) for k in frames}
+    return max(unused.items(), key=lambda item: item[1]) if unused else None
+
+
+def no_room(*, request, table, length, begin, until, **_):
+    table = decode(table)
+    most = most_unused(request, table, begin, until)
+    if most is None:
+        return f"no whole frame of {table.frame} ticks lies between tick {begin} and tick {until}"
+    silent = f" and {request.silent} silent ones" if request.silent else ""
+    return (
+        f"of the frames between tick {begin} and tick {until}, frame {most[0]} leaves the most time, {most[1]} ticks;"
+        f" the transfer needs {length}{silent}"
+    )

@@ -1,0 +1,263 @@
+//! Random and mutated calls, drawn from their rows: each argument by the function that its row names.
+
+use std::collections::{BTreeMap, VecDeque};
+
+use crate::bus::{count_bytes, ROWS, STATE_LEN, STATE_USED, TASKS};
+use crate::call::{Call, Outcome, Value};
+use crate::comparison::MOST_TRIES;
+use crate::generate;
+use crate::random::Random;
+use crate::reference::one_off::Asked;
+use crate::reference::table::encode;
+use crate::reference::{planned_within, read_cycle, tries_within};
+use crate::rounds::planning::allowances;
+use crate::rounds::{joining, one_off};
+use crate::row::Kind;
+
+/// How many requests and how many tables are kept.
+const KEPT: usize = 200;
+
+/// Bytes seen lately, from which new ones are made.
+type Kept = VecDeque<Vec<u8>>;
+
+fn keep(kept: &mut Kept, bytes: Vec<u8>) {
+    kept.push_back(bytes);
+    if kept.len() > KEPT {
+        kept.pop_front();
+    }
+}
+
+fn some(rng: &mut Random, kept: &Kept) -> Vec<u8> {
+    kept[rng.below(kept.len())].clone()
+}
+
+/// The front of one and the back of another.
+fn crossed(rng: &mut Random, first: &[u8], second: &[u8]) -> Vec<u8> {
+    let cut = rng.below(first.len() + 1);
+    let from = rng.below(second.len() + 1);
+    [&first[..cut], &second[from..]].concat()
+}
+
+fn mutated(rng: &mut Random, kept: &Kept) -> Vec<u8> {
+    let mut bytes = some(rng, kept);
+    match rng.below(20) {
+        0..=4 => generate::damage(rng, &mut bytes),
+        5 => {
+            let other = some(rng, kept);
+            bytes = crossed(rng, &bytes, &other);
+        }
+        6 => bytes = generate::noise(rng),
+        7 => {
+            let length = bytes.len() + rng.below(3_000);
+            bytes.resize(length, rng.byte());
+        }
+        _ => {}
+    }
+    bytes
+}
+
+/// What has been drawn for the call that is being made. In most calls its parts fit together.
+#[derive(Default)]
+struct Drawn {
+    fitting: bool,
+    requests: Vec<Vec<u8>>,
+    table: Vec<u8>,
+    asked: Option<Asked>,
+}
+
+pub struct Fuzzer {
+    rng: Random,
+    requests: Kept,
+    tables: Kept,
+    /// What calls left in their buffers, by the name of the argument.
+    left: BTreeMap<&'static str, Kept>,
+    drawn: Drawn,
+}
+
+/// The drawing of calls.
+impl Fuzzer {
+    pub fn new(seed: u64) -> Fuzzer {
+        let mut fuzzer = Fuzzer {
+            rng: Random::new(seed),
+            requests: Kept::new(),
+            tables: Kept::from([vec![2]]),
+            left: BTreeMap::new(),
+            drawn: Drawn::default(),
+        };
+        for _ in 0..KEPT {
+            fuzzer.learn();
+        }
+        fuzzer
+    }
+
+    /// Keeps a new request, and its table if one is found; false if its search is too long for that.
+    fn learn(&mut self) -> bool {
+        let request = generate::valid_bytes(&mut self.rng);
+        let (chosen, _) = planned_within(&request, MOST_TRIES);
+        keep(&mut self.requests, request);
+        let short = chosen != Err(23);
+        if let Ok(table) = chosen {
+            let mut disturbed = table.clone();
+            generate::disturb(&mut self.rng, &mut disturbed);
+            keep(&mut self.tables, encode(&table));
+            keep(&mut self.tables, encode(&disturbed));
+        }
+        short
+    }
+
+    /// Now and then keeps a new request; then it is told whether its search was short.
+    pub fn learn_at_times(&mut self) -> Option<bool> {
+        self.rng.chance(2).then(|| self.learn())
+    }
+
+    /// Keeps what an accepted call left in the buffers that it may write, for calls to come.
+    pub fn learn_outcome(&mut self, call: &Call, outcome: &Outcome) {
+        if outcome.answer < 0 {
+            return;
+        }
+        let written = call.row.arguments.iter();
+        let written = written.filter(|argument| matches!(argument.kind, Kind::Write(..)));
+        for (argument, bytes) in written.zip(&outcome.buffers) {
+            keep(self.left.entry(argument.name).or_default(), bytes.clone());
+        }
+    }
+
+    /// A call of any row.
+    pub fn call(&mut self) -> Call {
+        let row = &ROWS[self.rng.below(ROWS.len())];
+        self.drawn = Drawn {
+            fitting: self.rng.chance(60),
+            ..Drawn::default()
+        };
+        let values = row.arguments.iter().map(|argument| match argument.kind {
+            Kind::Number(_, drawn) => Value::Number(drawn(self)),
+            Kind::Read(drawn) | Kind::Write(drawn, _) => Value::Bytes(drawn(self)),
+        });
+        let values = values.collect();
+        Call { row, values }
+    }
+}
+
+/// The drawing of arguments.
+impl Fuzzer {
+    /// A request; behind another one it is mostly one that can be joined with it.
+    pub fn request(&mut self) -> Vec<u8> {
+        let (rng, drawn) = (&mut self.rng, &mut self.drawn);
+        let bytes = match drawn.requests.first() {
+            Some(first) if drawn.fitting => joining::partner(rng, first),
+            None if drawn.fitting => some(rng, &self.requests),
+            _ => mutated(rng, &self.requests),
+        };
+        drawn.requests.push(bytes.clone());
+        bytes
+    }
+
+    /// A table, mostly one of the request before it.
+    pub fn table(&mut self) -> Vec<u8> {
+        let request = self.drawn.requests.first().filter(|_| self.drawn.fitting);
+        let cycle = request.and_then(|bytes| read_cycle(bytes).ok());
+        let plan = cycle.and_then(|cycle| generate::some_plan(&mut self.rng, &cycle, MOST_TRIES));
+        self.drawn.table = match plan {
+            Some(mut table) => {
+                if self.rng.chance(50) {
+                    generate::disturb(&mut self.rng, &mut table);
+                }
+                encode(&table)
+            }
+            None => mutated(&mut self.rng, &self.tables),
+        };
+        self.drawn.table.clone()
+    }
+
+    /// Any bytes, mostly so many, now and then more, fewer or none.
+    pub fn about(&mut self, usual: usize) -> Vec<u8> {
+        let length = if self.rng.chance(90) {
+            usual
+        } else {
+            self.rng.pick(&[usual + 1, 2 * usual, usual - 1, 3, 0])
+        };
+        self.rng.bytes(length)
+    }
+
+    /// What some call left in its argument of this name, now and then damaged; none if there was no
+    /// such call, and now and then.
+    pub fn left(&mut self, name: &str) -> Option<Vec<u8>> {
+        let rng = &mut self.rng;
+        let kept = self.left.get(name).filter(|_| rng.chance(70))?;
+        let mut bytes = some(rng, kept);
+        if rng.chance(10) {
+            generate::damage(rng, &mut bytes);
+        }
+        Some(bytes)
+    }
+
+    /// A dispatcher's state: one that a call left, or one that some calls can have left.
+    pub fn state(&mut self) -> Vec<u8> {
+        if let Some(bytes) = self.left("state") {
+            return bytes;
+        }
+        let mut bytes = self.about(STATE_LEN);
+        let rng = &mut self.rng;
+        if bytes.len() > STATE_USED && rng.chance(95) {
+            bytes[1] = rng.pick(&[0, 0, 0, 0, 1, 255]);
+            bytes[2] = rng.pick(&[0, 1]);
+            if rng.chance(70) {
+                bytes[0] = rng.pick(&[0, 0, 0, 0, 1, 1, 2, 3, 9, 200]);
+            }
+            for task in 0..TASKS {
+                if rng.chance(20) {
+                    bytes[count_bytes(task)].fill(255);
+                }
+            }
+        }
+        bytes
+    }
+
+    /// Room for a file.
+    pub fn room(&mut self) -> Vec<u8> {
+        let length = match self.rng.below(4) {
+            0 => self.rng.below(10),
+            1 => self.rng.below(60),
+            _ => self.rng.below(700),
+        };
+        self.rng.bytes(length)
+    }
+
+    /// An allowance about the tries that the full search makes, or any; a small one for a long search.
+    pub fn allowance(&mut self) -> u64 {
+        match tries_within(&self.drawn.requests[0], MOST_TRIES) {
+            Some(full) if self.rng.chance(80) => self.rng.pick(&allowances(full)),
+            Some(_) => self.rng.draw(),
+            None => self.rng.below(MOST_TRIES as usize) as u64,
+        }
+    }
+
+    pub fn task(&mut self) -> u64 {
+        self.rng.pick(&[0, 1, 2, 3, 15, 16, 255])
+    }
+
+    pub fn ticks(&mut self) -> u64 {
+        let most = u64::from(u32::MAX);
+        self.rng.pick(&[0, 1, 2, 3, 8, 100, 65_535, 65_536, most])
+    }
+
+    /// A one-off transfer, drawn about the request and the table.
+    fn asked(&mut self) -> Asked {
+        let drawn = &mut self.drawn;
+        *drawn
+            .asked
+            .get_or_insert_with(|| one_off::asked(&mut self.rng, &drawn.requests[0], &drawn.table))
+    }
+
+    pub fn length(&mut self) -> u64 {
+        self.asked().length.into()
+    }
+
+    pub fn from(&mut self) -> u64 {
+        self.asked().from.into()
+    }
+
+    pub fn until(&mut self) -> u64 {
+        self.asked().until.into()
+    }
+}

@@ -1,0 +1,107 @@
+//! The calls of the library: for each row a function of its name, with the answer or the refusal.
+
+use super::dispatch::{self, State};
+use super::join::joined;
+use super::one_off::{earliest, Asked};
+use super::table::{decode, encode, Entry};
+use super::{checked, planned_within, request};
+use crate::bus::{count_bytes, counts, BAD_BUFFER, ENTRIES_LEN, STATE_LEN, TRIES_LEN};
+
+type Answer = Result<i32, i32>;
+
+/// Writes the bytes to the front of the buffer; the length, or 11.
+fn write_out(bytes: &[u8], out: &mut [u8]) -> Answer {
+    if out.len() < bytes.len() {
+        return Err(11);
+    }
+    out[..bytes.len()].copy_from_slice(bytes);
+    Ok(bytes.len() as i32)
+}
+
+/// 99 for a buffer of fewer bytes.
+fn lent(buffer: &[u8], length: usize) -> Result<(), i32> {
+    if buffer.len() < length {
+        return Err(BAD_BUFFER);
+    }
+    Ok(())
+}
+
+pub fn plan(request: &[u8], allowance: u64, out: &mut [u8], tries: &mut [u8]) -> Answer {
+    lent(tries, TRIES_LEN)?;
+    let (chosen, count) = planned_within(request, allowance);
+    tries[..TRIES_LEN].copy_from_slice(&count.to_le_bytes());
+    write_out(&encode(&chosen?), out)
+}
+
+pub fn check(request: &[u8], table: &[u8]) -> Answer {
+    checked(request, table).map(|_| 0)
+}
+
+pub fn rewrite(request: &[u8], table: &[u8], out: &mut [u8]) -> Answer {
+    write_out(&encode(&checked(request, table)?), out)
+}
+
+fn state_in(bytes: &[u8]) -> Result<State, i32> {
+    lent(bytes, STATE_LEN)?;
+    if bytes[2] > 1 {
+        return Err(BAD_BUFFER);
+    }
+    Ok(State {
+        row: i64::from(bytes[0]) + 256 * i64::from(bytes[1]),
+        first_cycle: bytes[2] == 1,
+        overruns: counts(bytes).map(i64::from),
+    })
+}
+
+fn put_state(state: State, bytes: &mut [u8]) {
+    bytes[0..2].copy_from_slice(&(state.row as u16).to_le_bytes());
+    bytes[2] = u8::from(state.first_cycle);
+    for (task, overruns) in state.overruns.iter().enumerate() {
+        bytes[count_bytes(task)].copy_from_slice(&(*overruns as u16).to_le_bytes());
+    }
+}
+
+pub fn fresh(state: &mut [u8]) -> Answer {
+    lent(state, STATE_LEN)?;
+    state[..STATE_LEN].fill(0);
+    put_state(dispatch::fresh(), state);
+    Ok(0)
+}
+
+fn put_entries(served: &[Entry], bytes: &mut [u8]) {
+    bytes[..ENTRIES_LEN].fill(0);
+    for (place, entry) in served.iter().enumerate() {
+        bytes[2 * place] = entry.task as u8;
+        bytes[2 * place + 1] = entry.job_byte();
+    }
+}
+
+pub fn next_frame(table: &[u8], state: &mut [u8], entries: &mut [u8]) -> Answer {
+    let before = state_in(state)?;
+    lent(entries, ENTRIES_LEN)?;
+    let read = decode(table).ok_or(12)?;
+    let (served, after) = dispatch::next_frame(&read, before)?;
+    put_state(after, state);
+    put_entries(&served, entries);
+    Ok(served.len() as i32)
+}
+
+pub fn report(request: &[u8], task: u8, ticks: u32, state: &mut [u8]) -> Answer {
+    let before = state_in(state)?;
+    let read = request::read(request)?;
+    put_state(dispatch::report(&read, task, ticks, before)?, state);
+    Ok(0)
+}
+
+pub fn join(first: &[u8], second: &[u8], out: &mut [u8]) -> Answer {
+    write_out(&request::write(&joined(first, second)?), out)
+}
+
+pub fn one_off(request: &[u8], table: &[u8], length: u32, from: u32, until: u32) -> Answer {
+    let asked = Asked {
+        length,
+        from,
+        until,
+    };
+    earliest(request, table, asked).map(|frame| frame as i32)
+}

@@ -1,0 +1,10 @@
+//! The rounds of comparison, a kind in each file.
+
+pub mod joining;
+pub mod one_off;
+pub mod planning;
+
+use crate::comparison::Round;
+
+/// All kinds of rounds, for those who make every one.
+pub const ALL: [Round; 3] = [planning::round, joining::round, one_off::round];
