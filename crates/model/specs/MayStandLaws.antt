@@ -32,13 +32,22 @@ module _ (x : Instance) (g : Good x) (f : ℕ) where
   abbrev n : ℕ
   n = length (x .jobs)
 
-  -- the frames that the problem gives the job at place y are those of its window
+  -- the frames that the problem gives the job at place y: the first, and one past the last
+  first-is : (y : ℕ) → y < n → getD (problemAt x f .first) y 0 ≡ firstFrameOf f (jobAt x y)
+  unfolding problemAt
+  first-is y h = map-at (firstFrameOf f) 0 noJob (x .jobs) y h
+
+  end-is : (y : ℕ) → y < n → getD (problemAt x f .end) y 0 ≡ endFrameOf f (jobAt x y)
+  unfolding problemAt
+  end-is y h = map-at (endFrameOf f) 0 noJob (x .jobs) y h
+
+  -- they are those of its window
   pub window-is : 0 < f → (y k : ℕ) → y < n → FrameOfWindow x f y k ↔ ((getD (problemAt x f .first) y 0 ≤ k) × (k < getD (problemAt x f .end) y 0))
-  unfolding problemAt firstFrameOf endFrameOf
+  unfolding firstFrameOf endFrameOf
   window-is pos y k h =
       let from = starts-from f (jobAt x y .release) k pos in
       let by = ends-by f (jobAt x y .due) k pos in
-      rw (map-at (firstFrameOf f) 0 noJob (x .jobs) y h, map-at (endFrameOf f) 0 noJob (x .jobs) y h)
+      rw (first-is y h, end-is y h)
       (λ w. (from .0 (w .not-early), by .0 (w .not-late)), λ w. record { not-early = from .1 (w .0); not-late = by .1 (w .1) })
 
   -- It keeps its links exactly if it breaks no pair.

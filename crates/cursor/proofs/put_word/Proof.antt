@@ -1,6 +1,7 @@
 -- Two stores, of which one behind the end changes nothing.
-use Prim.Native.Nat.{suc, _%_, _/_}
-use mathlib.Core.Path.{sym}
+use Prim.Native.Nat.{ℕ, suc, _%_, _/_}
+use mathlib.Core.Path.{_≡_, sym, ap, _∙_}
+use mathlib.Core.List.{List}
 use native.Mathlib.Numerals.{add-one}
 use native.Mathlib.Omega.{arith}
 use lib.ListN.{set}
@@ -15,14 +16,14 @@ unfolding wordBytes
 returns c =
     let a = c .before .args in
     let out = a .out .now in
-    rw (set-out out (a .at) (a .w % 256) (c .if1 .taken)) (sym (set-out out (suc (a .at)) (a .w / 256) (omega (arith, c .if1 .taken))))
+    let one : set out (a .at) (a .w % 256) ≡ out = set-out out (a .at) (a .w % 256) (c .if1 .taken) in
+    sym (ap (λ (l : List ℕ). set l (suc (a .at)) (a .w / 256)) one ∙ set-out out (suc (a .at)) (a .w / 256) (omega (arith, c .if1 .taken)))
 
 returns-2 : tie.Need-returns-2
 unfolding wordBytes
 returns-2 c =
     let a = c .before .before .args in
-    let out = set (a .out .now) (a .at) (a .w % 256) in
-    sym (set-out out (suc (a .at)) (a .w / 256) (omega (arith, c .if2 .taken)))
+    sym (set-out _ (suc (a .at)) (a .w / 256) (omega (arith, c .if2 .taken)))
 
 returns-3 : tie.Need-returns-3
 unfolding wordBytes
