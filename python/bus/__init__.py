@@ -9,6 +9,7 @@
     flight.next_frame(), flight.report(0, 9), flight.counts
     both = bus.join("examples/battery-1.csv", "examples/battery-2.csv")
     bus.one_off(request, table, 5, begin=20)   # the earliest frame with time for 5 ticks more
+    bus.spacing(request, table)                # the least and the most ticks between two starts of each task
 """
 
 from .build import NotBuilt
@@ -22,6 +23,7 @@ from .refusals import Refused
 from .request import Job, Request, Task
 from .search import TRIES, SearchEnded
 from .sources import read_request
+from .spacing import Spacing, spacing
 from .table import Entry, Table
 from .text import c_array, flight, listing
 
@@ -38,6 +40,7 @@ __all__ = [
     "Request",
     "SearchEnded",
     "Served",
+    "Spacing",
     "TRIES",
     "Table",
     "Task",
@@ -51,4 +54,5 @@ __all__ = [
     "plan",
     "read_request",
     "rewrite",
+    "spacing",
 ]

@@ -44,7 +44,7 @@ def plan(request, tries=search.TRIES, tell=None):
     return replace(tables.decode(table), tries=count)
 
 
-def _checked(request, table):
+def checked(request, table):
     """A request's bytes, the request, and the bytes of a table that describes a plan of it."""
     data, request = given(request)
     table = content(table)
@@ -56,7 +56,7 @@ def _checked(request, table):
 
 def check(request, table):
     """The table, if it describes a plan of the request, of any frame length."""
-    return tables.decode(_checked(request, table)[2])
+    return tables.decode(checked(request, table)[2])
 
 
 def rewrite(request, table):
@@ -76,7 +76,7 @@ def one_off(request, table, length, begin=0, until=None):
     """
     if not all(0 <= ticks <= library.MOST_TICKS for ticks in (length, begin, until or 0)):
         raise ValueError("a length and ticks are numbers of four bytes")
-    data, request, table = _checked(request, table)
+    data, request, table = checked(request, table)
     plan = tables.decode(table)
     if until is None:
         until = 2 * plan.cycle

@@ -1,4 +1,5 @@
-"""What the command prints: a table's listing, its flight, its bytes in C, a frame with unused time; all with names."""
+"""What the command prints, with names: a table's listing, its flight, its bytes in C, a frame with unused time, and how
+far apart starts can be."""
 
 import re
 
@@ -54,6 +55,16 @@ def free_frame(request, frame):
     labels = (entry_label(request, entry) for entry in frame.entries)
     row = " ".join([f"row {frame.row} used {frame.used} unused {frame.unused}", *labels])
     return f"frame {frame.number} start {frame.start} end {frame.end}\n{row}\n"
+
+
+def spacings(records):
+    """A line for each task below the names of the columns: what any table gives, and what this one."""
+    lines = [("name", "ticks apart in any table", "in this table")]
+    for one in records:
+        any_table, this_table = f"{one.bound_least} to {one.bound_most}", f"{one.least} to {one.most}"
+        lines.append((quoted(one.name), any_table, this_table))
+    first, second = (max(len(line[column]) for line in lines) for column in (0, 1))
+    return "".join(f"{name:{first}}  {bound:{second}}  {here}\n" for name, bound, here in lines)
 
 
 def is_c_name(name):

@@ -265,7 +265,8 @@ impl<'a> Flight<'a> {
         }
         self.judge_due_jobs()?;
         self.judge_pairs()?;
-        self.judge_silence()
+        self.judge_silence()?;
+        self.judge_spacing()
     }
 
     fn job(&self, task: i64, number: i64) -> Option<&Job> {
@@ -333,6 +334,59 @@ impl<'a> Flight<'a> {
         }
         Ok(())
     }
+
+    /// The job of the same task that is released one period later.
+    fn successor(&self, (task, number, q): Instance) -> Instance {
+        let period = self.cycle.request.tasks[task as usize].t;
+        match self.cycle.h / period - (number + 1) {
+            0 => (task, 0, q + 1),
+            _ => (task, number + 1, q),
+        }
+    }
+
+    /// The one that is released one period earlier; the first job of the first cycle has none.
+    fn predecessor(&self, (task, number, q): Instance) -> Option<Instance> {
+        let jobs = self.cycle.h / self.cycle.request.tasks[task as usize].t;
+        match (number, q) {
+            (0, 0) => None,
+            (0, _) => Some((task, jobs - 1, q - 1)),
+            _ => Some((task, number - 1, q)),
+        }
+    }
+
+    /// Two successive jobs that both started, and when: each pair once.
+    fn readings(&self) -> impl Iterator<Item = (Instance, Instance, i64, i64)> + '_ {
+        self.log.iter().filter_map(|(first, runs)| {
+            let second = self.successor(*first);
+            let later = self.log.get(&second)?;
+            Some((*first, second, runs[0].0, later[0].0))
+        })
+    }
+
+    /// The starts of successive jobs of a task are as far apart as R-8 says, and no job between two
+    /// that started is left out.
+    fn judge_spacing(&self) -> Result<(), String> {
+        for (first, second, one, two) in self.readings() {
+            if !spaced(&self.cycle.request.tasks[first.0 as usize], two - one) {
+                return Err(format!("{first:?} started at {one}, {second:?} at {two}"));
+            }
+        }
+        for later in self.log.keys() {
+            if let Some(earlier) = self.predecessor(*later) {
+                if !self.log.contains_key(&earlier) {
+                    return Err(format!("{later:?} started, and {earlier:?} did not"));
+                }
+            }
+        }
+        Ok(())
+    }
+}
+
+/// "the starts of two successive jobs of one task are at least T − (D − C) and at most T + (D − C)
+/// ticks apart"
+pub fn spaced(task: &request::Task, apart: i64) -> bool {
+    let slack = task.d - task.c;
+    task.t - slack <= apart && apart <= task.t + slack
 }
 
 fn places(entries: &[Entry]) -> Vec<u8> {
@@ -354,6 +408,11 @@ pub struct Flights {
     pub with_carry: u64,
     pub with_pairs: u64,
     pub with_silence: u64,
+    /// Successive jobs that both started: all, those of two cycles, and those of the first cycle and
+    /// the second.
+    pub readings: u64,
+    pub over_a_cycle: u64,
+    pub over_the_first: u64,
 }
 
 /// So many requests are drawn for each flight that is asked for, and no more. Nine requests give
@@ -418,6 +477,11 @@ fn fly_one(
     done.with_carry += u64::from(carries);
     done.with_pairs += u64::from(!flight.cycle.request.pairs.is_empty());
     done.with_silence += u64::from(flight.cycle.request.g > 0);
+    for (first, second, _, _) in flight.readings() {
+        done.readings += 1;
+        done.over_a_cycle += u64::from(first.2 != second.2);
+        done.over_the_first += u64::from(first.2 == 0 && second.2 == 1);
+    }
     Ok(())
 }
 

@@ -6,7 +6,7 @@ use lib.ListN.{length, getD}
 use lib.Dec.{ltb}
 use Rattle.cycle.specs.Planned.{IsJob}
 use Rattle.table.specs.Table.{Entry, Table}
-use Rattle.model.specs.Plan.{Instance, pairAt}
+use Rattle.model.specs.Plan.{Instance, taskAt, pairAt}
 use Rattle.dispatcher.specs.Dispatch.{freshState}
 use Rattle.dispatcher.specs.declared.State.{State}
 use Rattle.flight.specs.Calls.{Call, Answer, dispatch, Plain, begin, height, plainly, answers, final, framesShown}
@@ -74,6 +74,8 @@ module _ (x : Instance) (tableBytes : List ℕ) (t : Table) (calls : List Call) 
     -- a started job starts no earlier than its release and ends by its deadline
     pub not-before-release : (i j q m p : ℕ) → Started i j q m p → releasedIn x q i j ≤ starts m p
     pub by-deadline : (i j q m p : ℕ) → Started i j q m p → ends m p ≤ dueIn x q i j
+    -- and it leaves time for its C before its deadline, however little it takes
+    pub leaves-time : (i j q m p : ℕ) → Started i j q m p → starts m p + taskAt x i .c ≤ dueIn x q i j
     -- "for a pair a, b, whenever job j of b in some cycle has started, job j of a in the same cycle had ended by that start"
     pub pairs-keep-order : (u : ℕ) → u < length (x .pairs) → (j q m p : ℕ) → Started (pairAt x u .b) j q m p
         → EndedBy (height t) (framesFlown tableBytes calls) ends (pairAt x u .a) j q (starts m p)

@@ -11,5 +11,7 @@ pub mod Rows
 pub mod Serving
 pub mod OnTime
 pub mod Counted
+-- runs and places, for crates above:
+pub mod Runs
 -- of the public calls' answers:
 pub mod Joined

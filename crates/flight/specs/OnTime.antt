@@ -51,7 +51,7 @@ unfolding start
 frame-begins g f actual m zero = omega arith
 frame-begins g f actual m (suc p) = omega (arith, frame-begins g f actual m p)
 
-one-by-one : (g f : ℕ) (actual : ℕ → ℕ → ℕ) (m p q : ℕ) → p < q → finish g f actual m p ≤ start g f actual m q
+pub one-by-one : (g f : ℕ) (actual : ℕ → ℕ → ℕ) (m p q : ℕ) → p < q → finish g f actual m p ≤ start g f actual m q
 unfolding start
 one-by-one g f actual m p zero h = absurd (omega arith)
 one-by-one g f actual m p (suc q) h =

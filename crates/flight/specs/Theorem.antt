@@ -18,7 +18,7 @@ use Rattle.flight.specs.Flight.{framesFlown, plainAfter, Flight}
 use Rattle.flight.specs.Same.{all-answers, final-state, framesFrom, framesFrom-length, framesFrom-at, asked, m-after, frames-served}
 use Rattle.flight.specs.Serving.{place-of-job, job-there, some-row, some-length, whole, frame-read-off, runs-from}
 use Rattle.flight.specs.Counted.{overruns-counted}
-use Rattle.flight.specs.OnTime.{starts-next, ends-by-slots, in-frame, some-job, after-release, before-due, ended}
+use Rattle.flight.specs.OnTime.{starts-next, ends-by-slots, in-frame, some-job, after-release, before-due, leaves-time, ended}
 
 module _ (x : Instance) (g : Good x) (bytes : List ℕ) (t : Table) (says : decode bytes ≡ table t)
     (ks : List ℕ) (v : IsPlan x (t .f) ks) (d : Describes x (t .f) ks t) (calls : List Call) where
@@ -58,6 +58,7 @@ module _ (x : Instance) (g : Good x) (bytes : List ℕ) (t : Table) (says : deco
           ends-in-frame = in-frame x g t ks v d actual (framesFlown bytes calls) frame-is keep;
           not-before-release = after-release x g t ks v d actual (framesFlown bytes calls) frame-is keep;
           by-deadline = before-due x g t ks v d actual (framesFlown bytes calls) frame-is keep;
+          leaves-time = leaves-time x g t ks v d actual (framesFlown bytes calls) frame-is keep;
           pairs-keep-order = ended x g t ks v d actual (framesFlown bytes calls) frame-is keep;
           -- where it is due by the end of the last frame served, its frame was served
           due-ran-once = λ i j is q h.

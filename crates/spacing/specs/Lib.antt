@@ -1,0 +1,11 @@
+-- Spacing of sensor readings: 02, R-8. To be believed:
+pub mod Spacing
+-- what 'successive' comes to, proved:
+pub mod SuccessiveLaws
+-- the theorem, with its proof:
+pub mod SpacingLaws
+pub mod WhileLaws
+-- of the public calls' answers:
+pub mod Joined
+-- neither bound can be better: computed flights
+pub mod Reached

@@ -1,0 +1,19 @@
+"""`bus spacing`: how unevenly the jobs of each transfer can start."""
+
+from .. import files
+from ..spacing import spacing
+from ..text import spacings
+from .arguments import add_list, add_table
+
+NAME = "spacing"
+HELP = "prints how many ticks can lie between two starts of a transfer"
+EXAMPLE = "  bus spacing examples/team.csv team.table"
+
+
+def arguments(parser):
+    add_list(parser)
+    add_table(parser)
+
+
+def run(asked):
+    files.print_out(spacings(spacing(files.read(asked.list), files.read(asked.table))))
