@@ -8,10 +8,10 @@
  * refusal, its number negated (the numbers stand at the end of this file). A refused call leaves
  * every buffer as it was, but for the count of tries that bus_plan gives with every answer.
  *
- * A buffer is a pointer and the number of bytes behind it. The pointer is not NULL, also where the
- * length is 0, and the buffers of one call do not overlap, save two that are only read. Nothing is
- * kept between calls but what stands in the buffers: there are no globals, no allocation and no
- * input or output, so calls on different buffers may run at the same time.
+ * A buffer is a pointer and the number of bytes behind it. Pointers must not be NULL, even for
+ * length 0. Buffers of one call must not overlap unless both are only read. Nothing is kept between
+ * calls but what stands in the buffers: there are no globals, no allocation and no input or output,
+ * so calls on different buffers may run at the same time.
  */
 #ifndef BUS_H
 #define BUS_H
@@ -46,11 +46,10 @@ extern "C" {
  *
  * The search may be long where plans are hard to find, so it is allowed so many tries and no more.
  * One try is one job tested in one frame of its window, whether it is then placed there or passed
- * over. The tries that the full search makes depend on the request alone; where they are more than
- * the allowance, the request is refused with 23, neither with a table nor with 10. With an allowance
- * that reaches them it gets one of these, and that stays with any larger one. The programs `plan`,
- * `plan_table` and `fly` allow 10,000,000 tries; UINT64_MAX is a limit that no search reaches in a
- * lifetime.
+ * over. The tries of the full search depend on the request alone. If it needs more than `allowance`,
+ * the answer is 23: a table may or may not exist. With enough tries the answer is final. The programs
+ * `plan`, `plan_table` and `fly` allow 10,000,000 tries; UINT64_MAX is a limit that no search reaches
+ * in a lifetime.
  *
  * The first 8 bytes of `tries` get the count of tries, low byte first, with every answer but 99: with
  * 1 to 9 and 17 it is 0, with 23 the allowance, else the tries of the full search. The bytes behind

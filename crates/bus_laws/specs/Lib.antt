@@ -4,5 +4,5 @@ pub mod RoundTrip
 pub mod Changed
 -- the bytes of the tries give the count back
 pub mod Tries
--- what answers of 0 say, and what is planned passes the check
+-- what answers from 0 on say, and what is planned passes the check
 pub mod Answered

@@ -45,7 +45,7 @@ fn used(cycle: Cycle, row: Row) -> u64
     sum
 }
 
-// The used time of each row, in 256 places. The table is read once.
+// The used time of each row, in 256 places. The rows are read once.
 fn used_times(cycle: Cycle, table: &[u8], sizes: Sizes) -> [u64; 256]
     requires { ⌜ Formed (now table) sizes ⌝ }
     ensures { λ r. ⌜ UsedTimes (instanceOf cycle) (now (table .entry)) (sizes .height) r ⌝ }

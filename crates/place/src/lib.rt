@@ -5,9 +5,9 @@
 // `left` is the number of tries that are left: one try is one job tested in one frame of its window, passed over or not. `place_job` and `try_frame`
 // answer 1: the jobs are placed; 0: there is no way to place them; 2: one more try was needed than were left.
 //
-// `pack` puts all that is given but the links into one array, so that a call passes what it needs in registers. Its parts are the jobs' costs, the
-// first frames of their windows, the frames where these end, and the numbers of their links; the last part has the number of rows, the length of a
-// frame and the number of jobs.
+// `pack` puts all that is given but the links into one array, so that `place_job`, the call that goes deeper, has six arguments. Its parts are the
+// jobs' costs, the first frames of their windows, the frames where these end, and the numbers of their links; the last part has the number of rows,
+// the length of a frame and the number of jobs.
 ghost use mathlib.Core.Path.{_≡_};
 ghost use mathlib.Core.List.{[]};
 ghost use Prim.Native.Nat.{_+_, _≤_, _<_, _%_};
@@ -69,7 +69,7 @@ fn pack(given: Given) -> [[u16; 128]; 5]
     [costs, first, end, counts, sizes]
 }
 
-// Entry i of part j. That it fits its type is known of an answer, and not of what is read in place.
+// Entry i of part j. A function, because the prover knows the range of a returned u16 but not of one read from the array.
 fn entry(given: &[[u16; 128]; 5], j: usize, i: usize) -> u16
     requires { ⌜ (j < 5) × (i < 128) ⌝ }
     ensures { λ r. ⌜ r ≡ getD (getD (now (given .entry)) j []) i 0 ⌝ }

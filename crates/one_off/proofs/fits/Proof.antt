@@ -31,4 +31,5 @@ returns-3 c =
 pub fits-spec : {M : Type 1} → statement M
 fits-spec =
     tie.close
-    (tie.spec (λ c. omega (arith, start-small c)) returns (λ c. omega (arith, start-small (c .before), c .before .fits .f)) returns-2 (λ c. search needs) (λ c. search needs) (λ c. search needs) returns-3)
+    (tie.spec (λ c. omega (arith, start-small c)) returns (λ c. omega (arith, start-small (c .before), c .before .fits .f)) returns-2 (λ c. search needs)
+    (λ c. search needs) (λ c. search needs) returns-3)
