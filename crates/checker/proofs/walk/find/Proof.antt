@@ -1,6 +1,7 @@
 -- Inside both loops no place is found yet, and the rest of the walk finds what the whole walk finds.
 use Prim.Native.Nat.{_≤_, _<_, _-_, _+_, _*_}
 use mathlib.Core.Path.{_≡_, refl, sym, _∙_}
+use Rattle.table.specs.Table.{carriedIn}
 use Rattle.checker.specs.declared.walk.Place.the-variants.{Nowhere}
 use Rattle.checker.specs.Checked.{placeIn}
 use Rattle.checker.specs.Answers.{rowsIn, rowsOf}
@@ -74,7 +75,8 @@ returns-2 c =
     let test = job .before .before in
     let l = test .before .entries in
     let named = rw (number .number .ensures, job .before .byte-or-zero2 .ensures, job .byte-or-zero3 .ensures) at (sym (is .before .is-job .ensures) ∙ is .if1 .taken) in
-    rw (c .is-carried .ensures, job .byte-or-zero3 .ensures) (sym (entry-names _ _ _ _ (l .at) _ (l .e) (test .entries-test .taken) named) ∙ l .inv .6)
+    let carry : c .is-carried .result ≡ carriedIn (job .byte-or-zero3 .result) = c .is-carried .ensures in
+    rw (carry, job .byte-or-zero3 .ensures) (sym (entry-names _ _ _ _ (l .at) _ (l .e) (test .entries-test .taken) named) ∙ l .inv .6)
 
 pub find-spec : {M : Type 1} → statement M
 find-spec =
