@@ -1,6 +1,6 @@
 /*
- * The bus table library: joining requests, planning, checking and dispatching a table for the bus
- * controller, and finding time for a one-off transfer beside it.
+ * The bus table library: joining and cutting requests, planning, checking and dispatching a table
+ * for the bus controller, and finding time for a one-off transfer beside it.
  *
  * All times are whole ticks. A u16 in a file or a state is two bytes, low byte first.
  *
@@ -160,6 +160,21 @@ int32_t bus_join(const uint8_t *first, size_t first_len, const uint8_t *second, 
                  uint8_t *out, size_t out_len);
 
 /*
+ * Cuts a long transfer in two and writes the new request to the front of `out`. Task `task` becomes
+ * two tasks, `task` of `first` ticks and `task` + 1 of the rest, with the same T, D and P; later
+ * tasks move up by one. A pair of the two stands in front of the other pairs, so the pieces run in
+ * order. A pair that had the task second now has the first piece, and a pair that had it first now
+ * has the second piece. The silent ticks stay; none are written by leaving the third section out.
+ * The bytes behind the request are left as they are. A table for the new request runs both pieces
+ * inside the window of the old transfer. The cycle is judged when the request is planned.
+ *
+ * Answers the request's length, or refuses with 1 to 5, 17 or 6, then with 24, 25, 19, or 11. A
+ * buffer of BUS_REQUEST_BYTES is never too short.
+ */
+int32_t bus_cut(const uint8_t *request, size_t request_len, uint8_t task, uint16_t first, uint8_t *out,
+                size_t out_len);
+
+/*
  * Finds time for a one-off transfer of `length` ticks beside a table: the earliest frame that begins
  * at the tick `from` or later, ends at the tick `until` or earlier, and leaves enough of its time
  * unused for the transfer and the silent ticks after it. Ticks and frames are counted from the
@@ -190,7 +205,7 @@ int32_t bus_one_off(const uint8_t *request, size_t request_len, const uint8_t *t
  *    8  more than 128 jobs
  *    9  no frame length is plausible
  *   10  some frame length is plausible, but there is no plan
- *   11  the buffer is shorter than the table, or than the joined request
+ *   11  the buffer is shorter than the table, or than the joined or cut request
  *   12  the bytes are no table
  *   13  the table's cycle is not the request's, or its frame length is not plausible
  *   14  the table does not describe a plan
@@ -198,11 +213,13 @@ int32_t bus_one_off(const uint8_t *request, size_t request_len, const uint8_t *t
  *   16  the request has no such task
  *   17  the request's third section has a count above 1, or more than 15 silent ticks
  *   18  the two requests have more than 16 tasks together
- *   19  the two requests have more than 16 pairs together
+ *   19  the two requests have more than 16 pairs together, or the request to be cut has 16
  *   20  the two requests differ in their silent ticks
  *   21  a one-off transfer of length 0, from a tick after its last, or until a tick after two cycles
  *   22  no frame has time for the one-off transfer
  *   23  the search needs more tries than are allowed
+ *   24  the request has no such task to cut, or the first piece is not from 1 to C - 1 ticks
+ *   25  the request to be cut has 16 tasks already
  *   99  a state, entries or tries buffer is too short, or the state's mark is neither 0 nor 1
  */
 

@@ -19,6 +19,16 @@ static void expect(const char *call, int32_t answer, int32_t expected)
     }
 }
 
+/* Cuts a task: this answer, and nothing written behind the file. */
+static void cut(const uint8_t *request, size_t len, uint8_t task, uint16_t first, size_t room, int32_t answer)
+{
+    uint8_t file[BUS_REQUEST_BYTES];
+    memset(file, 0x5A, sizeof file);
+    expect("bus_cut", bus_cut(request, len, task, first, file, room), answer);
+    for (size_t i = answer < 0 ? 0 : (size_t)answer; i < sizeof file; i++)
+        expect("bus_cut, behind the file", file[i], 0x5A);
+}
+
 /* Plans with so many tries allowed: this answer and count, and nothing else written. */
 static void plan(const uint8_t *request, size_t len, uint64_t allowance, int32_t answer, uint64_t count)
 {
@@ -104,6 +114,21 @@ int main(void)
     expect("bus_join", bus_join(request, sizeof request, silent, sizeof silent, file, sizeof file), -20);
     expect("bus_join", bus_join(request, sizeof request, bad, sizeof bad, file, sizeof file), -17);
     expect("bus_join", bus_join(request, sizeof request, request, sizeof request, file, 49), -11);
+    expect("bus_cut", bus_cut(request, sizeof request, 2, 4, file, sizeof file), 36);
+    expect("bus_cut, tasks", file[0], 4);
+    expect("bus_cut, first piece", file[17], 4);
+    expect("bus_cut, second piece", file[25], 6);
+    expect("bus_cut, pair", file[34] == 2 && file[35] == 3, 1);
+    plan(file, 36, UINT64_MAX, 21, 6);
+    cut(request, sizeof request, 2, 9, 36, 36);
+    cut(request, sizeof request, 2, 9, 35, -11);
+    cut(silent, sizeof silent, 0, 1, BUS_REQUEST_BYTES, 38);
+    cut(request, sizeof request, 3, 1, BUS_REQUEST_BYTES, -24);
+    cut(request, sizeof request, 255, 1, BUS_REQUEST_BYTES, -24);
+    cut(request, sizeof request, 2, 0, BUS_REQUEST_BYTES, -24);
+    cut(request, sizeof request, 2, 10, BUS_REQUEST_BYTES, -24);
+    cut(request, sizeof request, 2, 65535, BUS_REQUEST_BYTES, -24);
+    cut(bad, sizeof bad, 2, 10, BUS_REQUEST_BYTES, -17);
     expect("bus_one_off", bus_one_off(request, sizeof request, table, used, 10, 0, 80), 1);
     expect("bus_one_off", bus_one_off(request, sizeof request, table, used, 10, 21, 80), 3);
     expect("bus_one_off", bus_one_off(request, sizeof request, table, used, 11, 0, 80), -22);

@@ -8,12 +8,14 @@
     flight = bus.Dispatcher(table, request)
     flight.next_frame(), flight.report(0, 9), flight.counts
     both = bus.join("examples/battery-1.csv", "examples/battery-2.csv")
+    pieces = bus.cut("examples/p2.csv", "camera", 4)   # 4 ticks, and then the rest
     bus.one_off(request, table, 5, begin=20)   # the earliest frame with time for 5 ticks more
     bus.spacing(request, table)                # the least and the most ticks between two starts of each task
 """
 
 from .build import NotBuilt
 from .calls import FreeFrame, check, one_off, plan, rewrite
+from .cut import cut
 from .dispatcher import Dispatcher, Frame, Served
 from .files import FileFault
 from .join import join
@@ -46,6 +48,7 @@ __all__ = [
     "Task",
     "c_array",
     "check",
+    "cut",
     "flight",
     "join",
     "listing",

@@ -136,12 +136,25 @@ def tasks_in_both(*, first, second, **_):
     return _in_both("tasks", len(first.tasks), len(second.tasks))
 
 
-def pairs_in_both(*, first, second, **_):
-    return _in_both("pairs", len(first.pairs), len(second.pairs))
+def pairs_too_many(*, first=None, second=None, request=None, **_):
+    if request is None:
+        return _in_both("pairs", len(first.pairs), len(second.pairs))
+    return f"pairs: {len(request.pairs)} in the list, and one that keeps the two pieces in order"
 
 
 def silent_in_both(*, first, second, **_):
     return _in_both("silent ticks after every transfer", first.silent, second.silent)
+
+
+def no_such_cut(*, request, task, called, piece, **_):
+    count = len(request.tasks)
+    if task >= count:
+        names = ", ".join(each.name for each in request.tasks)
+        return f"no transfer is called {called}: the names are {names}, and the numbers 0 to {count - 1}"
+    length = request.tasks[task].length
+    if length == 1:
+        return f"{request.place(task)} has 1 tick, which cannot be cut"
+    return f"the first piece of {request.place(task)} can have from 1 to {length - 1} ticks, not {piece}"
 
 
 def table_length(*, table, **_):

@@ -19,11 +19,13 @@ TRIES_BYTES = 8
 TABLE_BYTES = 519
 REQUEST_BYTES = 164
 
-# The most tries that can be allowed, and the most ticks that can be asked for or reported.
+# The most tries that can be allowed, the most ticks that can be asked for or reported, and those of a transfer.
 MOST_TRIES = 2**64 - 1
 MOST_TICKS = 2**32 - 1
+MOST_LENGTH = 2**16 - 1
 
-# No request has so many tasks, so a report on this one tells whether the bytes can be read, and nothing else.
+# No request has so many tasks, so a report on this one tells whether the bytes can be read, and nothing else. A name
+# that no task has is handed on as this number, which the library then refuses.
 NO_TASK = 255
 NO_SUCH_TASK = 16
 
@@ -117,6 +119,7 @@ fresh = Call("fresh", filled("state", STATE_BYTES))
 next_frame = Call("next_frame", read("table"), changed("state", STATE_BYTES), filled("entries", ENTRIES_BYTES))
 report = Call("report", read("request"), number("task", 8), number("ticks", 32), changed("state", STATE_BYTES))
 join = Call("join", read("first"), read("second"), written("out", REQUEST_BYTES))
+cut = Call("cut", read("request"), number("task", 8), number("first", 16), written("out", REQUEST_BYTES))
 one_off = Call(
     "one_off", read("request"), read("table"), number("length", 32), number("from", 32), number("until", 32)
 )

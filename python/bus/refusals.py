@@ -7,7 +7,7 @@ from typing import Callable, NamedTuple, Optional
 
 from . import details
 
-# The argument of the command whose file a refusal speaks of. NO_ONE: no file, or two, which join.py names.
+# The argument of the command whose file a refusal speaks of. NO_ONE: no file. Where there are two, join.py names them.
 LIST, TABLE, NO_ONE = "list", "table", ""
 
 
@@ -66,8 +66,9 @@ ROWS = (
         9, LIST, details.longest_and_shortest,
         "no frame length is plausible: none divides H into at most 256 rows, holds the longest transfer with its"
         " silent ticks and lies whole in each window of every task",
-        "the longest transfer is long against the shortest deadline: shorten or cut it, relax the deadline, ask for"
-        " fewer silent ticks, or move a phase: a window that opens where a frame begins has room for the longest one",
+        "the longest transfer is long against the shortest deadline: shorten it or cut it (`bus cut`), relax the"
+        " deadline, ask for fewer silent ticks, or move a phase: a window that opens where a frame begins has room for"
+        " the longest one",
     ),
     Refusal(
         10, LIST, details.asked_for,
@@ -77,7 +78,7 @@ ROWS = (
     ),
     Refusal(
         11, NO_ONE, None,
-        "the buffer is shorter than the table, or than the joined request",
+        "the buffer is shorter than the table, or than the joined or cut request",
         "lend 7 + F + 2·(number of jobs) bytes for a table; 519 are always enough, and 164 for a request",
     ),
     Refusal(
@@ -118,8 +119,8 @@ ROWS = (
         "leave the two to 16 tasks together, or give the second board a bus of its own",
     ),
     Refusal(
-        19, NO_ONE, details.pairs_in_both,
-        "two requests that are joined have more than 16 pairs together",
+        19, LIST, details.pairs_too_many,
+        "the request that is made by joining or cutting would have more than 16 pairs",
         "drop pairs that follow from others",
     ),
     Refusal(
@@ -145,6 +146,16 @@ ROWS = (
         "allow more, in the command by `--tries N`; or make the search shorter: put transfers that are alike, with the"
         " same C, T, D and P and in no other pair, in order by pairs, down the list, which changes no table; or ask for"
         " less load",
+    ),
+    Refusal(
+        24, LIST, details.no_such_cut,
+        "the task to be cut is not one of the list, or its first piece is not from 1 to C − 1",
+        "name a task of the list, and give the first piece at least 1 tick and leave at least 1 for the second",
+    ),
+    Refusal(
+        25, LIST, None,
+        "a task is to be cut where there are 16 tasks already",
+        "leave the list to 15 tasks before one is cut",
     ),
 )
 

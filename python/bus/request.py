@@ -2,7 +2,7 @@
 
 import math
 import struct
-from dataclasses import dataclass, field
+from dataclasses import dataclass, field, replace
 from typing import NamedTuple
 
 
@@ -82,6 +82,11 @@ class Request:
 def numbered(number):
     """The name of a task that has none but its number."""
     return f"task{number}"
+
+
+def named(request, names):
+    """The request with these names for its tasks."""
+    return replace(request, tasks=tuple(replace(task, name=name) for task, name in zip(request.tasks, names)))
 
 
 def decode(data):

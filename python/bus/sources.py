@@ -14,6 +14,11 @@ class Given(NamedTuple):
     request: requests.Request
 
 
+def called(source, otherwise):
+    """What a refusal calls a source: its path, if it has one."""
+    return str(source) if isinstance(source, (str, os.PathLike)) else otherwise
+
+
 def content(source):
     """The bytes of a record, of a file, or as they are."""
     return files.read(source) if isinstance(source, (str, os.PathLike)) else bytes(source)

@@ -97,6 +97,7 @@ class Refusals(Case):
             21: lambda: bus.one_off(one, table, 0),
             22: lambda: bus.one_off(one, table, 20),
             23: lambda: bus.plan(pigeons(4), tries=1),
+            24: lambda: bus.cut(one, 1, 1),
         }
         self.assertEqual(sorted(cases), [row.number for row in refusals.ROWS if row.details])
         for number, case in cases.items():

@@ -162,9 +162,10 @@ class Flown(Case):
                     for (_, first), (_, second) in zip(starts, starts[1:]):
                         self.assertTrue(one.least <= second - first <= one.most, (asked, table))
 
-    def test_stored_tables_keep_the_bound(self):
-        """Chosen tables, from the examples."""
-        for path in sorted(EXAMPLES.glob("*.csv")):
+    def test_chosen_tables_keep_the_bound(self):
+        """Those of the lists among the examples."""
+        for name in ("team", "harness", "battery-1", "battery-2"):
+            path = EXAMPLES / f"{name}.csv"
             for low, high, least, most in figures(path, bus.plan(path)):
                 self.assertTrue(0 < low <= least <= most <= high)
 

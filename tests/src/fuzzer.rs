@@ -7,11 +7,12 @@ use crate::call::{Call, Outcome, Value};
 use crate::comparison::MOST_TRIES;
 use crate::generate;
 use crate::random::Random;
+use crate::reference::cut::Cut;
 use crate::reference::one_off::Asked;
 use crate::reference::table::encode;
 use crate::reference::{planned_within, read_cycle, tries_within};
 use crate::rounds::planning::allowances;
-use crate::rounds::{joining, one_off};
+use crate::rounds::{cutting, joining, one_off};
 use crate::row::Kind;
 
 /// How many requests and how many tables are kept.
@@ -63,6 +64,7 @@ struct Drawn {
     requests: Vec<Vec<u8>>,
     table: Vec<u8>,
     asked: Option<Asked>,
+    cut: Option<Cut>,
 }
 
 pub struct Fuzzer {
@@ -239,6 +241,22 @@ impl Fuzzer {
     pub fn ticks(&mut self) -> u64 {
         let most = u64::from(u32::MAX);
         self.rng.pick(&[0, 1, 2, 3, 8, 100, 65_535, 65_536, most])
+    }
+
+    /// A cut, drawn about the request.
+    fn cut(&mut self) -> Cut {
+        let drawn = &mut self.drawn;
+        *drawn
+            .cut
+            .get_or_insert_with(|| cutting::some_cut(&mut self.rng, &drawn.requests[0]))
+    }
+
+    pub fn task_to_cut(&mut self) -> u64 {
+        self.cut().task.into()
+    }
+
+    pub fn first_piece(&mut self) -> u64 {
+        self.cut().first.into()
     }
 
     /// A one-off transfer, drawn about the request and the table.

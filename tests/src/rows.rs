@@ -62,6 +62,14 @@ macro_rules! every_call {
                 out: write(Fuzzer::room, Change::Answered),
             ) refuses [1, 2, 3, 4, 5, 17, 6, 18, 19, 20, 11];
 
+            /// The length of the request, one task of it cut in two, written to the front of `out`.
+            cut(
+                request: read(Fuzzer::request),
+                task: u8(Fuzzer::task_to_cut),
+                first: u16(Fuzzer::first_piece),
+                out: write(Fuzzer::room, Change::Answered),
+            ) refuses [1, 2, 3, 4, 5, 17, 6, 24, 25, 19, 11];
+
             /// The earliest frame, counted from time 0, with time for the transfer of so many ticks, not
             /// before the one tick and not after the other.
             one_off(

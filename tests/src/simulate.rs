@@ -1,6 +1,8 @@
 //! A flight: a table served frame by frame with random actual times and reports, beside the
 //! plain dispatcher that keeps only the frames served and the overruns of each task.
 
+pub mod cut;
+
 use std::collections::BTreeMap;
 
 use crate::bus::{count_bytes, counts, Bus, ENTRIES_LEN, STATE_LEN, TASKS};

@@ -56,6 +56,7 @@ impl Calls {
         self.add(&Call::check(request, &table))?;
         self.add(&Call::rewrite(request, &table, &room))?;
         self.add(&Call::join(request, &sheet::p1(), &[0; 164]))?;
+        self.add(&Call::cut(request, 1, 1, &[0; 164]))?;
         for (length, from, until) in [(1, 0, 16), (1, 17, 80), (u32::MAX, 0, 32), (0, 0, 0)] {
             self.add(&Call::one_off(request, &table, length, from, until))?;
         }

@@ -5,6 +5,7 @@ pub mod State
 pub mod StateLaws
 -- requests
 pub mod Join
+pub mod Cut
 -- tables
 pub mod Plan
 pub mod Check

@@ -3,6 +3,7 @@ use crate::reply::refusal;
 use crate::reply::value;
 ghost use mathlib.Core.Path.{_≡_};
 ghost use Rattle.bus.specs.Join.{joinReply, joinBuffer};
+ghost use Rattle.bus.specs.Cut.{cutReply, cutBuffer};
 
 // The request of the two joined, written into `out`: its length, or 1 to 6, 17 to 20 or 11 negated.
 #[no_mangle]
@@ -11,6 +12,19 @@ pub extern "C" fn bus_join(first: &[u8], second: &[u8], out: &mut [u8]) -> i32
         × (now (out .exit) ≡ joinBuffer (now (first .entry)) (now (second .entry)) (now (out .entry))) ⌝ }
 {
     let written = join::join(first, second, out);
+    if written.refusal != 0 {
+        return refusal(written.refusal);
+    }
+    value(written.length)
+}
+
+// The request with one task cut into two pieces, written into `out`: its length, or 1 to 6, 17, 24, 25, 19 or 11 negated.
+#[no_mangle]
+pub extern "C" fn bus_cut(request: &[u8], task: u8, first: u16, out: &mut [u8]) -> i32
+    ensures { λ r. ⌜ (r ≡ cutReply (now (request .entry)) task first (now (out .entry)))
+        × (now (out .exit) ≡ cutBuffer (now (request .entry)) task first (now (out .entry))) ⌝ }
+{
+    let written = cut::cut(request, task, first, out);
     if written.refusal != 0 {
         return refusal(written.refusal);
     }

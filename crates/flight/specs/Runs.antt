@@ -1,5 +1,6 @@
--- Runs and places, of any frames: a job that has run started at some place, and a job that has run at most once started at no two places.
-use mathlib.Core.Path.{_≡_, refl, ap}
+-- Runs and places, of any frames: a job that has run started at some place, and a job that has run at most once started at no two places. In a flight
+-- what has started is a job of the request.
+use mathlib.Core.Path.{_≡_, refl, sym, ap, _∙_}
 use mathlib.Core.Bool.{Bool, true, false}
 use mathlib.Core.Logic.{⊎-elim}
 use mathlib.Core.List.{List, [], _∷_}
@@ -9,8 +10,13 @@ use native.Mathlib.Nat.{zero-add}
 use lib.ListN.{length, getD}
 use Rattle.cursor.specs.Choice.{bit}
 use Rattle.cursor.specs.ChoiceLaws.{lt-or-ge}
-use Rattle.table.specs.Table.{Entry}
-use Rattle.flight.specs.Timing.{noEntry, standsFor, Starts, runsIn, runsFrom, timesRun}
+use Rattle.cycle.specs.Planned.{IsJob}
+use Rattle.table.specs.Table.{Entry, Table}
+use Rattle.model.specs.Plan.{Instance}
+use Rattle.flight.specs.Calls.{Call, height}
+use Rattle.flight.specs.Timing.{noEntry, servedAt, standsFor, Starts, runsIn, runsFrom, timesRun}
+use Rattle.flight.specs.Flight.{framesFlown, Started, Flight}
+use Rattle.flight.specs.Rows.{meant}
 
 -- In one frame
 
@@ -114,3 +120,15 @@ module _ (F : ℕ) (frames : List (List Entry)) (i j q : ℕ) where
   -- two places are two runs: where it has run at most once, it started at one place
   pub one-place : timesRun F frames i j q ≤ 1 → (m p u v : ℕ) → Starts F frames i j q m p → Starts F frames i j q u v → (m ≡ u) × (p ≡ v)
   one-place h m p u v s z = from-once F i j q frames 0 h m p u v (from-zero m p s) (from-zero u v z)
+
+-- what has started is a job of the request
+pub started-job : (x : Instance) (tableBytes : List ℕ) (t : Table) (calls : List Call) (actual : ℕ → ℕ → ℕ) → Flight x tableBytes t calls actual
+    → (i j q m p : ℕ) → Started x tableBytes t calls actual i j q m p → IsJob (x .tasks) (x .h) i j
+started-job x tableBytes t calls actual flies i j q m p s =
+    let e : Entry = servedAt (framesFlown tableBytes calls) m p in
+    let w = flies .each-stands m p (s .served-there) in
+    let here = meant (m / height t) i j q e (s .stands) in
+    let there = meant (m / height t) (w .i) (w .j) (w .q) e (w .starts .stands) in
+    let task : w .i ≡ i = sym (there .task) ∙ here .task in
+    let number : w .j ≡ j = sym (there .number) ∙ here .number in
+    rw (task, number) at (w .is-job)

@@ -20,10 +20,9 @@ use Rattle.request.specs.declared.Request.{Request}
 use Rattle.cursor.specs.Written.{written, buffer}
 use Rattle.request_writer.specs.Written.{requestAnswer, requestBuffer}
 use Rattle.request_writer.specs.FileLaws.{refusal-answered, request-answered}
-use Rattle.request_writer.specs.Places.{ReadAs, first-tasks, first-pairs, places-hold, numbers-few}
+use Rattle.request_writer.specs.Places.{ReadAs, first-tasks, first-pairs, places-hold}
 use Rattle.cursor.specs.declared.Written.{Written}
 use Rattle.join.specs.Joined.{raised, joinedTasks, joinedPairs, misfit, unless, joined}
-use Rattle.join.specs.Promises.{Few}
 
 -- An array with one element more behind those of two lists.
 more-behind : {A : Type 0} (blank : A) (xs ys : List A) (at : ℕ) (x : A) → length xs + length ys ≡ at → at < 16
@@ -83,9 +82,6 @@ module _ (n m g h : ℕ) where
 unless-refused : (number : ℕ) (r : Reading) → (number ≡ 0 → ⊥) → unless number r ≡ unreadable number
 unless-refused zero r ne = absurd (ne refl)
 unless-refused (suc number) r ne = refl
-
-pub pairs-few : (bytes : List ℕ) (x : Request) → ReadAs bytes x → Few (x .pairs)
-pairs-few bytes x o = record { first = λ i. numbers-few bytes x o i .0; second = λ i. numbers-few bytes x o i .1 }
 
 module _ (first second out : List ℕ) where
   -- what is answered, and left in the buffer, is what joining comes to

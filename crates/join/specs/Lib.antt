@@ -1,5 +1,4 @@
 pub mod Joined
-pub mod Promises
 pub mod JoinLaws
 pub mod Parts
 pub mod Valid

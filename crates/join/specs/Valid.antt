@@ -5,7 +5,7 @@ use Prim.Native.Nat.{ℕ, zero, suc, _+_, _-_, _≤_, _<_}
 use mathlib.Core.Path.{_≡_, refl, sym, ap, subst₂, _∙_}
 use mathlib.Core.Logic.{_⊎_, inl, inr, _≢_}
 use mathlib.Core.Bool.{Bool, true, false}
-use mathlib.Core.List.{List, _++_, map, append-nil}
+use mathlib.Core.List.{List, _++_, map}
 use native.Mathlib.Omega.{arith}
 use lib.ListN.{length, getD, drop, length-append, length-map, List·getD-append}
 use lib.Seq.{getD-append-add}
@@ -15,13 +15,13 @@ use Rattle.cursor.specs.ChoiceLaws.{lt-or-ge}
 use Rattle.cursor.specs.ParsedLaws.{never}
 use Rattle.cursor.specs.Padded.{map-at}
 use Rattle.request.specs.Request.{Reading, readable, unreadable, reading, noTask, noPair, periodOf}
-use Rattle.request.specs.Encode.{silentBytes, twoSections, requestBytes}
+use Rattle.request.specs.Encode.{twoSections, requestBytes}
 use Rattle.request.specs.EncodeLaws.{read-encode}
 use Rattle.request.specs.Readable.{TaskKept, PairKept, Readable, readable-kept, silent-few, UnreadNumber, unreadable-number}
 use Rattle.request.specs.declared.Task.{Task}
 use Rattle.request.specs.declared.Pair.{Pair}
 use Rattle.request_writer.specs.Written.{requestAnswer, requestBuffer}
-use Rattle.request_writer.specs.FileLaws.{ownNumber, fileOf, has-file, answer-short, answer-enough}
+use Rattle.request_writer.specs.FileLaws.{no-silence, ownNumber, fileOf, has-file, answer-short, answer-enough}
 use Rattle.join.specs.Joined.{raised, joinedTasks, joinedPairs, misfit, unless, joined}
 use Rattle.join.specs.JoinLaws.{pairs-counted}
 use Rattle.join.specs.Parts.{Parts, joined-parts}
@@ -72,10 +72,6 @@ module _ (tasks₁ tasks₂ : List Task) where
           pair = each-of-two noPair (PairKept (tasks₁ ++ tasks₂)) pairs₁ raise (λ i h. pair-stays _ (one .pair i h))
               (λ i h. let l : i < length pairs₂ = omega (arith, count) in rw (map-at (raised (length tasks₁)) noPair noPair pairs₂ i l) (pair-moves _ (two .pair i l)));
         }
-
-no-silence : (tasks : List Task) (pairs : List Pair) → requestBytes tasks pairs 0 ≡ twoSections tasks pairs
-unfolding requestBytes silentBytes
-no-silence tasks pairs = append-nil (twoSections tasks pairs)
 
 -- The file is that of the first's tasks and then the second's, the first's pairs and then the second's, raised by the first's n, and the common g,
 -- of which 0 is written by leaving the third section out; and it reads as that.
@@ -148,7 +144,7 @@ module _ (first second : List ℕ) where
           g = g;
           parts = p;
           bytes = is;
-          silence = λ z. is ∙ ap (requestBytes tasks pairs) z ∙ no-silence tasks pairs;
+          silence = λ z. is ∙ no-silence tasks pairs g z;
           reads = ap reading is ∙ read-encode tasks pairs g joined-form few;
         }
 

@@ -8,8 +8,8 @@ ghost use Prim.Native.Nat.{_+_, _≤_};
 ghost use Rattle.cursor.specs.Padded.{padded, firsts};
 ghost use Rattle.request.specs.Request.{noTask, noPair, reading};
 ghost use Rattle.request_writer.specs.Written.{requestAnswer, requestBuffer};
+ghost use Rattle.request_writer.specs.Places.{Few};
 ghost use Rattle.join.specs.Joined.{raised, misfit, joined};
-ghost use Rattle.join.specs.Promises.{Few};
 
 // 18, 19 or 20, or 0 where n tasks and m pairs of requests with g and h silent ticks are one request's.
 fn number_of_misfit(n: usize, m: usize, g: u8, h: u8) -> u8

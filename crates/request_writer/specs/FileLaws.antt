@@ -1,17 +1,22 @@
 -- What stands in the buffer after a call that writes a request or refuses: the file and behind it the old bytes, or the old bytes alone.
 use Prim.Native.Nat.{ℕ, _≤_}
 use mathlib.Core.Path.{_≡_, refl}
-use mathlib.Core.List.{List}
+use mathlib.Core.List.{List, append-nil}
 use native.Mathlib.Omega.{arith}
 use lib.ListN.{length, take, drop}
 use borrow.Author.Tests.{le-ltb}
 use Rattle.request.specs.Request.{Reading, readable, unreadable}
-use Rattle.request.specs.Encode.{requestBytes}
+use Rattle.request.specs.Encode.{silentBytes, twoSections, requestBytes}
 use Rattle.request.specs.declared.Task.{Task}
 use Rattle.request.specs.declared.Pair.{Pair}
 use Rattle.cursor.specs.Written.{written, buffer, written-most, file-there}
 use Rattle.request_writer.specs.Written.{requestAnswer, requestBuffer}
 use Rattle.request_writer.specs.WriteLaws.{bytes-short}
+
+-- "A g of 0 is written by leaving the third section out."
+pub no-silence : (tasks : List Task) (pairs : List Pair) (g : ℕ) → g ≡ 0 → requestBytes tasks pairs g ≡ twoSections tasks pairs
+unfolding requestBytes silentBytes
+no-silence tasks pairs g z = rw z (append-nil (twoSections tasks pairs))
 
 pub refusal-answered : (number : ℕ) (out : List ℕ)
     → (requestAnswer (unreadable number) out ≡ record { refusal = number; length = 0 }) × (requestBuffer (unreadable number) out ≡ out)

@@ -28,6 +28,11 @@ pub record ReadAs (bytes : List ℕ) (x : Request) : Type 0 where
   pub tasks-are : x .tasks ≡ padded 16 noTask tasks
   pub pairs-are : x .pairs ≡ padded 16 noPair pairs
 
+-- the pairs name tasks below 16
+pub record Few (pairs : List Pair) : Type 0 where
+  pub first : (i : ℕ) → getD pairs i noPair .a < 16
+  pub second : (i : ℕ) → getD pairs i noPair .b < 16
+
 module _ (bytes : List ℕ) (x : Request) where
   pub read-as : x ≡ answered (reading bytes) → x .refusal ≡ 0 → ReadAs bytes x
   read-as e z =
@@ -63,8 +68,7 @@ module _ (bytes : List ℕ) (x : Request) where
     pub pairs-filled : x .pairs ≡ padded 16 noPair (firsts (x .m) noPair (x .pairs))
     pairs-filled = rw first-pairs (o .pairs-are)
 
-    -- a pair names tasks below 16
-    pub numbers-few : (i : ℕ) → (getD (x .pairs) i noPair .a < 16) × (getD (x .pairs) i noPair .b < 16)
+    numbers-few : (i : ℕ) → (getD (x .pairs) i noPair .a < 16) × (getD (x .pairs) i noPair .b < 16)
     numbers-few i = rw (o .pairs-are, getD-padded-any 16 noPair (o .pairs) i) (there (lt-or-ge i (length (o .pairs))))
       where
         there : (i < length (o .pairs)) ⊎ (length (o .pairs) ≤ i) → (getD (o .pairs) i noPair .a < 16) × (getD (o .pairs) i noPair .b < 16)
@@ -73,6 +77,9 @@ module _ (bytes : List ℕ) (x : Request) where
             let few = o .kept .few-tasks in
             (omega (arith, k .rises, k .known), omega (arith, k .known))
         there (inr h) = rw (List·getD-eq-default (o .pairs) noPair h) (omega arith, omega arith)
+
+    pub pairs-few : Few (x .pairs)
+    pairs-few = record { first = λ i. numbers-few i .0; second = λ i. numbers-few i .1 }
 
 -- a list in an array is what as many places hold
 pub places-hold : {A : Type 0} (blank : A) (xs : List A) (k : ℕ) → k ≡ length xs → k ≤ 16 → firsts (min k 16) blank (padded 16 blank xs) ≡ xs

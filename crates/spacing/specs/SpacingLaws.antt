@@ -1,23 +1,21 @@
 -- A started job starts at its release or later, and C or more before its deadline; and successive jobs are released T apart. That gives both bounds.
 -- Nothing but the claim about the flight is used.
-use mathlib.Core.Path.{_≡_, sym, _∙_}
+use mathlib.Core.Path.{_≡_, sym}
 use mathlib.Core.Logic.{_⊎_, inl, inr, ⊎-elim}
 use mathlib.Core.List.{List}
-use Prim.Native.Nat.{ℕ, _+_, _*_, _/_, _≤_, _<_}
+use Prim.Native.Nat.{ℕ, _+_, _*_, _≤_, _<_}
 use native.Mathlib.Nat.{eq-or-lt-of-le, mul-le-mul-right}
 use native.Mathlib.Omega.{arith}
 use Rattle.cursor.specs.ChoiceLaws.{lt-or-ge}
-use Rattle.cycle.specs.Planned.{IsJob}
-use Rattle.table.specs.Table.{Entry, Table, table, decode}
+use Rattle.table.specs.Table.{Table, table, decode}
 use Rattle.model.specs.Plan.{Instance, taskAt}
 use Rattle.model.specs.Good.{Good}
 use Rattle.model.specs.Within.{Within, within-good}
 use Rattle.model.specs.Described.{Accepted}
 use Rattle.flight.specs.Calls.{Call, height}
-use Rattle.flight.specs.Timing.{servedAt, KeepToC, releasedIn, dueIn}
+use Rattle.flight.specs.Timing.{KeepToC, releasedIn, dueIn}
 use Rattle.flight.specs.Flight.{framesFlown, plainAfter, Started, starts, Flight}
-use Rattle.flight.specs.Rows.{meant}
-use Rattle.flight.specs.Runs.{run-starts, one-place}
+use Rattle.flight.specs.Runs.{run-starts, one-place, started-job}
 use Rattle.flight.specs.Theorem.{flight}
 use Rattle.spacing.specs.Spacing.{Successive, Apart, HasStarted, Spacing}
 use Rattle.spacing.specs.SuccessiveLaws.{task-kept, same-release, period-later}
@@ -46,29 +44,18 @@ module _ (x : Instance) (g : Good x) (tableBytes : List ℕ) (t : Table) (calls 
       omega (arith, next .one-period, task-kept x g i known .due, flies .not-before-release i k r n o two, flies .ends-in-frame n o (two .served-there)) in
       run-starts (height t) (framesFlown tableBytes calls) i j q (omega (arith, flies .due-ran-once i j (next .first-is) q due))
 
-  -- what has started is a job of the request
-  started-job : (i j q m p : ℕ) → At i j q m p → IsJob (x .tasks) (x .h) i j
-  started-job i j q m p s =
-      let e : Entry = servedAt (framesFlown tableBytes calls) m p in
-      let w = flies .each-stands m p (s .served-there) in
-      let here = meant (m / height t) i j q e (s .stands) in
-      let there = meant (m / height t) (w .i) (w .j) (w .q) e (w .starts .stands) in
-      let task : w .i ≡ i = sym (there .task) ∙ here .task in
-      let number : w .j ≡ j = sym (there .number) ∙ here .number in
-      rw (task, number) at (w .is-job)
-
   -- jobs of a task start in the order of their releases
   in-order : (i j q k r m p n o : ℕ) → At i j q m p → At i k r n o → releasedIn x q i j < releasedIn x r i k → startAt m p < startAt n o
   in-order i j q k r m p n o one two l =
-      let known = started-job i j q m p one .known in
+      let known = started-job x tableBytes t calls actual flies i j q m p one .known in
       let kept = task-kept x g i known in
       omega (arith, period-later x g i known j q k r l, kept .some, kept .due, flies .leaves-time i j q m p one, flies .not-before-release i k r n o two)
 
   -- and a job starts at one place
   same-start : (i j q k r m p n o : ℕ) → At i j q m p → At i k r n o → releasedIn x q i j ≡ releasedIn x r i k → (m ≡ n) × (p ≡ o)
   same-start i j q k r m p n o one two e =
-      let is = started-job i j q m p one in
-      let same = same-release x g i (is .known) j q k r is (started-job i k r n o two) e in
+      let is = started-job x tableBytes t calls actual flies i j q m p one in
+      let same = same-release x g i (is .known) j q k r is (started-job x tableBytes t calls actual flies i k r n o two) e in
       let again : At i j q n o = rw (same .0, same .1) two in
       one-place (height t) (framesFlown tableBytes calls) i j q (flies .none-twice i j is q) m p n o one again
 

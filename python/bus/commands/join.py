@@ -1,9 +1,8 @@
 """`bus join`: two lists as one."""
 
-from .. import files, lists
 from ..join import join
 from .arguments import add_list, add_output
-from .steps import WrongUse, look_ahead, say
+from .steps import WrongUse, is_list, look_ahead, say, write_request
 
 NAME = "join"
 HELP = "joins two lists, the second behind the first; without -o, prints the list"
@@ -22,9 +21,5 @@ def run(asked):
     if asked.list == asked.second == "-":
         raise WrongUse("standard input cannot be both lists: name a file for one of them")
     look_ahead([asked.list, asked.second], asked.output)
-    as_list = asked.output is None or asked.output.lower().endswith(".csv")
-    joined = join(asked.list, asked.second, tell=say if as_list else None)
-    if asked.output is None:
-        files.print_out(lists.write(joined))
-    else:
-        files.write(asked.output, lists.write(joined).encode() if as_list else bytes(joined))
+    joined = join(asked.list, asked.second, tell=say if is_list(asked.output) else None)
+    write_request(joined, asked.output)

@@ -2,7 +2,7 @@
 
 import os
 
-from .. import calls, files, progress
+from .. import calls, files, lists, progress
 
 
 class WrongUse(Exception):
@@ -26,6 +26,19 @@ def look_ahead(sources, *outputs):
         raise WrongUse("one file is named twice, and one of the two would be lost: name another")
     for path in outputs:
         files.probe(path)
+
+
+def is_list(output):
+    """Whether what is written there is a list, with names: printed, or a file that ends in .csv."""
+    return output is None or output.lower().endswith(".csv")
+
+
+def write_request(request, output):
+    """Writes a list or, by the ending of its name, a request file; without a name prints the list."""
+    if output is None:
+        files.print_out(lists.write(request))
+    else:
+        files.write(output, lists.write(request).encode() if is_list(output) else bytes(request))
 
 
 def planned(request, tries):

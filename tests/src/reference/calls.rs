@@ -1,5 +1,6 @@
 //! The calls of the library: for each row a function of its name, with the answer or the refusal.
 
+use super::cut::{self, Cut};
 use super::dispatch::{self, State};
 use super::join::joined;
 use super::one_off::{earliest, Asked};
@@ -95,6 +96,11 @@ pub fn report(request: &[u8], task: u8, ticks: u32, state: &mut [u8]) -> Answer 
 
 pub fn join(first: &[u8], second: &[u8], out: &mut [u8]) -> Answer {
     write_out(&request::write(&joined(first, second)?), out)
+}
+
+pub fn cut(request: &[u8], task: u8, first: u16, out: &mut [u8]) -> Answer {
+    let written = cut::cut(request, Cut { task, first })?;
+    write_out(&request::write(&written), out)
 }
 
 pub fn one_off(request: &[u8], table: &[u8], length: u32, from: u32, until: u32) -> Answer {

@@ -3,6 +3,7 @@
 
 pub mod calls;
 pub mod check;
+pub mod cut;
 pub mod cycle;
 pub mod dispatch;
 pub mod join;

@@ -1,12 +1,11 @@
 //! Two requests to be joined, and one round of comparison with them.
 
 use crate::call::Call;
-use crate::comparison::{Comparison, MOST_TRIES};
+use crate::comparison::Comparison;
 use crate::generate;
 use crate::random::Random;
 use crate::reference::join::joined;
 use crate::reference::request::{read, write, Request};
-use crate::reference::tries_within;
 
 fn one_request(rng: &mut Random) -> Vec<u8> {
     if rng.chance(25) {
@@ -86,15 +85,8 @@ pub fn round(comparison: &mut Comparison) -> Result<(), String> {
         let out = comparison.buffer(room);
         comparison.same(&Call::join(&first, &second, &out))?;
     }
-    let Ok(request) = whole else {
-        return Ok(());
-    };
-    let allowance = match tries_within(&request, MOST_TRIES) {
-        Some(_) => u64::MAX,
-        None => {
-            comparison.tally.left_out += 1;
-            MOST_TRIES
-        }
-    };
-    comparison.plan(&request, allowance, 600)
+    match whole {
+        Ok(request) => comparison.plan_as_far(&request),
+        Err(_) => Ok(()),
+    }
 }

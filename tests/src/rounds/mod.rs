@@ -1,5 +1,6 @@
 //! The rounds of comparison, a kind in each file.
 
+pub mod cutting;
 pub mod joining;
 pub mod one_off;
 pub mod planning;
@@ -7,4 +8,9 @@ pub mod planning;
 use crate::comparison::Round;
 
 /// All kinds of rounds, for those who make every one.
-pub const ALL: [Round; 3] = [planning::round, joining::round, one_off::round];
+pub const ALL: [Round; 4] = [
+    planning::round,
+    joining::round,
+    one_off::round,
+    cutting::round,
+];

@@ -49,6 +49,19 @@ impl Comparison<'_> {
         self.same(&call).map(|_| ())
     }
 
+    /// Plans with every try allowed; a search that is too long for its end, with so many as it is
+    /// followed.
+    pub(crate) fn plan_as_far(&mut self, request: &[u8]) -> Result<(), String> {
+        let allowance = match tries_within(request, MOST_TRIES) {
+            Some(_) => u64::MAX,
+            None => {
+                self.tally.left_out += 1;
+                MOST_TRIES
+            }
+        };
+        self.plan(request, allowance, 600)
+    }
+
     /// Each room with enough tries, and each allowance with some room.
     fn plans(&mut self, request: &[u8], chosen: Option<&Table>, full: u64) -> Result<(), String> {
         let length = chosen.map_or(0, |table| encode(table).len());

@@ -6,8 +6,8 @@ use mathlib.Core.List.{_++_, map, append-nil}
 use native.Mathlib.Omega.{arith}
 use Rattle.cursor.specs.Padded.{padded, firsts}
 use Rattle.request.specs.Request.{noPair}
+use Rattle.request_writer.specs.Places.{Few}
 use Rattle.join.specs.Joined.{raised}
-use Rattle.join.specs.Promises.{Few}
 use Rattle.join.specs.JoinLaws.{pair-behind}
 use Rattle.join.proofs.join_pairs.Statement.{statement}
 use Rattle.join.proofs.join_pairs.Tie as tie
