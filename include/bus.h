@@ -1,8 +1,8 @@
 /*
  * The bus table library: joining and cutting requests, planning, checking and dispatching a table
- * for the bus controller, and finding time for a one-off transfer beside it.
+ * for the bus controller, finding time for a one-off transfer beside it, and moving its jobs by hand.
  *
- * All times are whole ticks. A u16 in a file or a state is two bytes, low byte first.
+ * All times are whole ticks. A u16 in a file, a state or a draft is two bytes, low byte first.
  *
  * Every call answers an int32_t. From 0 on it is what the call's comment says; below 0 it is a
  * refusal, its number negated (the numbers stand at the end of this file). A refused call leaves
@@ -37,7 +37,11 @@ extern "C" {
 /* The longest request: 16 tasks, 16 pairs and the silent ticks. */
 #define BUS_REQUEST_BYTES 164
 
-/* A state, entries or tries buffer that is too short, or a state whose mark is neither 0 nor 1. */
+/* The bytes of a draft, and what stands in the place of a frame where the job is lifted. */
+#define BUS_DRAFT_BYTES 770
+#define BUS_LIFTED 65535
+
+/* A state, entries, tries or draft buffer that is too short, or a state whose mark is neither 0 nor 1. */
 #define BUS_BAD_BUFFER 99
 
 /*
@@ -193,6 +197,64 @@ int32_t bus_one_off(const uint8_t *request, size_t request_len, const uint8_t *t
                     uint32_t length, uint32_t from, uint32_t until);
 
 /*
+ * A draft is a table whose jobs are moved by hand. It stands in 770 bytes that the caller lends:
+ *
+ *   bytes 0 and 1        the frame length f
+ *   bytes 2 + 2y and     the frame of job y, counted from time 0, or 65,535 while it is lifted; y is
+ *         3 + 2y         the place of the job in planning order, from 0 to 127
+ *   bytes 258 + 2r and   the load of row r, from 0 to 255: what its placed jobs take of it, carried
+ *         259 + 2r       ones too, each with the silent ticks after it
+ *
+ * Places of jobs and rows that the request does not have are unused: bus_draft_start sets them to 0,
+ * the other calls neither judge nor change them. Bytes behind the first 770 of a longer buffer are
+ * never read or changed.
+ *
+ * Any 770 bytes may be given for a draft. What is wrong in them is refused with 26: a frame length
+ * that is not plausible for the request, a load that is not its row's sum, placed jobs that break
+ * window, capacity or order. A draft that was started is never wrong, whatever moves were made on it
+ * under the request that it started with.
+ */
+
+/*
+ * Starts a draft from a table that bus_check accepts: every job placed where the table has it.
+ *
+ * Answers 0, or refuses with 99, then 1 to 5, 17, 6 to 8, or 12 to 14.
+ */
+int32_t bus_draft_start(const uint8_t *request, size_t request_len, const uint8_t *table, size_t table_len,
+                        uint8_t *draft, size_t draft_len);
+
+/*
+ * Lifts a job out of its frame: it is marked as lifted, and what it took of its row is taken off the
+ * row's load. All else stays.
+ *
+ * Answers 0, or refuses with 99, then 1 to 5, 17, 6 to 8, then with 26, also where the request has no
+ * such job or the job is lifted already.
+ */
+int32_t bus_draft_lift(const uint8_t *request, size_t request_len, uint8_t job, uint8_t *draft,
+                       size_t draft_len);
+
+/*
+ * Puts a lifted job into a frame, and adds what it takes to the load of that frame's row. All else
+ * stays.
+ *
+ * Answers 0, or refuses with 99, then 1 to 5, 17, 6 to 8, then with 26, also where the request has no
+ * such job or the job is not lifted, then with 27 where the frame is outside the job's window, then
+ * with 28 where the row has no room or a pair would be out of order with a placed job.
+ */
+int32_t bus_draft_put(const uint8_t *request, size_t request_len, uint8_t job, uint16_t frame,
+                      uint8_t *draft, size_t draft_len);
+
+/*
+ * Writes a draft in which no job is lifted as the table of exactly its frame length and frames, to
+ * the front of `out`; bus_check accepts it. The bytes behind the table are left as they are.
+ *
+ * Answers the table's length, or refuses with 99, then 1 to 5, 17, 6 to 8, then with 26, also while a
+ * job is lifted, or with 11. A buffer of BUS_TABLE_BYTES is never too short.
+ */
+int32_t bus_draft_write(const uint8_t *request, size_t request_len, const uint8_t *draft, size_t draft_len,
+                        uint8_t *out, size_t out_len);
+
+/*
  * The refusal numbers:
  *
  *    1  the request's bytes end inside a section or before its count
@@ -220,7 +282,11 @@ int32_t bus_one_off(const uint8_t *request, size_t request_len, const uint8_t *t
  *   23  the search needs more tries than are allowed
  *   24  the request has no such task to cut, or the first piece is not from 1 to C - 1 ticks
  *   25  the request to be cut has 16 tasks already
- *   99  a state, entries or tries buffer is too short, or the state's mark is neither 0 nor 1
+ *   26  the draft is wrong for the request, the request has no such job, a lift of a lifted job, a put
+ *       of a placed one, or a draft to be written in which a job is lifted
+ *   27  the frame is outside the job's window
+ *   28  the frame's row has no room for the job, or a pair is out of order with a placed job
+ *   99  a state, entries, tries or draft buffer is too short, or the state's mark is neither 0 nor 1
  */
 
 #ifdef __cplusplus

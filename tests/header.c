@@ -65,6 +65,83 @@ static void limits(const uint8_t *request, size_t len, const uint8_t *silent, si
     expect("bus_tries", bus_tries(tries) == UINT64_C(0x1122334455667788), 1);
 }
 
+/* The words of a draft that stand behind each other from this place on. */
+static void draft_words(const uint8_t *draft, size_t place, const uint16_t *words, size_t count)
+{
+    for (size_t i = 0; i < count; i++)
+        expect("a draft's word", draft[2 * (place + i)] + 256 * draft[2 * (place + i) + 1], words[i]);
+}
+
+/* P1's draft with job 2 lifted and put into the other row, and each number of the four calls. */
+static void drafts(const uint8_t *request, size_t len, const uint8_t *bad, size_t bad_len, const uint8_t *table, size_t used)
+{
+    static const uint16_t first[] = {20, 0, 0, 0, 1, 1, 0}, loads[] = {20, 10, 0};
+    static const uint16_t up[] = {20, 0, 0, BUS_LIFTED, 1, 1, 0}, less[] = {10, 10, 0};
+    static const uint16_t there[] = {20, 0, 0, 1, 1, 1, 0}, moved[] = {10, 20, 0};
+    uint8_t draft[BUS_DRAFT_BYTES + 1], out[BUS_TABLE_BYTES];
+    memset(draft, 0x5A, sizeof draft);
+    expect("bus_draft_start", bus_draft_start(request, len, table, used - 1, draft, sizeof draft), -12);
+    expect("bus_draft_start", bus_draft_start(bad, bad_len, table, used, draft, sizeof draft), -17);
+    expect("bus_draft_start", bus_draft_start(request, len, table, used, draft, BUS_DRAFT_BYTES - 1), -BUS_BAD_BUFFER);
+    for (size_t i = 0; i < sizeof draft; i++)
+        expect("bus_draft_start, refused", draft[i], 0x5A);
+    expect("bus_draft_start", bus_draft_start(request, len, table, used, draft, sizeof draft), 0);
+    draft_words(draft, 0, first, 7);
+    draft_words(draft, 129, loads, 3);
+    expect("bus_draft_put", bus_draft_put(request, len, 2, 1, draft, BUS_DRAFT_BYTES), -26);
+    expect("bus_draft_lift", bus_draft_lift(request, len, 5, draft, BUS_DRAFT_BYTES), -26);
+    expect("bus_draft_lift", bus_draft_lift(request, len, 2, draft, BUS_DRAFT_BYTES - 1), -BUS_BAD_BUFFER);
+    expect("bus_draft_lift", bus_draft_lift(bad, bad_len, 2, draft, BUS_DRAFT_BYTES), -17);
+    draft_words(draft, 0, first, 7);
+    expect("bus_draft_lift", bus_draft_lift(request, len, 2, draft, sizeof draft), 0);
+    draft_words(draft, 0, up, 7);
+    draft_words(draft, 129, less, 3);
+    expect("bus_draft_lift", bus_draft_lift(request, len, 2, draft, BUS_DRAFT_BYTES), -26);
+    expect("bus_draft_write", bus_draft_write(request, len, draft, BUS_DRAFT_BYTES, out, sizeof out), -26);
+    expect("bus_draft_put", bus_draft_put(request, len, 2, 2, draft, BUS_DRAFT_BYTES), -27);
+    expect("bus_draft_put", bus_draft_put(request, len, 2, BUS_LIFTED, draft, BUS_DRAFT_BYTES), -27);
+    expect("bus_draft_put", bus_draft_put(request, len, 130, 1, draft, BUS_DRAFT_BYTES), -26);
+    expect("bus_draft_put", bus_draft_put(bad, bad_len, 2, 1, draft, BUS_DRAFT_BYTES), -17);
+    expect("bus_draft_put", bus_draft_put(request, len, 2, 1, draft, sizeof draft), 0);
+    draft_words(draft, 0, there, 7);
+    draft_words(draft, 129, moved, 3);
+    /* The window of job 3 is frame 1 alone; it is put back before job 2 is. */
+    expect("bus_draft_lift", bus_draft_lift(request, len, 3, draft, sizeof draft), 0);
+    expect("bus_draft_put", bus_draft_put(request, len, 3, 0, draft, sizeof draft), -27);
+    expect("bus_draft_lift", bus_draft_lift(request, len, 2, draft, sizeof draft), 0);
+    expect("bus_draft_put", bus_draft_put(request, len, 3, 1, draft, sizeof draft), 0);
+    expect("bus_draft_put", bus_draft_put(request, len, 2, 1, draft, sizeof draft), 0);
+    draft_words(draft, 0, there, 7);
+    expect("bus_draft_write", bus_draft_write(request, len, draft, sizeof draft, out, used - 1), -11);
+    expect("bus_draft_write", bus_draft_write(bad, bad_len, draft, sizeof draft, out, used), -17);
+    expect("bus_draft_write", bus_draft_write(request, len, draft, BUS_DRAFT_BYTES - 1, out, used), -BUS_BAD_BUFFER);
+    expect("bus_draft_write", bus_draft_write(request, len, draft, sizeof draft, out, sizeof out), (int32_t)used);
+    expect("bus_check", bus_check(request, len, out, used), 0);
+    expect("bus_draft_write, another table", memcmp(table, out, used) != 0, 1);
+    expect("the byte behind a draft", draft[BUS_DRAFT_BYTES], 0x5A);
+    draft[258] = 11;
+    expect("bus_draft_lift", bus_draft_lift(request, len, 2, draft, sizeof draft), -26);
+    expect("bus_draft_write", bus_draft_write(request, len, draft, sizeof draft, out, 0), -26);
+}
+
+/* P1 with a silent tick has a plan of no frame length: with one job lifted, that job fits into no row. */
+static void full_row(const uint8_t *silent, size_t len)
+{
+    uint8_t draft[BUS_DRAFT_BYTES];
+    memset(draft, 0, sizeof draft);
+    draft[0] = 20;
+    memset(draft + 6, 0xFF, 2);
+    draft[8] = 1;
+    draft[10] = 1;
+    draft[258] = 12;
+    draft[260] = 12;
+    expect("bus_draft_put", bus_draft_put(silent, len, 2, 0, draft, sizeof draft), -28);
+    expect("bus_draft_put", bus_draft_put(silent, len, 2, 1, draft, sizeof draft), -28);
+    expect("bus_draft_put", bus_draft_put(silent, len, 2, 2, draft, sizeof draft), -27);
+    expect("bus_draft_lift", bus_draft_lift(silent, len, 0, draft, sizeof draft), 0);
+    expect("bus_draft_put", bus_draft_put(silent, len, 2, 0, draft, sizeof draft), 0);
+}
+
 int main(void)
 {
     static const uint8_t request[] = {
@@ -136,5 +213,7 @@ int main(void)
     expect("bus_one_off", bus_one_off(request, sizeof request, table, used, 10, 0, 81), -21);
     expect("bus_one_off", bus_one_off(silent, sizeof silent, table, used, 10, 0, 81), -14);
     expect("bus_one_off", bus_one_off(bad, sizeof bad, table, used, 10, 0, 80), -17);
+    drafts(request, sizeof request, bad, sizeof bad, table, used);
+    full_row(silent, sizeof silent);
     return faults != 0;
 }

@@ -11,12 +11,15 @@
     pieces = bus.cut("examples/p2.csv", "camera", 4)   # 4 ticks, and then the rest
     bus.one_off(request, table, 5, begin=20)   # the earliest frame with time for 5 ticks more
     bus.spacing(request, table)                # the least and the most ticks between two starts of each task
+    draft = bus.Draft(request, table)          # jobs moved by hand: lifted, put into a frame, written as a table
+    draft.lift("heater.0"), draft.put("heater.0", 3), draft.write()
 """
 
 from .build import NotBuilt
 from .calls import FreeFrame, check, one_off, plan, rewrite
 from .cut import cut
 from .dispatcher import Dispatcher, Frame, Served
+from .draft import Draft
 from .files import FileFault
 from .join import join
 from .lists import ListFaults
@@ -31,6 +34,7 @@ from .text import c_array, flight, listing
 
 __all__ = [
     "Dispatcher",
+    "Draft",
     "Entry",
     "FileFault",
     "Frame",

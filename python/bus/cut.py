@@ -1,24 +1,11 @@
 """A long transfer cut in two: the library cuts the request, and the names go along."""
 
 from . import library, request as requests
-from .names import piece_names
+from .names import piece_names, task_number
 from .progress import tell as tell_on_screen
 from .refusals import Refused
 from .sources import called, given
 from .text import quoted
-
-MOST_DIGITS = len(str(library.NO_TASK))
-
-
-def _number(request, task):
-    """The number of a task that is called by its name or its number; one that no request has if there is none."""
-    names = [each.name for each in request.tasks]
-    if task in names:
-        return names.index(task)
-    text = str(task)
-    if text.isascii() and text.isdigit() and len(text) <= MOST_DIGITS:
-        return min(int(text), library.NO_TASK)
-    return library.NO_TASK
 
 
 def _changes(old, task, new):
@@ -39,7 +26,7 @@ def cut(request, task, first, tell=tell_on_screen):
         raise ValueError(f"the ticks of the first piece are a number from 0 to {library.MOST_LENGTH}")
     source = called(request, "the request")
     data, request = given(request)
-    number = _number(request, task)
+    number = task_number(request, task)
     answer, written = library.cut(data, number, first)
     if answer < 0:
         raise Refused.of(-answer, data=data, request=request, task=number, called=task, piece=first)

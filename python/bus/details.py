@@ -6,6 +6,7 @@ needs: `data`, the bytes of a request; the `request` in them; `table`, the bytes
 
 import struct
 
+from .names import task_and_job, task_number
 from .table import decode
 from .words import pair_faults, task_faults
 
@@ -92,11 +93,16 @@ def job_counts(*, request, **_):
     return f"a cycle of {request.cycle} ticks has {sum(counts)} jobs; the most: {named}"
 
 
+def _silent_ones(request):
+    """The silent ticks that a transfer needs beside its own, if there are any."""
+    return f" and {request.silent} silent ones" if request.silent else ""
+
+
 def longest_and_shortest(*, request, **_):
     numbers = range(len(request.tasks))
     longest = max(numbers, key=lambda i: request.tasks[i].length)
     shortest = min(numbers, key=lambda i: request.tasks[i].deadline)
-    silent = f" and {request.silent} silent ones" if request.silent else ""
+    silent = _silent_ones(request)
     return (
         f"the longest transfer is {request.place(longest)} with {request.tasks[longest].length} ticks{silent},"
         f" the shortest deadline that of {request.place(shortest)} with {request.tasks[shortest].deadline}"
@@ -146,11 +152,14 @@ def silent_in_both(*, first, second, **_):
     return _in_both("silent ticks after every transfer", first.silent, second.silent)
 
 
+def _no_such_task(request, called):
+    names = ", ".join(each.name for each in request.tasks)
+    return f"no transfer is called {called}: the names are {names}, and the numbers 0 to {len(request.tasks) - 1}"
+
+
 def no_such_cut(*, request, task, called, piece, **_):
-    count = len(request.tasks)
-    if task >= count:
-        names = ", ".join(each.name for each in request.tasks)
-        return f"no transfer is called {called}: the names are {names}, and the numbers 0 to {count - 1}"
+    if task >= len(request.tasks):
+        return _no_such_task(request, called)
     length = request.tasks[task].length
     if length == 1:
         return f"{request.place(task)} has 1 tick, which cannot be cut"
@@ -242,8 +251,95 @@ def no_room(*, request, table, length, begin, until, **_):
     most = most_unused(request, table, begin, until)
     if most is None:
         return f"no whole frame of {table.frame} ticks lies between tick {begin} and tick {until}"
-    silent = f" and {request.silent} silent ones" if request.silent else ""
     return (
         f"of the frames between tick {begin} and tick {until}, frame {most[0]} leaves the most time, {most[1]} ticks;"
-        f" the transfer needs {length}{silent}"
+        f" the transfer needs {length}{_silent_ones(request)}"
     )
+
+
+def _job(request, job):
+    return f"job {job.number} of {request.place(job.task)}"
+
+
+def _no_such_job(request, called):
+    task, number = task_and_job(request, called)
+    if not task:
+        some = f"{request.tasks[0].name}.0"
+        return f"{called!r} names no job: a job is called by its transfer and its number in the cycle, as {some}"
+    known = task_number(request, task)
+    if known >= len(request.tasks):
+        return _no_such_task(request, task)
+    count = request.cycle // request.tasks[known].period
+    jobs = f"the jobs 0 to {count - 1}" if count > 1 else "job 0 alone"
+    return f"{request.place(known)} has {jobs}, not {number}"
+
+
+def _still_lifted(request, draft):
+    lifted = [_job(request, job) for job, at in zip(request.jobs(), draft.frames().values()) if at is None]
+    more = f" and {len(lifted) - MOST_NAMED} more" if len(lifted) > MOST_NAMED else ""
+    return f"still lifted: {', '.join(lifted[:MOST_NAMED])}{more}" if lifted else ""
+
+
+def _wrong_step(request, draft, place, called, frame):
+    """What is wrong with lifting the job at a place, or with putting it where a frame is named."""
+    jobs, frames = request.jobs(), list(draft.frames().values())
+    if place >= len(jobs):
+        return _no_such_job(request, called)
+    job, at = _job(request, jobs[place]), frames[place]
+    if frame is None and at is None:
+        return f"{job} is lifted already"
+    if frame is not None and at is not None:
+        return f"{job} stands in frame {at} and is not lifted"
+    return ""
+
+
+def no_such_step(*, request, draft, place=None, called=None, frame=None, **_):
+    """Of a lift, a put, or of writing, for which no job is named."""
+    wrong = _still_lifted(request, draft) if place is None else _wrong_step(request, draft, place, called, frame)
+    return wrong or "the draft's bytes are not those that the library wrote for this request"
+
+
+def frame_window(job, length):
+    """The first and the last frame of a job's window, for frames of this length."""
+    return -(-job.release // length), job.due // length - 1
+
+
+def outside_the_window(*, request, draft, place, frame, **_):
+    job, length = request.jobs()[place], draft.frame
+    first, last = frame_window(job, length)
+    window = f"frames {first} to {last}" if first < last else f"frame {first}"
+    rows = request.cycle // length
+    same_row = [k for k in range(first, last + 1) if k % rows == frame % rows]
+    hint = f"; of row {frame % rows} it has frame {same_row[0]}" if same_row else ""
+    return (
+        f"the window of {_job(request, job)} is from tick {job.release} to {job.due} and has {window};"
+        f" frame {frame} is from tick {frame * length} to {(frame + 1) * length}{hint}"
+    )
+
+
+def _row_over(request, draft, job, frame):
+    row = frame % len(draft.loads)
+    used, needed = draft.loads[row], request.tasks[job.task].length
+    over = used + needed + request.silent - draft.frame
+    if over > 0:
+        yield (
+            f"row {row} would be over by {over} {'tick' if over == 1 else 'ticks'}: it uses {used} of {draft.frame},"
+            f" and {_job(request, job)} needs {needed}{_silent_ones(request)}"
+        )
+
+
+def _out_of_order(request, draft, job, frame):
+    placed = draft.frames()
+    for first, second in dict.fromkeys(request.pairs):
+        if job.task in (first, second):
+            other = job._replace(task=second if job.task == first else first)
+            at = placed[other.task, job.number]
+            if at is not None and (at < frame if job.task == first else at > frame):
+                side, late = ("before", "late") if job.task == first else ("behind", "early")
+                both = f"{_job(request, job)} must run {side} {_job(request, other)}"
+                yield f"{both}, which stands in frame {at}: frame {frame} is too {late}"
+
+
+def no_place(*, request, draft, place, frame, **_):
+    job = request.jobs()[place]
+    return "; ".join([*_row_over(request, draft, job, frame), *_out_of_order(request, draft, job, frame)])

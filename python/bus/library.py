@@ -18,16 +18,22 @@ ENTRIES_BYTES = 32
 TRIES_BYTES = 8
 TABLE_BYTES = 519
 REQUEST_BYTES = 164
+DRAFT_BYTES = 770
 
-# The most tries that can be allowed, the most ticks that can be asked for or reported, and those of a transfer.
+# The most tries that can be allowed, the most ticks that can be asked for or reported, those of a transfer, and the
+# highest number of a frame that can be named.
 MOST_TRIES = 2**64 - 1
 MOST_TICKS = 2**32 - 1
 MOST_LENGTH = 2**16 - 1
+MOST_FRAME = 2**16 - 1
 
 # No request has so many tasks, so a report on this one tells whether the bytes can be read, and nothing else. A name
 # that no task has is handed on as this number, which the library then refuses.
 NO_TASK = 255
 NO_SUCH_TASK = 16
+
+# No request has so many jobs. A job that is called otherwise than any of them is handed on as this number.
+NO_JOB = 255
 
 POINTER_AND_LENGTH = (ctypes.c_char_p, ctypes.c_size_t)
 
@@ -123,6 +129,10 @@ cut = Call("cut", read("request"), number("task", 8), number("first", 16), writt
 one_off = Call(
     "one_off", read("request"), read("table"), number("length", 32), number("from", 32), number("until", 32)
 )
+draft_start = Call("draft_start", read("request"), read("table"), filled("draft", DRAFT_BYTES))
+draft_lift = Call("draft_lift", read("request"), number("job", 8), changed("draft", DRAFT_BYTES))
+draft_put = Call("draft_put", read("request"), number("job", 8), number("frame", 16), changed("draft", DRAFT_BYTES))
+draft_write = Call("draft_write", read("request"), read("draft"), written("out", TABLE_BYTES))
 
 
 @functools.lru_cache(maxsize=None)

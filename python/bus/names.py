@@ -1,8 +1,44 @@
-"""What the tasks are called in a request that the library made of others, which has no names."""
+"""Tasks and jobs by what a person calls them, and what the tasks are called in a request that the library made of
+others, which has no names."""
 
 import itertools
 
-from . import request as requests
+from . import library, request as requests
+
+MOST_DIGITS = 3
+
+
+def _number(text):
+    """The number in a text, if it is one of few digits, or None."""
+    return int(text) if text.isascii() and text.isdigit() and len(text) <= MOST_DIGITS else None
+
+
+def task_number(request, task):
+    """The number of a task that is called by its name or its number; one that no request has if there is none."""
+    names = [each.name for each in request.tasks]
+    if task in names:
+        return names.index(task)
+    number = _number(str(task))
+    return library.NO_TASK if number is None else min(number, library.NO_TASK)
+
+
+def task_and_job(request, job):
+    """A job's task and its number in the cycle, as they are called: of a text like `camera.0`, also with the quotes and
+    the + that the listing has, or of a record that begins with the two. Without a dot there is no task."""
+    if isinstance(job, tuple):
+        return str(job[0]), str(job[1])
+    task, _, number = str(job).rpartition(".")
+    if len(task) > 1 and task[0] == task[-1] == '"' and all(task != each.name for each in request.tasks):
+        task = task[1:-1].replace('""', '"')
+    return task, number[:-1] if number.endswith("+") else number
+
+
+def job_place(request, job):
+    """The place in planning order of a job; one that no request has if there is none of this name."""
+    task, number = task_and_job(request, job)
+    called = task_number(request, task), _number(number)
+    places = {(each.task, each.number): place for place, each in enumerate(request.jobs())}
+    return places.get(called, library.NO_JOB)
 
 
 def _free(name, taken):

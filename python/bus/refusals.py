@@ -157,6 +157,24 @@ ROWS = (
         "a task is to be cut where there are 16 tasks already",
         "leave the list to 15 tasks before one is cut",
     ),
+    Refusal(
+        26, LIST, details.no_such_step,
+        "there is no such job; or it is lifted already, or put without being lifted; or a table is written while a job"
+        " is lifted; or the draft's frame length, loads or frames break the rules",
+        "name a job as the listing does, `camera.0`; lift it before it is put, and put every lifted job before the"
+        " table is written; start a draft whose bytes were changed otherwise again from its table",
+    ),
+    Refusal(
+        27, LIST, details.outside_the_window,
+        "the frame is outside the job's window: it begins before the release or ends after the due time",
+        "name a frame of the window; frames are counted from time 0, so a carried job, with a `+` in the listing,"
+        " stands in the frame that is its row's number plus the number of rows",
+    ),
+    Refusal(
+        28, TABLE, details.no_place,
+        "the row would exceed the frame length, or a pair would be out of order with a job that is placed",
+        "name another frame of the window; or first move a job out of that row, or the other job of the pair",
+    ),
 )
 
 REFUSALS = {row.number: row for row in ROWS}

@@ -31,6 +31,14 @@ def in_c(argument):
     return f"uint{8 * ctypes.sizeof(*argument.types)}_t {argument.name}"
 
 
+def moved(source, table, job, frame):
+    """The table with a job moved."""
+    draft = bus.Draft(source, table)
+    draft.lift(job)
+    draft.put(job, frame)
+    return draft.write()
+
+
 class Calls(Case):
     def test_rows_are_the_header_s(self):
         """Every call of the header has a row, and no other has; the arguments are the same in name, kind and order."""
@@ -76,6 +84,7 @@ class Refusals(Case):
         """For every row with details a refusal of the library, which has some; a new row needs a new one here."""
         p1, one = example("p1.req"), request(TASK)
         table = bus.plan(one)
+        full = request((8, 20, 20, 0), (8, 40, 40, 0), (8, 40, 40, 0))
         cases = {
             1: lambda: sources.request_in(p1[:5]),
             2: lambda: sources.request_in(b"\x11"),
@@ -98,6 +107,9 @@ class Refusals(Case):
             22: lambda: bus.one_off(one, table, 20),
             23: lambda: bus.plan(pigeons(4), tries=1),
             24: lambda: bus.cut(one, 1, 1),
+            26: lambda: bus.Draft(one, table).lift("task1.0"),
+            27: lambda: moved(one, table, "task0.0", 1),
+            28: lambda: moved(full, bus.plan(full), "task1.0", 1),
         }
         self.assertEqual(sorted(cases), [row.number for row in refusals.ROWS if row.details])
         for number, case in cases.items():

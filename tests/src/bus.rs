@@ -19,7 +19,9 @@ pub const TASKS: usize = 16;
 pub const ENTRIES_LEN: usize = 32;
 /// Bytes of a count of tries.
 pub const TRIES_LEN: usize = 8;
-/// Refusal of a state, entries or tries buffer that is too short, or of a mark that is not 0 or 1.
+/// Bytes of a draft: the frame length, 128 frames and 256 loads.
+pub const DRAFT_LEN: usize = 770;
+/// Refusal of a state, entries, tries or draft buffer that is too short, or of a mark that is not 0 or 1.
 pub const BAD_BUFFER: i32 = 99;
 
 /// Where the count of a task stands in a state.

@@ -2,17 +2,18 @@
 
 use std::collections::{BTreeMap, VecDeque};
 
-use crate::bus::{count_bytes, ROWS, STATE_LEN, STATE_USED, TASKS};
+use crate::bus::{count_bytes, DRAFT_LEN, ROWS, STATE_LEN, STATE_USED, TASKS};
 use crate::call::{Call, Outcome, Value};
 use crate::comparison::MOST_TRIES;
 use crate::generate;
 use crate::random::Random;
 use crate::reference::cut::Cut;
+use crate::reference::draft::Draft;
 use crate::reference::one_off::Asked;
 use crate::reference::table::encode;
 use crate::reference::{planned_within, read_cycle, tries_within};
 use crate::rounds::planning::allowances;
-use crate::rounds::{cutting, joining, one_off};
+use crate::rounds::{cutting, drafting, joining, one_off};
 use crate::row::Kind;
 
 /// How many requests and how many tables are kept.
@@ -65,6 +66,8 @@ struct Drawn {
     table: Vec<u8>,
     asked: Option<Asked>,
     cut: Option<Cut>,
+    draft: Option<Draft>,
+    job: usize,
 }
 
 pub struct Fuzzer {
@@ -277,5 +280,47 @@ impl Fuzzer {
 
     pub fn until(&mut self) -> u64 {
         self.asked().until.into()
+    }
+
+    /// A draft, drawn about the request; now and then one that a call left.
+    fn drafted(&mut self) -> Draft {
+        if self.drawn.draft.is_none() {
+            let left = self.rng.chance(5).then(|| self.left("draft")).flatten();
+            let left = left.filter(|bytes| bytes.len() >= DRAFT_LEN);
+            self.drawn.draft = Some(match left {
+                Some(bytes) => Draft::read(&bytes),
+                None => drafting::some_draft(&mut self.rng, &self.drawn.requests[0]),
+            });
+        }
+        self.drawn.draft.clone().expect("it was drawn")
+    }
+
+    fn job(&mut self, lifted: bool) -> u64 {
+        let draft = self.drafted();
+        let job = drafting::some_job(&mut self.rng, &self.drawn.requests[0], &draft, lifted);
+        self.drawn.job = job.into();
+        job.into()
+    }
+
+    pub fn job_to_lift(&mut self) -> u64 {
+        self.job(false)
+    }
+
+    pub fn job_to_put(&mut self) -> u64 {
+        self.job(true)
+    }
+
+    pub fn frame_to_put(&mut self) -> u64 {
+        let draft = self.drafted();
+        let (request, job) = (&self.drawn.requests[0], self.drawn.job);
+        drafting::some_frame(&mut self.rng, request, &draft, job).into()
+    }
+
+    /// The draft's bytes, now and then with others behind them or cut short.
+    pub fn draft(&mut self) -> Vec<u8> {
+        let mut bytes = self.drafted().bytes();
+        let length = self.about(DRAFT_LEN).len();
+        bytes.resize(length, self.rng.byte());
+        bytes
     }
 }

@@ -79,6 +79,36 @@ macro_rules! every_call {
                 from: u32(Fuzzer::from),
                 until: u32(Fuzzer::until),
             ) refuses [1, 2, 3, 4, 5, 17, 6, 7, 8, 12, 13, 14, 21, 22];
+
+            /// 0, with the draft of the plan that the table describes in the first 770 bytes.
+            draft_start(
+                request: read(Fuzzer::request),
+                table: read(Fuzzer::table),
+                draft: write(|fuzzer| fuzzer.about(DRAFT_LEN), Change::First(DRAFT_LEN)),
+            ) refuses [99, 1, 2, 3, 4, 5, 17, 6, 7, 8, 12, 13, 14];
+
+            /// 0, with the job marked as lifted in the draft and its C + g taken off its row.
+            draft_lift(
+                request: read(Fuzzer::request),
+                job: u8(Fuzzer::job_to_lift),
+                draft: write(Fuzzer::draft, Change::First(DRAFT_LEN)),
+            ) refuses [99, 1, 2, 3, 4, 5, 17, 6, 7, 8, 26];
+
+            /// 0, with the lifted job in the frame named and its C + g in that frame's row.
+            draft_put(
+                request: read(Fuzzer::request),
+                job: u8(Fuzzer::job_to_put),
+                frame: u16(Fuzzer::frame_to_put),
+                draft: write(Fuzzer::draft, Change::First(DRAFT_LEN)),
+            ) refuses [99, 1, 2, 3, 4, 5, 17, 6, 7, 8, 26, 27, 28];
+
+            /// The length of the table, of the draft's frame length and frames, written to the front of
+            /// `out`.
+            draft_write(
+                request: read(Fuzzer::request),
+                draft: read(Fuzzer::draft),
+                out: write(Fuzzer::room, Change::Answered),
+            ) refuses [99, 1, 2, 3, 4, 5, 17, 6, 7, 8, 26, 11];
         }
     };
 }

@@ -1,7 +1,7 @@
 //! Every call in a thread with a stack of 256 KiB; an overflow ends the whole run.
 #![cfg(feature = "linked")]
 
-use bus_tests::bus::{ENTRIES_LEN, STATE_LEN, TRIES_LEN};
+use bus_tests::bus::{DRAFT_LEN, ENTRIES_LEN, STATE_LEN, TRIES_LEN};
 use bus_tests::call::{Call, Outcome};
 use bus_tests::compare::expected;
 use bus_tests::comparison::Comparison;
@@ -59,6 +59,14 @@ impl Calls {
         self.add(&Call::cut(request, 1, 1, &[0; 164]))?;
         for (length, from, until) in [(1, 0, 16), (1, 17, 80), (u32::MAX, 0, 32), (0, 0, 0)] {
             self.add(&Call::one_off(request, &table, length, from, until))?;
+        }
+        let call = Call::draft_start(request, &table, &[0; DRAFT_LEN]);
+        let draft = self.add(&call)?.buffers.remove(0);
+        self.add(&Call::draft_write(request, &draft, &room))?;
+        let up = self.add(&Call::draft_lift(request, 0, &draft))?.buffers;
+        let frame = u16::from_le_bytes([draft[2], draft[3]]);
+        for k in [0, 1, 65_535, frame] {
+            self.add(&Call::draft_put(request, 0, k, &up[0]))?;
         }
         let mut state = self.add(&Call::fresh(&[0; STATE_LEN]))?.buffers.remove(0);
         for _ in 0..300 {

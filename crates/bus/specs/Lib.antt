@@ -1,7 +1,9 @@
--- replies and states
+-- replies, words and states
 pub mod Reply
 pub mod ReplyLaws
+pub mod Words
 pub mod State
+pub mod WordLaws
 pub mod StateLaws
 -- requests
 pub mod Join
@@ -14,3 +16,7 @@ pub mod OneOff
 -- dispatch
 pub mod Dispatch
 pub mod DispatchLaws
+-- drafts
+pub mod DraftBytes
+pub mod Drafts
+pub mod DraftLaws

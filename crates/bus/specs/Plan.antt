@@ -18,7 +18,7 @@ use Rattle.planner.specs.TableLaws.{GoodOutcome, outcome-within-good}
 use Rattle.planner.specs.declared.Searched.{Searched}
 use Rattle.bus.specs.Reply.{refused, reply}
 use Rattle.bus.specs.ReplyLaws.{reply-refused, reply-value}
-use Rattle.bus.specs.StateLaws.{one-more}
+use Rattle.bus.specs.WordLaws.{one-more}
 
 -- a number in n bytes, low byte first
 unfoldable pub lowFirst : ℕ → ℕ → List ℕ

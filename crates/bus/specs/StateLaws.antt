@@ -1,20 +1,22 @@
 -- The lent bytes: when 64 are there, and what stores one behind the other come to.
-use Prim.Native.Nat.{ℕ, _+_, _*_, _-_, _≤_, _<_}
-use mathlib.Core.Path.{_≡_, refl, ap, _∙_}
+use Prim.Native.Nat.{ℕ, _+_, _-_, _≤_, _<_}
+use mathlib.Core.Path.{_≡_, refl, ap}
 use mathlib.Core.Bool.{Bool, true, false, false≢true}
 use mathlib.Core.List.{List, [], _∷_, _++_}
 use native.Mathlib.Omega.{arith}
-use lib.ListN.{length, getD, set, take, drop, length-append, length-replicate}
-use lib.Seq.{sets, sets-eq, drop-drop, length-take-le}
+use lib.ListN.{length, getD, set, take, drop, length-replicate}
+use lib.Seq.{sets, sets-eq, drop-drop}
 use lib.Dec.{ltb}
 use borrow.Author.Tests.{ltb-false, lt-ltb, le-ltb}
 use mir.Val.{boolByte}
 use Rattle.cursor.specs.Choice.{pick}
 use Rattle.cursor.specs.Fields.{wordBytes}
-use Rattle.cursor.specs.Pieces.{PartWay, part-start, part-more, part-end, two-stored}
+use Rattle.cursor.specs.Pieces.{PartWay, part-start, part-end}
 use Rattle.table.specs.Left.{less-one, none-left}
 use Rattle.dispatcher.specs.declared.State.{State}
-use Rattle.bus.specs.State.{isState, markByte, countIn, countsFrom, countBytes, stateBytes, pairBytes, zeros}
+use Rattle.bus.specs.Words.{wordsBytes}
+use Rattle.bus.specs.WordLaws.{one-more, two-more}
+use Rattle.bus.specs.State.{isState, markByte, stateBytes, pairBytes, zeros}
 
 module _ (bytes : List ℕ) where
   pub short : length bytes < 64 → false ≡ isState bytes
@@ -40,22 +42,11 @@ mark-is false = refl
 -- three stores, and the counts behind them
 pub state-stored : (s : State) (bytes : List ℕ) → 64 ≤ length bytes
     → let out = set (sets bytes 0 (wordBytes (s .row))) 2 (boolByte (s .first)) in
-    take 3 out ++ countBytes (s .counts) 16 0 ++ drop 35 out ≡ stateBytes s bytes
+    take 3 out ++ wordsBytes (s .counts) 16 0 ++ drop 35 out ≡ stateBytes s bytes
 unfolding stateBytes wordBytes
 state-stored s bytes h =
     let stored = sets-eq (wordBytes (s .row) ++ (markByte (s .first) ∷ [])) bytes 0 (omega arith) in
     rw (mark-is (s .first), stored, drop-drop 32 3 bytes)
-
--- one value more, and two, in their places
-module _ (all old out left : List ℕ) (at : ℕ) (so : PartWay all old out left at) where
-  pub one-more : (a : ℕ) (left′ : List ℕ) → left ≡ a ∷ left′ → PartWay all old (set out at a) left′ (at + 1)
-  one-more a left′ e =
-      part-more all old out left at so (a ∷ []) left′ (set out at a) e (sets-eq (a ∷ []) out at (omega (arith, so .room, so .long, ap length e)))
-
-  pub two-more : (a b : ℕ) (left′ : List ℕ) → left ≡ a ∷ b ∷ left′ → PartWay all old (set (set out at a) (at + 1) b) left′ (at + 2)
-  two-more a b left′ e =
-      part-more all old out left at so (a ∷ b ∷ []) left′ (set (set out at a) (at + 1) b) e
-      (two-stored out at a b (omega (arith, so .room, so .long, ap length e)))
 
 -- 64 zeros: i are stored
 
@@ -95,52 +86,3 @@ module _ (tasks jobs old : List ℕ) where
     pub pairs-end : 16 ≤ i → out ≡ pairBytes tasks jobs 16 0 ++ drop 32 old
     unfolding pairBytes
     pairs-end h = part-end (pairBytes tasks jobs 16 0) old out (pairBytes tasks jobs (16 - i) i) at so (rw (none-left 16 i h)) .whole
-
--- 16 counts, stored behind the first three bytes: i are
-
-module _ (counts old : List ℕ) where
-  abbrev pub countsPlaced : List ℕ
-  countsPlaced = take 3 old ++ countBytes counts 16 0
-
-  abbrev pub CountsStored : List ℕ → ℕ → Type 0
-  CountsStored out i = PartWay countsPlaced old out (countBytes counts (16 - i) i) (3 + 2 * i)
-
-  pub stored-start : 64 ≤ length old → CountsStored old 0
-  unfolding countBytes wordBytes
-  stored-start h = record { front = refl; back = refl; long = refl; room = omega arith }
-
-  module _ (out : List ℕ) (i : ℕ) (so : CountsStored out i) where
-    pub stored-more : i < 16 → CountsStored (sets out (3 + 2 * i) (wordBytes (getD counts i 0))) (i + 1)
-    unfolding countBytes wordBytes
-    stored-more h =
-        let word = wordBytes (getD counts i 0) in
-        let left : countBytes counts (16 - i) i ≡ word ++ countBytes counts (16 - (i + 1)) (i + 1) = rw (less-one 16 i h) in
-        let next : 3 + 2 * (i + 1) ≡ 3 + 2 * i + 2 = omega arith in
-        let stored = sets-eq word out (3 + 2 * i) (omega (arith, so .room, so .long, ap length left)) in
-        rw next (part-more countsPlaced old out (countBytes counts (16 - i) i) (3 + 2 * i) so word _ _ left stored)
-
-    pub stored-end : 16 ≤ i → out ≡ countsPlaced ++ drop 35 old
-    unfolding countBytes wordBytes
-    stored-end h =
-        let done = part-end countsPlaced old out (countBytes counts (16 - i) i) (3 + 2 * i) so (rw (none-left 16 i h)) in
-        let end : length countsPlaced ≡ 35 = omega (arith, length-append (take 3 old) (countBytes counts 16 0), length-take-le 3 old (omega (arith, so .room))) in
-        done .whole ∙ ap (λ (n : ℕ). countsPlaced ++ drop n old) end
-
--- 16 counts read: i are
-
-module _ (bytes : List ℕ) where
-  abbrev pub CountsRead : List ℕ → ℕ → Type 0
-  CountsRead counts i = PartWay (countsFrom bytes 16 0) (zeros 16) counts (countsFrom bytes (16 - i) i) i
-
-  pub read-start : CountsRead (zeros 16) 0
-  unfolding countsFrom
-  read-start = part-start [] (countsFrom bytes 16 0) (zeros 16) 0 refl (omega arith)
-
-  module _ (counts : List ℕ) (i : ℕ) (so : CountsRead counts i) where
-    pub read-more : i < 16 → CountsRead (set counts i (countIn bytes i)) (i + 1)
-    unfolding countsFrom
-    read-more h = one-more (countsFrom bytes 16 0) (zeros 16) counts (countsFrom bytes (16 - i) i) i so (countIn bytes i) _ (rw (less-one 16 i h))
-
-    pub read-end : 16 ≤ i → counts ≡ countsFrom bytes 16 0
-    unfolding countsFrom
-    read-end h = part-end (countsFrom bytes 16 0) (zeros 16) counts (countsFrom bytes (16 - i) i) i so (rw (none-left 16 i h)) .whole

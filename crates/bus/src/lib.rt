@@ -2,6 +2,8 @@
 // its caller but what include/bus.h says of pointers and buffers.
 // A family of calls is a module, with its definitions and laws in specs/ under the same heading of Lib.antt.
 pub mod dispatch;
+mod draft_bytes;
+pub mod drafts;
 mod reply;
 pub mod requests;
 mod state;

@@ -4,7 +4,8 @@ ghost use mathlib.Core.Path.{_≡_};
 ghost use Prim.Native.Nat.{_≤_};
 ghost use mathlib.Core.List.{_++_};
 ghost use lib.ListN.{length, take, drop};
-ghost use Rattle.bus.specs.State.{isState, wordOf, countsFrom, countBytes, stateOf, stateBytes, zeros};
+ghost use Rattle.bus.specs.Words.{wordOf, wordsFrom, wordsBytes};
+ghost use Rattle.bus.specs.State.{isState, stateOf, stateBytes, zeros};
 
 // 64 bytes or more, with a mark of 0 or 1.
 pub(super) fn is_state(state: &[u8]) -> bool
@@ -16,7 +17,7 @@ pub(super) fn is_state(state: &[u8]) -> bool
     state[2] < 2
 }
 
-fn word(low: u8, high: u8) -> u16
+pub(super) fn word(low: u8, high: u8) -> u16
     ensures { λ r. ⌜ r ≡ wordOf low high ⌝ }
 {
     (low as u16) + (high as u16) * 256
@@ -25,7 +26,7 @@ fn word(low: u8, high: u8) -> u16
 // The count of task i stands in bytes 3 + 2i and 4 + 2i.
 fn read_counts(state: &[u8]) -> [u16; 16]
     requires { ⌜ 64 ≤ length (now state) ⌝ }
-    ensures { λ r. ⌜ r ≡ countsFrom (now (state .entry)) 16 0 ⌝ }
+    ensures { λ r. ⌜ r ≡ wordsFrom (now (state .entry)) 3 16 0 ⌝ }
 {
     let mut counts = [0u16; 16];
     let mut i: usize = 0;
@@ -51,7 +52,7 @@ pub(super) fn read_state(state: &[u8]) -> State
 // Bytes 3 to 34; those before and behind them are left alone.
 fn write_counts(state: &mut [u8], counts: [u16; 16])
     requires { ⌜ 64 ≤ length (now state) ⌝ }
-    ensures { λ r. ⌜ now (state .exit) ≡ take 3 (now (state .entry)) ++ countBytes counts 16 0 ++ drop 35 (now (state .entry)) ⌝ }
+    ensures { λ r. ⌜ now (state .exit) ≡ take 3 (now (state .entry)) ++ wordsBytes counts 16 0 ++ drop 35 (now (state .entry)) ⌝ }
 {
     let mut i: usize = 0;
     while i < 16 {

@@ -19,7 +19,8 @@ use Rattle.dispatcher.specs.FrameLaws.{frame-counts}
 use Rattle.dispatcher.specs.ReportLaws.{report-counted, report-unknown, report-unreadable, raised-only}
 use Rattle.dispatcher.specs.declared.State.{State}
 use Rattle.bus.specs.Reply.{after}
-use Rattle.bus.specs.State.{isState, stateOf, stateBytes, countBytes}
+use Rattle.bus.specs.Words.{wordsBytes}
+use Rattle.bus.specs.State.{isState, stateOf, stateBytes}
 use Rattle.bus.specs.StateLaws.{state-long}
 use Rattle.bus.specs.ReplyLaws.{after-refusal, after-value}
 use Rattle.bus_laws.specs.RoundTrip.{counts-read, count-read, state-length, bytes-back}
@@ -52,8 +53,8 @@ after-only Named refusal new old h = go (eqb refusal 0) refl
 
 module _ (task : ℕ) (new old : State) (agree : (i : ℕ) → i < 16 → (i ≡ task → ⊥) → getD (new .counts) i 0 ≡ getD (old .counts) i 0) where
   counts-agree : (rest : List ℕ) (n i j : ℕ) → i + n ≤ 16 → (task < 16 → 2 * i + j ≡ 2 * task → ⊥) → (task < 16 → 2 * i + j ≡ 2 * task + 1 → ⊥)
-      → getD (countBytes (new .counts) n i ++ rest) j 0 ≡ getD (countBytes (old .counts) n i ++ rest) j 0
-  unfolding countBytes wordBytes
+      → getD (wordsBytes (new .counts) n i ++ rest) j 0 ≡ getD (wordsBytes (old .counts) n i ++ rest) j 0
+  unfolding wordsBytes wordBytes
   counts-agree rest zero i j h low high = refl
   counts-agree rest (suc n) i zero h low high = rw (agree i (omega arith) (λ e. low (omega arith) (omega arith)))
   counts-agree rest (suc n) i (suc zero) h low high = rw (agree i (omega arith) (λ e. high (omega arith) (omega arith)))

@@ -1,5 +1,7 @@
--- the bytes of a state are read as they were written
+-- words, the bytes of a state and those of a draft are read as they were written
+pub mod WordsBack
 pub mod RoundTrip
+pub mod DraftTrip
 -- which bytes of a state a call changes
 pub mod Changed
 -- the bytes of the tries give the count back

@@ -26,7 +26,7 @@ pub fn is_job(job: Job, task: u8, number: u8) -> bool
 }
 
 // k·f ≥ r and (k+1)·f ≤ r + D.
-fn in_window(job: Job, k: u16, f: u16) -> bool
+pub fn in_window(job: Job, k: u16, f: u16) -> bool
     ensures { λ r. ⌜ r ≡ inWindow f job k ⌝ }
 {
     let start = (k as u32) * (f as u32);

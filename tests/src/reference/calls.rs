@@ -2,11 +2,12 @@
 
 use super::cut::{self, Cut};
 use super::dispatch::{self, State};
+use super::draft::{self, Draft};
 use super::join::joined;
 use super::one_off::{earliest, Asked};
 use super::table::{decode, encode, Entry};
 use super::{checked, planned_within, request};
-use crate::bus::{count_bytes, counts, BAD_BUFFER, ENTRIES_LEN, STATE_LEN, TRIES_LEN};
+use crate::bus::{count_bytes, counts, BAD_BUFFER, DRAFT_LEN, ENTRIES_LEN, STATE_LEN, TRIES_LEN};
 
 type Answer = Result<i32, i32>;
 
@@ -110,4 +111,29 @@ pub fn one_off(request: &[u8], table: &[u8], length: u32, from: u32, until: u32)
         until,
     };
     earliest(request, table, asked).map(|frame| frame as i32)
+}
+
+fn put_draft(draft: &Draft, bytes: &mut [u8]) -> Answer {
+    bytes[..DRAFT_LEN].copy_from_slice(&draft.bytes());
+    Ok(0)
+}
+
+pub fn draft_start(request: &[u8], table: &[u8], draft: &mut [u8]) -> Answer {
+    lent(draft, DRAFT_LEN)?;
+    put_draft(&draft::start(request, table)?, draft)
+}
+
+pub fn draft_lift(request: &[u8], job: u8, draft: &mut [u8]) -> Answer {
+    lent(draft, DRAFT_LEN)?;
+    put_draft(&draft::lift(request, job, Draft::read(draft))?, draft)
+}
+
+pub fn draft_put(request: &[u8], job: u8, frame: u16, draft: &mut [u8]) -> Answer {
+    lent(draft, DRAFT_LEN)?;
+    put_draft(&draft::put(request, job, frame, Draft::read(draft))?, draft)
+}
+
+pub fn draft_write(request: &[u8], draft: &[u8], out: &mut [u8]) -> Answer {
+    lent(draft, DRAFT_LEN)?;
+    write_out(&encode(&draft::write(request, &Draft::read(draft))?), out)
 }

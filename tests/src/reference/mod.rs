@@ -6,6 +6,7 @@ pub mod check;
 pub mod cut;
 pub mod cycle;
 pub mod dispatch;
+pub mod draft;
 pub mod join;
 pub mod listing;
 pub mod model;

@@ -26,7 +26,7 @@ pub fn plausible_lengths(cycle: &Cycle) -> Vec<i64> {
         .collect()
 }
 
-fn in_window(job: &Job, f: i64, k: i64) -> bool {
+pub fn in_window(job: &Job, f: i64, k: i64) -> bool {
     k * f >= job.release && (k + 1) * f <= job.due
 }
 

@@ -1,6 +1,7 @@
 //! The rounds of comparison, a kind in each file.
 
 pub mod cutting;
+pub mod drafting;
 pub mod joining;
 pub mod one_off;
 pub mod planning;
@@ -8,9 +9,10 @@ pub mod planning;
 use crate::comparison::Round;
 
 /// All kinds of rounds, for those who make every one.
-pub const ALL: [Round; 4] = [
+pub const ALL: [Round; 5] = [
     planning::round,
     joining::round,
     one_off::round,
     cutting::round,
+    drafting::round,
 ];

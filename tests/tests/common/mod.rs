@@ -1,6 +1,8 @@
 //! What several test files share.
 #![allow(dead_code)]
 
+pub mod drafts;
+
 use std::fs;
 use std::io::{stdout, Write};
 use std::path::PathBuf;

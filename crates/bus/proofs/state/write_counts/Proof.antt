@@ -2,32 +2,32 @@
 use Prim.Native.Nat.{_≤_, _-_}
 use native.Mathlib.Omega.{arith}
 use lib.ListN.{length}
-use Rattle.bus.specs.StateLaws.{CountsStored, stored-start, stored-more, stored-end}
+use Rattle.bus.specs.WordLaws.{WordsStored, stored-start, stored-more, stored-end}
 use borrow.Author.Needs.{needs}
 use Rattle.bus.proofs.state.write_counts.Statement.{statement}
 use Rattle.bus.proofs.state.write_counts.Tie as tie
 
 abbrev Inv-loop : tie.InvT-loop
-Inv-loop state₀ counts i₀ state i = (i ≤ 16) × (64 ≤ length state) × CountsStored counts state₀ state i
+Inv-loop state₀ counts i₀ state i = (i ≤ 16) × (64 ≤ length state) × WordsStored counts state₀ 3 16 state i
 
 abbrev μ-loop : tie.MeasureT-loop
 μ-loop state₀ counts i₀ state i = 16 - i
 
 loop-holds : tie.Need-loop-holds Inv-loop μ-loop
-loop-holds c = (omega arith, c .before .pre, stored-start _ _ (c .before .pre))
+loop-holds c = (omega arith, c .before .pre, stored-start _ _ 3 16 (omega (arith, c .before .pre)))
 
 loop-again : tie.Need-loop-again Inv-loop μ-loop
 loop-again c =
     let put = c .before .before .put-word in
     let turn = c .before .before .before .before in
     let l = turn .before .loop in
-    (omega (arith, turn .loop-test .taken), omega (arith, put .kept .0, l .inv .1), rw (put .ensures) (stored-more _ _ _ _ (l .inv .2) (turn .loop-test .taken)))
+    (omega (arith, turn .loop-test .taken), omega (arith, put .kept .0, l .inv .1), rw (put .ensures) (stored-more _ _ 3 16 _ _ (l .inv .2) (turn .loop-test .taken)))
 
 same-length : tie.Need-same-length Inv-loop μ-loop
 same-length c = c .before .loop .inv .2 .long
 
 returns : tie.Need-returns Inv-loop μ-loop
-returns c = stored-end _ _ _ _ (c .before .loop .inv .2) (c .loop-test .left)
+returns c = stored-end _ _ 3 16 _ _ (c .before .loop .inv .2) (c .loop-test .left)
 
 pub write-counts-spec : {M : Type 1} → statement M
 write-counts-spec =

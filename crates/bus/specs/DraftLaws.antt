@@ -1,0 +1,120 @@
+-- The bytes of a draft as they are stored, and each way out of a call on a draft.
+use Prim.Native.Nat.{ℕ, _+_, _≤_, _<_}
+use mathlib.Core.Path.{_≡_, refl, _∙_}
+use mathlib.Core.List.{List, _++_, append-assoc}
+use mathlib.Core.Logic.{inl, inr}
+use native.Mathlib.Omega.{arith}
+use lib.IntN.{ℤ, pos}
+use lib.ListN.{length, take, drop, length-append}
+use lib.Seq.{sets, sets-eq, take-at, drop-at, drop-drop}
+use borrow.Author.Tests.{lt-ltb, le-ltb}
+use Rattle.cursor.specs.Fields.{wordBytes}
+use Rattle.cursor.specs.Written.{written-most}
+use Rattle.cursor.specs.declared.Written.{Written}
+use Rattle.table.specs.Table.{encode}
+use Rattle.model.specs.Within.{within-good}
+use Rattle.model.specs.Described.{planTable}
+use Rattle.model.specs.PlanTable.{plan-table-length}
+use Rattle.planned_table.specs.Outcome.{outcomeAnswer, outcomeBuffer}
+use Rattle.draft.specs.Draft.{write, framesHeld}
+use Rattle.draft.specs.WriteLaws.{WriteComes, write-comes-to}
+use Rattle.draft.specs.declared.Draft.{Draft}
+use Rattle.draft.specs.declared.Drafted.{Drafted}
+use Rattle.bus.specs.Reply.{refused}
+use Rattle.bus.specs.ReplyLaws.{reply-refused, reply-value, after-refusal, after-value, written-refused, written-length}
+use Rattle.bus.specs.Words.{wordsBytes}
+use Rattle.bus.specs.WordLaws.{bytes-count}
+use Rattle.bus.specs.DraftBytes.{draftOf, draftBytes}
+use Rattle.bus.specs.Drafts.{draftedReply, draftedBytes, writeReply, writeBuffer}
+
+-- bytes stored behind those in `front`
+stored-behind : (front middle bytes : List ℕ) (a b : ℕ) → length front ≡ a
+    → take a (front ++ drop a bytes) ++ middle ++ drop (a + b) (front ++ drop a bytes) ≡ (front ++ middle) ++ drop (a + b) bytes
+stored-behind front middle bytes a b e =
+    rw (take-at front (drop a bytes) a e, ← drop-drop b a (front ++ drop a bytes), drop-at front (drop a bytes) a e, drop-drop b a bytes, append-assoc)
+
+-- the frame length is stored, the frames behind it, and the loads behind these
+module _ (d : Draft) (bytes : List ℕ) (room : 770 ≤ length bytes) where
+  abbrev pub lengthStored : List ℕ
+  lengthStored = sets bytes 0 (wordBytes (d .f))
+
+  abbrev pub framesStored : List ℕ
+  framesStored = take 2 lengthStored ++ wordsBytes (d .frames) 128 0 ++ drop 258 lengthStored
+
+  abbrev front : List ℕ
+  front = wordBytes (d .f) ++ wordsBytes (d .frames) 128 0
+
+  front-long : length front ≡ 258
+  unfolding wordBytes
+  front-long = omega (arith, length-append (wordBytes (d .f)) (wordsBytes (d .frames) 128 0), bytes-count (d .frames) 128 0)
+
+  length-stored : lengthStored ≡ wordBytes (d .f) ++ drop 2 bytes
+  unfolding wordBytes
+  length-stored = sets-eq (wordBytes (d .f)) bytes 0 (omega (arith, room))
+
+  frames-stored : framesStored ≡ front ++ drop 258 bytes
+  unfolding wordBytes
+  frames-stored = rw length-stored (stored-behind (wordBytes (d .f)) (wordsBytes (d .frames) 128 0) bytes 2 256 refl)
+
+  pub draft-stored : take 258 framesStored ++ wordsBytes (d .loads) 256 0 ++ drop 770 framesStored ≡ draftBytes d bytes
+  unfolding draftBytes
+  draft-stored = rw frames-stored (stored-behind front (wordsBytes (d .loads) 256 0) bytes 258 512 front-long ∙ rw (append-assoc, append-assoc))
+
+-- a call that gives a draft
+module _ (made : Drafted) (draft : List ℕ) where
+  abbrev pub Drafts : ℤ → List ℕ → Type 0
+  Drafts z draft′ = (z ≡ draftedReply made draft) × (draft′ ≡ draftedBytes made draft)
+
+  pub too-short : length draft < 770 → Drafts (refused 99) draft
+  unfolding draftedReply draftedBytes
+  too-short h = let e = lt-ltb (length draft) 770 h in (rw e, rw e)
+
+  module _ (room : 770 ≤ length draft) where
+    pub draft-refused : (made .refusal ≡ 0 → ⊥) → Drafts (refused (made .refusal)) draft
+    unfolding draftedReply draftedBytes
+    draft-refused h = rw (le-ltb (length draft) 770 room) (
+      reply-refused (made .refusal) 0 h,
+      after-refusal (made .refusal) (draftBytes (made .draft) draft) draft h,
+    )
+
+    pub draft-made : made .refusal ≡ 0 → Drafts (pos 0) (draftBytes (made .draft) draft)
+    unfolding draftedReply draftedBytes
+    draft-made h = rw (le-ltb (length draft) 770 room) (
+      reply-value (made .refusal) 0 h,
+      after-value (made .refusal) (draftBytes (made .draft) draft) draft h,
+    )
+
+-- bus_draft_write
+module _ (request draft out : List ℕ) where
+  abbrev pub Writes : ℤ → List ℕ → Type 0
+  Writes z out′ = (z ≡ writeReply request draft out) × (out′ ≡ writeBuffer request draft out)
+
+  pub write-short : length draft < 770 → Writes (refused 99) out
+  unfolding writeReply writeBuffer
+  write-short h = let e = lt-ltb (length draft) 770 h in (rw e, rw e)
+
+  module _ (room : 770 ≤ length draft) (w : Written) (e : w ≡ outcomeAnswer (write request (draftOf draft)) out) where
+    pub write-refused : (w .refusal ≡ 0 → ⊥) → refused (w .refusal) ≡ writeReply request draft out
+    unfolding writeReply
+    write-refused h = rw (le-ltb (length draft) 770 room) (written-refused w _ e h)
+
+    pub write-made : w .refusal ≡ 0 → pos (w .length) ≡ writeReply request draft out
+    unfolding writeReply
+    write-made h = rw (le-ltb (length draft) 770 room) (written-length w _ e h)
+
+  pub write-buffer : 770 ≤ length draft → outcomeBuffer (write request (draftOf draft)) out ≡ writeBuffer request draft out
+  unfolding writeBuffer
+  write-buffer room = rw (le-ltb (length draft) 770 room)
+
+-- the length is small
+pub write-few : (request : List ℕ) (d : Draft) (out : List ℕ) → outcomeAnswer (write request d) out .length < 65536
+unfolding outcomeAnswer
+write-few request d out = go (write-comes-to request d)
+  where
+    go : WriteComes request d → outcomeAnswer (write request d) out .length < 65536
+    go (inl p) =
+        let good = within-good request (p .x) (p .within) in
+        let frames = framesHeld (p .x) d in
+        let size = plan-table-length (p .x) good (d .f) frames (p .is-plan) in
+        rw (p .table-is) (omega (arith, written-most (encode (planTable (p .x) (d .f) frames)) out, size, p .is-plan .few-rows, good .few-jobs))
+    go (inr (number, e)) = rw e (omega arith)

@@ -1,0 +1,89 @@
+-- Words in lent bytes, both ways: words that were written are read again, and bytes are those that their words are written as.
+use Prim.Native.Nat.{ℕ, zero, suc, _+_, _*_, _%_, _/_, _≤_, _<_}
+use mathlib.Core.Path.{_≡_, sym, ap, _∙_}
+use mathlib.Core.List.{List, _∷_, _++_, append-assoc}
+use native.Mathlib.Nat.{zero-add}
+use native.Mathlib.Omega.{arith}
+use lib.ListN.{length, getD, drop}
+use lib.Seq.{ext-getD, drop-cons, getD-append-add}
+use Rattle.cursor.specs.Fields.{wordBytes}
+use Rattle.cursor.specs.Front.{Bytes}
+use Rattle.bus.specs.Words.{wordOf, wordIn, wordsFrom, wordsBytes}
+use Rattle.bus.specs.WordLaws.{words-count}
+
+pub word-back : (w : ℕ) → wordOf (w % 256) (w / 256) ≡ w
+word-back w = omega arith
+
+-- two bytes are those of their word
+module _ (low high : ℕ) (small : low < 256) where
+  pub low-back : (low + high * 256) % 256 ≡ low
+  low-back = omega arith
+
+  pub high-back : (low + high * 256) / 256 ≡ high
+  high-back = omega arith
+
+-- of n words that are read from the i-th on, the k-th
+words-at : (bytes : List ℕ) (at n i k : ℕ) → k < n → getD (wordsFrom bytes at n i) k 0 ≡ wordIn bytes at (i + k)
+unfolding wordsFrom
+words-at bytes at zero i k h = absurd (omega arith)
+words-at bytes at (suc n) i zero h = ap (wordIn bytes at) (omega arith)
+words-at bytes at (suc n) i (suc k) h = words-at bytes at n (i + 1) k (omega arith) ∙ ap (wordIn bytes at) (omega arith)
+
+pub word-read : (bytes : List ℕ) (at n k : ℕ) → k < n → getD (wordsFrom bytes at n 0) k 0 ≡ wordIn bytes at k
+word-read bytes at n k h = words-at bytes at n 0 k h ∙ ap (wordIn bytes at) (zero-add k)
+
+-- of n words that are written from that at place i on, the k-th
+word-written : (words rest : List ℕ) (n i k : ℕ) → k < n → wordIn (wordsBytes words n i ++ rest) 0 k ≡ getD words (i + k) 0
+unfolding wordsBytes wordBytes
+word-written words rest zero i k h = absurd (omega arith)
+word-written words rest (suc n) i zero h = word-back (getD words i 0) ∙ ap (λ (j : ℕ). getD words j 0) (omega arith)
+word-written words rest (suc n) i (suc k) h =
+    let low : 0 + 2 * suc k ≡ suc (suc (0 + 2 * k)) = omega arith in
+    let high : 0 + 1 + 2 * suc k ≡ suc (suc (0 + 1 + 2 * k)) = omega arith in
+    rw (low, high) (word-written words rest n (i + 1) k (omega arith) ∙ ap (λ (j : ℕ). getD words j 0) (omega arith))
+
+-- n words that are written behind `front`
+module _ (front words rest : List ℕ) (at n : ℕ) (here : length front ≡ at) where
+  pub word-there : (k : ℕ) → k < n → wordIn (front ++ wordsBytes words n 0 ++ rest) at k ≡ getD words k 0
+  word-there k h =
+      let behind = wordsBytes words n 0 ++ rest in
+      let low : at + 2 * k ≡ length front + (0 + 2 * k) = omega arith in
+      let high : at + 1 + 2 * k ≡ length front + (0 + 1 + 2 * k) = omega arith in
+      rw (append-assoc front (wordsBytes words n 0) rest, low, high, getD-append-add front behind (0 + 2 * k) 0, getD-append-add front behind (0 + 1 + 2 * k) 0)
+      (word-written words rest n 0 k h ∙ ap (λ (j : ℕ). getD words j 0) (zero-add k))
+
+  pub words-read : length words ≡ n → wordsFrom (front ++ wordsBytes words n 0 ++ rest) at n 0 ≡ words
+  words-read all =
+      let bytes = front ++ wordsBytes words n 0 ++ rest in
+      let many = words-count bytes at n 0 in
+      ext-getD 0 (wordsFrom bytes at n 0) words (many ∙ sym all) (λ k h. word-read bytes at n k (omega (arith, many)) ∙ word-there k (omega (arith, many)))
+
+-- n words, the first in bytes `at` and `at` + 1
+module _ (bytes : List ℕ) (are : Bytes bytes) (at n : ℕ) (room : at + 2 * n ≤ length bytes) where
+  two-behind : (i : ℕ) → i < n → drop (at + 2 * i) bytes ≡ getD bytes (at + 2 * i) 0 ∷ getD bytes (at + 1 + 2 * i) 0 ∷ drop (at + 2 * (i + 1)) bytes
+  two-behind i h =
+      let high : at + 1 + 2 * i ≡ suc (at + 2 * i) = omega arith in
+      let next : at + 2 * (i + 1) ≡ suc (suc (at + 2 * i)) = omega arith in
+      rw (high, next) (drop-cons bytes (at + 2 * i) 0 (omega arith) ∙ ap (λ (l : List ℕ). getD bytes (at + 2 * i) 0 ∷ l) (drop-cons bytes (suc (at + 2 * i)) 0 (omega arith)))
+
+  -- m of them from the i-th on, and the bytes behind them
+  behind-back : (m i : ℕ) → i + m ≤ n → wordsBytes (wordsFrom bytes at n 0) m i ++ drop (at + 2 * (i + m)) bytes ≡ drop (at + 2 * i) bytes
+  unfolding wordsBytes wordBytes
+  behind-back zero i h = let none : i + 0 ≡ i = omega arith in rw none
+  behind-back (suc m) i h =
+      let next : i + suc m ≡ i + 1 + m = omega arith in
+      let low = are (at + 2 * i) in
+      rw (
+        word-read bytes at n i (omega arith),
+        low-back (getD bytes (at + 2 * i) 0) (getD bytes (at + 1 + 2 * i) 0) low,
+        high-back (getD bytes (at + 2 * i) 0) (getD bytes (at + 1 + 2 * i) 0) low,
+        next,
+        behind-back m (i + 1) (omega arith),
+      ) (sym (two-behind i (omega arith)))
+
+  pub words-back : wordsBytes (wordsFrom bytes at n 0) n 0 ++ drop (at + 2 * n) bytes ≡ drop at bytes
+  words-back =
+      let here : at ≡ at + 2 * 0 = omega arith in
+      let all : n ≡ 0 + n = omega arith in
+      ap (λ (m : ℕ). wordsBytes (wordsFrom bytes at n 0) n 0 ++ drop (at + 2 * m) bytes) all ∙ behind-back n 0 (omega arith)
+      ∙ ap (λ (k : ℕ). drop k bytes) (sym here)

@@ -1,0 +1,1 @@
+// Drafts after every list of moves: theorems, in specs/. No function.
