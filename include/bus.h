@@ -1,6 +1,7 @@
 /*
  * The bus table library: joining and cutting requests, planning, checking and dispatching a table
- * for the bus controller, finding time for a one-off transfer beside it, and moving its jobs by hand.
+ * for the bus controller, finding time for a one-off transfer beside it, moving its jobs by hand, and
+ * counting the phases of a task that still fit.
  *
  * All times are whole ticks. A u16 in a file, a state or a draft is two bytes, low byte first.
  *
@@ -23,10 +24,11 @@
 extern "C" {
 #endif
 
-/* The bytes of a state, of the entries of a frame, and of a count of tries. */
+/* The bytes of a state, of the entries of a frame, of a count of tries, of the counts of phases. */
 #define BUS_STATE_BYTES 64
 #define BUS_ENTRIES_BYTES 32
 #define BUS_TRIES_BYTES 8
+#define BUS_PHASES_BYTES 8
 
 /* The most tasks, and so the counts of a state. */
 #define BUS_TASKS 16
@@ -41,7 +43,10 @@ extern "C" {
 #define BUS_DRAFT_BYTES 770
 #define BUS_LIFTED 65535
 
-/* A state, entries, tries or draft buffer that is too short, or a state whose mark is neither 0 nor 1. */
+/*
+ * A state, entries, tries, draft or counts buffer that is too short, or a state whose mark is neither
+ * 0 nor 1.
+ */
 #define BUS_BAD_BUFFER 99
 
 /*
@@ -179,6 +184,20 @@ int32_t bus_cut(const uint8_t *request, size_t request_len, uint8_t task, uint16
                 size_t out_len);
 
 /*
+ * Counts which phases of a task still fit. Each phase from 0 to T - 1 is set for task `task`, with all
+ * else as in the request, and the request with it is planned as bus_plan plans it, with `allowance`
+ * tries for each phase. The request's own phase of the task does not matter.
+ *
+ * The first 8 bytes of `counts` get four u16: how many phases lead to a table, to 9, to 10 and to 23.
+ * They add up to T. The bytes behind them are left as they are. A call plans T requests, so with a
+ * large allowance it may take long.
+ *
+ * Answers 0, or refuses with 99 (fewer than 8 bytes in `counts`), then 1 to 5, 17, 6 to 8, then 16.
+ */
+int32_t bus_phases(const uint8_t *request, size_t request_len, uint8_t task, uint64_t allowance,
+                   uint8_t *counts, size_t counts_len);
+
+/*
  * Finds time for a one-off transfer of `length` ticks beside a table: the earliest frame that begins
  * at the tick `from` or later, ends at the tick `until` or earlier, and leaves enough of its time
  * unused for the transfer and the silent ticks after it. Ticks and frames are counted from the
@@ -286,7 +305,8 @@ int32_t bus_draft_write(const uint8_t *request, size_t request_len, const uint8_
  *       of a placed one, or a draft to be written in which a job is lifted
  *   27  the frame is outside the job's window
  *   28  the frame's row has no room for the job, or a pair is out of order with a placed job
- *   99  a state, entries, tries or draft buffer is too short, or the state's mark is neither 0 nor 1
+ *   99  a state, entries, tries, draft or counts buffer is too short, or the state's mark is neither 0
+ *       nor 1
  */
 
 #ifdef __cplusplus

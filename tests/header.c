@@ -142,6 +142,49 @@ static void full_row(const uint8_t *silent, size_t len)
     expect("bus_draft_put", bus_draft_put(silent, len, 2, 0, draft, sizeof draft), 0);
 }
 
+/* Counts phases: how many lead to a table, to 9, to 10 and to 23, and nothing else written. */
+static void phases(const uint8_t *request, size_t len, uint8_t task, uint64_t allowance, int tables, int nines, int tens, int ended)
+{
+    uint8_t counts[BUS_PHASES_BYTES + 1];
+    memset(counts, 0x5A, sizeof counts);
+    expect("bus_phases", bus_phases(request, len, task, allowance, counts, sizeof counts), 0);
+    expect("bus_phases, tables", counts[0] + 256 * counts[1], tables);
+    expect("bus_phases, 9", counts[2] + 256 * counts[3], nines);
+    expect("bus_phases, 10", counts[4] + 256 * counts[5], tens);
+    expect("bus_phases, 23", counts[6] + 256 * counts[7], ended);
+    expect("bus_phases, behind the counts", counts[BUS_PHASES_BYTES], 0x5A);
+}
+
+/* Counts no phases: this refusal, and nothing written. */
+static void no_phases(const uint8_t *request, size_t len, uint8_t task, size_t room, int32_t answer)
+{
+    uint8_t counts[BUS_PHASES_BYTES];
+    memset(counts, 0x5A, sizeof counts);
+    expect("bus_phases", bus_phases(request, len, task, UINT64_MAX, counts, room), answer);
+    for (size_t i = 0; i < sizeof counts; i++)
+        expect("bus_phases, refused", counts[i], 0x5A);
+}
+
+/* P1 has a table with every phase of every task, and needs 5 tries or more. With a silent tick frames of 20 ticks are the only ones, too
+ * short for the three transfers and too long for a task of period 20 that does not begin with one. P12 has 10,000 phases. */
+static void shifts(const uint8_t *request, size_t len, const uint8_t *silent, size_t silent_len)
+{
+    static const uint8_t p12[] = {0x01, 0x01, 0x00, 0x10, 0x27, 0x10, 0x27, 0x00, 0x00, 0x00};
+    phases(request, len, 0, UINT64_MAX, 20, 0, 0, 0);
+    phases(request, len, 2, UINT64_MAX, 40, 0, 0, 0);
+    phases(request, len, 2, 4, 0, 0, 0, 40);
+    phases(silent, silent_len, 0, UINT64_MAX, 0, 19, 1, 0);
+    phases(silent, silent_len, 0, 0, 0, 19, 0, 1);
+    phases(silent, silent_len, 2, UINT64_MAX, 0, 0, 40, 0);
+    phases(p12, sizeof p12, 0, 1, 10000, 0, 0, 0);
+    phases(p12, sizeof p12, 0, 0, 0, 0, 0, 10000);
+    no_phases(request, len, 3, BUS_PHASES_BYTES, -16);
+    no_phases(request, len, 255, BUS_PHASES_BYTES, -16);
+    no_phases(request, len - 1, 3, BUS_PHASES_BYTES, -1);
+    no_phases(request, len, 0, BUS_PHASES_BYTES - 1, -BUS_BAD_BUFFER);
+    no_phases(request, len - 1, 3, 0, -BUS_BAD_BUFFER);
+}
+
 int main(void)
 {
     static const uint8_t request[] = {
@@ -178,6 +221,8 @@ int main(void)
     memcpy(bad, silent, sizeof bad);
     bad[sizeof request + 1] = 16;
     limits(request, sizeof request, silent, sizeof silent);
+    shifts(request, sizeof request, silent, sizeof silent);
+    no_phases(bad, sizeof bad, 3, BUS_PHASES_BYTES, -17);
     plan(silent, sizeof silent, UINT64_MAX, -10, 6);
     expect("bus_check", bus_check(silent, sizeof silent, table, used), -14);
     plan(bad, sizeof bad, UINT64_MAX, -17, 0);

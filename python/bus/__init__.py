@@ -13,22 +13,27 @@
     bus.spacing(request, table)                # the least and the most ticks between two starts of each task
     draft = bus.Draft(request, table)          # jobs moved by hand: lifted, put into a frame, written as a table
     draft.lift("heater.0"), draft.put("heater.0", 3), draft.write()
+    found = bus.phases(request, "star")        # how many phases of a task lead to a table, and which
+    bus.strip(request, found)                  # the same as a picture
 """
 
 from .build import NotBuilt
 from .calls import FreeFrame, check, one_off, plan, rewrite
+from .child import SearchEnded
 from .cut import cut
 from .dispatcher import Dispatcher, Frame, Served
 from .draft import Draft
 from .files import FileFault
 from .join import join
 from .lists import ListFaults
+from .phases import Phases, Run, phases
 from .picture import picture
 from .refusals import Refused
 from .request import Job, Request, Task
-from .search import TRIES, SearchEnded
+from .search import TRIES
 from .sources import read_request
 from .spacing import Spacing, spacing
+from .strip import strip
 from .table import Entry, Table
 from .text import c_array, flight, listing
 
@@ -42,8 +47,10 @@ __all__ = [
     "Job",
     "ListFaults",
     "NotBuilt",
+    "Phases",
     "Refused",
     "Request",
+    "Run",
     "SearchEnded",
     "Served",
     "Spacing",
@@ -57,9 +64,11 @@ __all__ = [
     "join",
     "listing",
     "one_off",
+    "phases",
     "picture",
     "plan",
     "read_request",
     "rewrite",
     "spacing",
+    "strip",
 ]

@@ -8,10 +8,10 @@ import traceback
 
 from . import files, refusals
 from .build import NotBuilt
+from .child import SearchEnded
 from .commands import COMMANDS
 from .commands.steps import WrongUse, say
 from .lists import ListFaults
-from .search import SearchEnded
 
 ANSWERED, REFUSED, FAILED = 0, 1, 2
 MOST_FAULTS = 30

@@ -157,6 +157,10 @@ def _no_such_task(request, called):
     return f"no transfer is called {called}: the names are {names}, and the numbers 0 to {len(request.tasks) - 1}"
 
 
+def no_such_task(*, request, called, **_):
+    return _no_such_task(request, called)
+
+
 def no_such_cut(*, request, task, called, piece, **_):
     if task >= len(request.tasks):
         return _no_such_task(request, called)

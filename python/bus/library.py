@@ -16,6 +16,7 @@ from .build import SHARED, NotBuilt, build
 STATE_BYTES = 64
 ENTRIES_BYTES = 32
 TRIES_BYTES = 8
+PHASES_BYTES = 8
 TABLE_BYTES = 519
 REQUEST_BYTES = 164
 DRAFT_BYTES = 770
@@ -115,9 +116,12 @@ class Call:
         return (answer, *(argument.taken(buffer.raw, answer) for argument, buffer in lent)) if lent else answer
 
 
-# The table. search.py makes the call `plan` where it can be stopped.
+# The table. search.py makes the call `plan` where it can be stopped, and phases.py the call `phases`.
 plan = Call(
     "plan", read("request"), number("allowance", 64), written("out", TABLE_BYTES), counted("tries", TRIES_BYTES)
+)
+phases = Call(
+    "phases", read("request"), number("task", 8), number("allowance", 64), filled("counts", PHASES_BYTES)
 )
 check = Call("check", read("request"), read("table"))
 rewrite = Call("rewrite", read("request"), read("table"), written("out", TABLE_BYTES))

@@ -4,20 +4,11 @@ The cycle is a time axis that runs from left to right and is cut into frames. It
 when the frames do not fit beside each other. Every measure along it is in proportion to ticks.
 """
 
-import unicodedata
-import xml.etree.ElementTree as xml
 from typing import NamedTuple
 
+from .drawing import COLOURS, FAINT, INK, MARGIN, USABLE, WIDTH
+from .drawing import add, coordinate, counted, finished, line, page, percent, shortened, steps, width_of, write
 from .text import printable
-
-WIDTH, MARGIN = 1000, 24
-USABLE = WIDTH - 2 * MARGIN
-FONT = "DejaVu Sans, Verdana, Arial, sans-serif"
-
-# Paul Tol's light colours: told apart by the colour-blind, and black text is easy to read on each. The second eight
-# tasks have the same colours with stripes.
-COLOURS = ["#77AADD", "#EE8866", "#EEDD88", "#FFAABB", "#99DDFF", "#44BB99", "#BBCC33", "#DDDDDD"]
-INK, FAINT = "#111111", "#5A5A5A"
 
 HEAD, STRIP = 30, 34  # ticks, rows and loads; below them the strip of frames
 LEAD, GAP = 24, 14  # lines from a block to its name below the strip; the space between two lines of the axis
@@ -53,58 +44,8 @@ def blocks_of(request, table):
     return blocks
 
 
-# ---- elements and texts ----
-
-
-def _number(value):
-    return f"{value:.2f}".rstrip("0").rstrip(".") if isinstance(value, float) else str(value)
-
-
-def _add(parent, tag, text=None, **attributes):
-    """A new element; in the names of attributes _ stands for - ."""
-    named = {name.rstrip("_").replace("_", "-"): _number(value) for name, value in attributes.items()}
-    element = xml.SubElement(parent, tag, named)
-    element.text = text
-    return element
-
-
-def _text(parent, x, y, text, size=11, **attributes):
-    return _add(parent, "text", text, x=x, y=y, font_size=size, **attributes)
-
-
-def _line(parent, start, end, **attributes):
-    (x, y), (to_x, to_y) = start, end
-    return _add(parent, "line", x1=x, y1=y, x2=to_x, y2=to_y, **attributes)
-
-
-def _letter_width(letter):
-    """In hundredths of the size of the text."""
-    if unicodedata.east_asian_width(letter) in "WF":
-        return 105
-    if unicodedata.combining(letter):
-        return 0
-    if letter in "ijl.,:;'|!()[]ftr ":
-        return 42
-    return 100 if letter in "mwMW@%" else 80 if letter.isupper() else 65
-
-
-def _width(text, size=11):
-    """About how wide a text is; rather too wide than too narrow."""
-    return size * sum(map(_letter_width, text)) / 100
-
-
-def _cut(text, width, size=11):
-    """The text, or as much of it as is so wide, with ~ behind it."""
-    text = printable(text)
-    if _width(text, size) <= width:
-        return text
-    while _width(text + "~", size) > width:
-        text = text[:-1]
-    return text + "~"
-
-
 def _name(request, task):
-    return _cut(request.tasks[task].name, LONGEST_NAME)
+    return shortened(request.tasks[task].name, LONGEST_NAME)
 
 
 def _label(request, task, job, carry):
@@ -112,6 +53,7 @@ def _label(request, task, job, carry):
 
 
 def _fill(task):
+    """The second eight tasks have the colours of the first with stripes."""
     return COLOURS[task] if task < len(COLOURS) else f"url(#task{task})"
 
 
@@ -122,40 +64,32 @@ def _outline(carry, width):
     return {"stroke": INK, "stroke_width": min(0.8, max(0.2, width / 8))}
 
 
-def _count(number, word):
-    return f"{number} {word}" if number == 1 else f"{number} {word}s"
-
-
-def _percent(share):
-    return "<1 %" if 0 < share < 0.01 else f"{100 * share:.0f} %"
-
-
 def _patterns(svg, request):
     """Stripes for the second eight tasks, dots for silent ticks, thin lines for unused time."""
-    defs = _add(svg, "defs")
+    defs = add(svg, "defs")
     tile = {"patternUnits": "userSpaceOnUse"}
     for task in range(len(COLOURS), len(request.tasks)):
-        stripes = _add(defs, "pattern", id=f"task{task}", width=8, height=8, **tile)
-        _add(stripes, "rect", width=8, height=8, fill=COLOURS[task % len(COLOURS)])
-        _add(stripes, "path", d="M-1,1 L1,-1 M0,8 L8,0 M7,9 L9,7", stroke=INK, stroke_opacity=0.4)
-    dots = _add(defs, "pattern", id="silent", width=4, height=4, **tile)
-    _add(dots, "rect", width=4, height=4, fill="#FFFFFF")
-    _add(dots, "circle", cx=2, cy=2, r=0.9, fill=FAINT)
-    lines = _add(defs, "pattern", id="unused", width=8, height=8, **tile)
-    _add(lines, "rect", width=8, height=8, fill="#F4F4F4")
-    _add(lines, "path", d="M0,8 L8,0", stroke="#D0D0D0", stroke_width=0.8)
+        stripes = add(defs, "pattern", id=f"task{task}", width=8, height=8, **tile)
+        add(stripes, "rect", width=8, height=8, fill=COLOURS[task % len(COLOURS)])
+        add(stripes, "path", d="M-1,1 L1,-1 M0,8 L8,0 M7,9 L9,7", stroke=INK, stroke_opacity=0.4)
+    dots = add(defs, "pattern", id="silent", width=4, height=4, **tile)
+    add(dots, "rect", width=4, height=4, fill="#FFFFFF")
+    add(dots, "circle", cx=2, cy=2, r=0.9, fill=FAINT)
+    lines = add(defs, "pattern", id="unused", width=8, height=8, **tile)
+    add(lines, "rect", width=8, height=8, fill="#F4F4F4")
+    add(lines, "path", d="M0,8 L8,0", stroke="#D0D0D0", stroke_width=0.8)
 
 
 # ---- the list and the marks ----
 
 
 def _heading(svg, request, table, title):
-    _text(svg, MARGIN, 32, _cut(title, 0.8 * USABLE, 18), 18, font_weight="bold")
-    facts = [f"frame of {_count(table.frame, 'tick')}", f"cycle of {_count(table.cycle, 'tick')}"]
-    facts += [_count(len(table.rows), "row"), f"{_percent(request.load)} of the time in use"]
+    write(svg, MARGIN, 32, shortened(title, 0.8 * USABLE, 18), 18, font_weight="bold")
+    facts = [f"frame of {counted(table.frame, 'tick')}", f"cycle of {counted(table.cycle, 'tick')}"]
+    facts += [counted(len(table.rows), "row"), f"{percent(request.load)} of the time in use"]
     if request.silent:
-        facts.append(f"{_count(request.silent, 'silent tick')} after each transfer")
-    _text(svg, MARGIN, 54, " · ".join(facts), 12, fill=FAINT)
+        facts.append(f"{counted(request.silent, 'silent tick')} after each transfer")
+    write(svg, MARGIN, 54, " · ".join(facts), 12, fill=FAINT)
     return 76
 
 
@@ -166,15 +100,15 @@ def _tasks(svg, request, top):
     deep = -(-count // columns)
     for number, task in enumerate(request.tasks):
         x, y = MARGIN + number // deep * (USABLE // 2), top + (number % deep + 1) * TASK_LINE
-        _add(svg, "rect", x=x, y=y - 10, width=18, height=12, fill=_fill(number), stroke=INK, stroke_width=0.8)
-        _text(svg, x + 26, y, _name(request, number), 11, font_weight="bold")
+        add(svg, "rect", x=x, y=y - 10, width=18, height=12, fill=_fill(number), stroke=INK, stroke_width=0.8)
+        write(svg, x + 26, y, _name(request, number), 11, font_weight="bold")
         for k, value in enumerate((task.length, task.period, task.deadline, task.phase)):
-            _text(svg, x + 252 + 64 * k, y, str(value), 11, text_anchor="end")
+            write(svg, x + 252 + 64 * k, y, str(value), 11, text_anchor="end")
     for column in range(columns):
         x = MARGIN + column * (USABLE // 2)
-        _text(svg, x + 26, top, "transfer", 10, fill=FAINT)
+        write(svg, x + 26, top, "transfer", 10, fill=FAINT)
         for k, word in enumerate(("length", "period", "deadline", "phase")):
-            _text(svg, x + 252 + 64 * k, top, word, 10, text_anchor="end", fill=FAINT)
+            write(svg, x + 252 + 64 * k, top, word, 10, text_anchor="end", fill=FAINT)
     return top + deep * TASK_LINE + 22
 
 
@@ -188,9 +122,9 @@ def _marks(svg, request, table, top):
         marks.insert(0, ({"fill": "#FFFFFF", **_outline(True, 18)}, words))
     x = MARGIN
     for style, words in marks:
-        _add(svg, "rect", x=x, y=top - 10, width=18, height=12, **style)
-        _text(svg, x + 26, top, words, 10.5, fill=FAINT)
-        x += 26 + _width(words, 10.5) + 16
+        add(svg, "rect", x=x, y=top - 10, width=18, height=12, **style)
+        write(svg, x + 26, top, words, 10.5, fill=FAINT)
+        x += 26 + width_of(words, 10.5) + 16
     return top + 20
 
 
@@ -203,7 +137,7 @@ class _Axis:
     def __init__(self, request, table, blocks):
         self.frame, self.count = table.frame, len(table.rows)
         self.labels = [_label(request, block.task, block.job, block.carry) for block in blocks]
-        widths = [_width(label, SIZES[-1]) + 6 for label in self.labels]
+        widths = [width_of(label, SIZES[-1]) + 6 for label in self.labels]
         least = max(LEAST_FRAME, NAME_DISTANCE * max(map(len, table.rows)) + 8)
         easy = max([least, *(width * table.frame / block.length for width, block in zip(widths, blocks))])
         wished = max(int(USABLE // easy), -(-self.count // MOST_LINES))
@@ -214,7 +148,7 @@ class _Axis:
 
     def size(self, block, label):
         """The size of a name inside its block; 0 if it does not fit."""
-        return next((size for size in SIZES if _width(label, size) + 6 <= block.length * self.scale), 0)
+        return next((size for size in SIZES if width_of(label, size) + 6 <= block.length * self.scale), 0)
 
     def x(self, row, tick=0):
         return MARGIN + row % self.in_line * self.width + tick * self.scale
@@ -235,16 +169,16 @@ def _row(svg, request, table, axis, number, top):
     """A frame of the strip, as if it were empty: its first tick, its number, its load and its unused time."""
     used = request.used(table.rows[number])
     x, strip = axis.x(number), top + HEAD
-    group = _add(svg, "g", class_="row", data_row=number, data_start=number * table.frame)
-    _add(group, "rect", x=x, y=strip, width=axis.width, height=STRIP, fill="url(#unused)")
-    _text(group, x + 4, top + 9, str(number * table.frame), 9, fill=FAINT)
+    group = add(svg, "g", class_="row", data_row=number, data_start=number * table.frame)
+    add(group, "rect", x=x, y=strip, width=axis.width, height=STRIP, fill="url(#unused)")
+    write(group, x + 4, top + 9, str(number * table.frame), 9, fill=FAINT)
     word = "row " if axis.width >= WORDS_FRAME else ""
-    _text(group, x + 4, top + 24, f"{word}{number}", 11, font_weight="bold")
-    _text(group, x + axis.width - 5, top + 24, _percent(used / table.frame), 11, text_anchor="end", class_="load")
+    write(group, x + 4, top + 24, f"{word}{number}", 11, font_weight="bold")
+    write(group, x + axis.width - 5, top + 24, percent(used / table.frame), 11, text_anchor="end", class_="load")
     free = f"{table.frame - used} unused"
-    if used < table.frame and _width(free, 10) + 8 <= (table.frame - used) * axis.scale:
+    if used < table.frame and width_of(free, 10) + 8 <= (table.frame - used) * axis.scale:
         middle = axis.x(number, used) + (table.frame - used) * axis.scale / 2
-        _text(group, middle, strip + 21, free, 10, text_anchor="middle", fill=FAINT)
+        write(group, middle, strip + 21, free, 10, text_anchor="middle", fill=FAINT)
 
 
 def _block(svg, request, axis, block, top):
@@ -253,25 +187,25 @@ def _block(svg, request, axis, block, top):
     if request.silent:
         style = {"fill": "url(#silent)", "stroke": "#BBBBBB", "stroke_width": 0.5}
         silent = request.silent * axis.scale
-        _add(svg, "rect", class_="silent", x=x + width, y=top, width=silent, height=STRIP, **style)
+        add(svg, "rect", class_="silent", x=x + width, y=top, width=silent, height=STRIP, **style)
     place = {"data_row": block.row, "data_task": block.task, "data_job": block.job, "data_tick": block.tick}
-    group = _add(svg, "g", class_="transfer", **place)
+    group = add(svg, "g", class_="transfer", **place)
     start = block.row * axis.frame + block.tick
     carried = ", carried from the cycle before" if block.carry else ""
     name = printable(request.tasks[block.task].name)
-    _add(group, "title", f"{name}, job {block.job}: row {block.row}, ticks {start} to {start + block.length}{carried}")
-    _add(group, "rect", x=x, y=top, width=width, height=STRIP, fill=_fill(block.task), **_outline(block.carry, width))
+    add(group, "title", f"{name}, job {block.job}: row {block.row}, ticks {start} to {start + block.length}{carried}")
+    add(group, "rect", x=x, y=top, width=width, height=STRIP, fill=_fill(block.task), **_outline(block.carry, width))
     return group, x + width / 2
 
 
 def _name_below(group, task, middle, place, bottom, label):
     """A name that does not fit into its block: upright below the strip, with its colour and a line to the block."""
     end = bottom + LEAD
-    points = f"{_number(middle)},{bottom} {_number(middle)},{bottom + 3} {_number(place)},{end - 8}"
-    _add(group, "polyline", points=points, fill="none", stroke=FAINT, stroke_width=0.8)
+    points = f"{coordinate(middle)},{bottom} {coordinate(middle)},{bottom + 3} {coordinate(place)},{end - 8}"
+    add(group, "polyline", points=points, fill="none", stroke=FAINT, stroke_width=0.8)
     colour = {"fill": _fill(task), "stroke": FAINT, "stroke_width": 0.5}
-    _add(group, "rect", class_="tag", x=place - 5, y=end - 8, width=10, height=5, **colour)
-    _text(group, place + 4, end, label, text_anchor="end", transform=f"rotate(-90 {_number(place + 4)} {end})")
+    add(group, "rect", class_="tag", x=place - 5, y=end - 8, width=10, height=5, **colour)
+    write(group, place + 4, end, label, text_anchor="end", transform=f"rotate(-90 {coordinate(place + 4)} {end})")
 
 
 def _row_blocks(svg, request, axis, blocks, top):
@@ -281,14 +215,14 @@ def _row_blocks(svg, request, axis, blocks, top):
         group, middle = _block(svg, request, axis, block, top)
         size = axis.size(block, label)
         if size:
-            _text(group, middle, top + 21, label, size, text_anchor="middle")
+            write(group, middle, top + 21, label, size, text_anchor="middle")
         else:
             below.append((group, block.task, middle, label))
     left = axis.x(blocks[0][0].row) if blocks else 0
     places = _spread([middle for _, _, middle, _ in below], left + 7, left + axis.width - 7)
     for (group, task, middle, label), place in zip(below, places):
         _name_below(group, task, middle, place, top + STRIP, label)
-    return max((LEAD + _width(label) + 2 for _, _, _, label in below), default=0)
+    return max((LEAD + width_of(label) + 2 for _, _, _, label in below), default=0)
 
 
 def _axis_line(svg, request, table, axis, rows, labelled, top):
@@ -302,9 +236,9 @@ def _axis_line(svg, request, table, axis, rows, labelled, top):
         deepest = max(deepest, _row_blocks(svg, request, axis, blocks, strip))
     for place in range(len(rows) + 1):
         x = MARGIN + place * axis.width
-        _line(svg, (x, top + 12), (x, strip + STRIP), stroke=INK, stroke_width=1.6)
+        line(svg, (x, top + 12), (x, strip + STRIP), stroke=INK, stroke_width=1.6)
     ends = axis.x(rows[-1]) + axis.width - 5
-    _text(svg, ends, top + 9, str((rows[-1] + 1) * table.frame), 9, fill=FAINT, text_anchor="end")
+    write(svg, ends, top + 9, str((rows[-1] + 1) * table.frame), 9, fill=FAINT, text_anchor="end")
     return deepest
 
 
@@ -313,7 +247,7 @@ def _cycle(svg, request, table, top):
     axis = _Axis(request, table, blocks)
     labelled = list(zip(blocks, axis.labels))
     heading = "The cycle: above each frame its first tick (grey), its row and its load"
-    _text(svg, MARGIN, top, heading, 13, font_weight="bold")
+    write(svg, MARGIN, top, heading, 13, font_weight="bold")
     top += 14
     for first in range(0, axis.count, axis.in_line):
         rows = range(first, min(first + axis.in_line, axis.count))
@@ -336,60 +270,50 @@ class _Chart(NamedTuple):
         return self.left + tick * self.scale
 
 
-def _steps(frame, scale, distance):
-    """The least number of ticks, a multiple of the frame by 1, 2 or 5 times a power of ten, that takes so much room."""
-    power = 1
-    while True:
-        for digit in (1, 2, 5):
-            if digit * power * frame * scale >= distance:
-                return digit * power * frame
-        power *= 10
-
-
 def _grid(svg, table, chart, top, bottom):
-    for tick in range(0, chart.end + 1, _steps(table.frame, chart.scale, 7)):
-        _line(svg, (chart.x(tick), top), (chart.x(tick), bottom), stroke="#E2E2E2", stroke_width=0.8)
-    for tick in range(0, chart.end + 1, _steps(table.frame, chart.scale, 42)):
+    for tick in range(0, chart.end + 1, steps(table.frame, chart.scale, 7)):
+        line(svg, (chart.x(tick), top), (chart.x(tick), bottom), stroke="#E2E2E2", stroke_width=0.8)
+    for tick in range(0, chart.end + 1, steps(table.frame, chart.scale, 42)):
         for y in (top - 4, bottom + 11):
-            _text(svg, chart.x(tick), y, str(tick), 9, text_anchor="middle", fill=FAINT)
+            write(svg, chart.x(tick), y, str(tick), 9, text_anchor="middle", fill=FAINT)
     end = {"stroke": INK, "stroke_width": 1.2, "stroke_dasharray": "2 2"}
-    _line(svg, (chart.x(table.cycle), top), (chart.x(table.cycle), bottom), **end)
+    line(svg, (chart.x(table.cycle), top), (chart.x(table.cycle), bottom), **end)
 
 
 def _window(svg, request, table, chart, job, frame, top):
     """One job: its numbers, a bar from release to due time, and a box for its frame."""
     carry = frame >= len(table.rows)
-    group = _add(svg, "g", class_="job", data_task=job.task, data_job=job.number, data_frame=frame)
-    _text(group, MARGIN, top + 12, _label(request, job.task, job.number, carry))
+    group = add(svg, "g", class_="job", data_task=job.task, data_job=job.number, data_frame=frame)
+    write(group, MARGIN, top + 12, _label(request, job.task, job.number, carry))
     for k, value in enumerate((job.release, job.due, frame, frame % len(table.rows))):
-        _text(group, chart.left - 158 + 48 * k, top + 12, str(value), text_anchor="end")
+        write(group, chart.left - 158 + 48 * k, top + 12, str(value), text_anchor="end")
     bar = {"fill": "#FFFFFF", "stroke": FAINT, "stroke_width": 1}
     x = chart.x(job.release)
-    _add(group, "rect", class_="window", x=x, y=top + 5, width=chart.x(job.due) - x, height=JOB_LINE - 10, **bar)
+    add(group, "rect", class_="window", x=x, y=top + 5, width=chart.x(job.due) - x, height=JOB_LINE - 10, **bar)
     x = chart.x(frame * table.frame)
     width = table.frame * chart.scale
     style = {"fill": _fill(job.task), **_outline(carry, width)}
-    _add(group, "rect", class_="frame", x=x, y=top + 2, width=width, height=JOB_LINE - 4, **style)
+    add(group, "rect", class_="frame", x=x, y=top + 2, width=width, height=JOB_LINE - 4, **style)
 
 
 def _windows(svg, request, table, top):
     jobs, frames = request.jobs(), table.frames()
     heading = "Each job's window: a bar from its release to its due time, a box for its frame"
-    _text(svg, MARGIN, top, heading, 13, font_weight="bold")
+    write(svg, MARGIN, top, heading, 13, font_weight="bold")
     top += 34
-    name = max(_width(_label(request, job.task, job.number, True)) for job in jobs)
+    name = max(width_of(_label(request, job.task, job.number, True)) for job in jobs)
     left = MARGIN + max(name, 60.0) + 206
     end = max(table.cycle, *(job.due for job in jobs))
     chart = _Chart(left, (WIDTH - MARGIN - 12 - left) / end, end)
-    _text(svg, MARGIN, top - 4, "transfer", 10, fill=FAINT)
+    write(svg, MARGIN, top - 4, "transfer", 10, fill=FAINT)
     for k, word in enumerate(("release", "due", "frame", "row")):
-        _text(svg, chart.left - 158 + 48 * k, top - 4, word, 10, text_anchor="end", fill=FAINT)
+        write(svg, chart.left - 158 + 48 * k, top - 4, word, 10, text_anchor="end", fill=FAINT)
     bottom = top + JOB_LINE * len(jobs)
     for place in range(0, len(jobs), 2):
         stripe = {"width": USABLE, "height": JOB_LINE, "fill": "#FAFAFA"}
-        _add(svg, "rect", x=MARGIN, y=top + JOB_LINE * place, **stripe)
+        add(svg, "rect", x=MARGIN, y=top + JOB_LINE * place, **stripe)
     _grid(svg, table, chart, top, bottom)
-    _text(svg, chart.x(table.cycle), top - 16, "cycle ends", 9, text_anchor="middle", fill=FAINT)
+    write(svg, chart.x(table.cycle), top - 16, "cycle ends", 9, text_anchor="middle", fill=FAINT)
     for place, job in enumerate(jobs):
         _window(svg, request, table, chart, job, frames[job.task, job.number], top + JOB_LINE * place)
     return bottom + 28
@@ -397,17 +321,11 @@ def _windows(svg, request, table, top):
 
 def picture(request, table, title="Bus table"):
     """The text of an SVG file that shows the table of a request."""
-    svg = xml.Element("svg", {"xmlns": "http://www.w3.org/2000/svg", "font-family": FONT, "fill": INK, "role": "img"})
-    _add(svg, "title", printable(title))
+    svg = page(title)
     _patterns(svg, request)
-    paper = _add(svg, "rect", width=WIDTH, fill="#FFFFFF")
+    paper = add(svg, "rect", width=WIDTH, fill="#FFFFFF")
     top = _heading(svg, request, table, title)
     top = _tasks(svg, request, top)
     top = _marks(svg, request, table, top)
     top = _cycle(svg, request, table, top + 12)
-    height = int(_windows(svg, request, table, top))
-    paper.set("height", str(height))
-    svg.attrib.update(width=str(WIDTH), height=str(height), viewBox=f"0 0 {WIDTH} {height}")
-    svg.set("style", "max-width: 100%; height: auto")
-    xml.indent(svg)
-    return '<?xml version="1.0" encoding="UTF-8"?>\n' + xml.tostring(svg, encoding="unicode") + "\n"
+    return finished(svg, paper, int(_windows(svg, request, table, top)))

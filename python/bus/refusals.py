@@ -103,9 +103,9 @@ ROWS = (
         "the state belongs to another table: begin with a fresh one",
     ),
     Refusal(
-        16, NO_ONE, None,
-        "the report's task number is not below n",
-        "the report names a task that the request does not have",
+        16, LIST, details.no_such_task,
+        "there is no such task: the number of a report, or of the task whose phases are counted, is not below n",
+        "name a task of the list, by its name or its number from 0 on",
     ),
     Refusal(
         17, LIST, details.third_section,

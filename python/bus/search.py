@@ -5,14 +5,11 @@ its end: what it comes to then, it comes to with any larger allowance too. Other
 and the time about how many tries it has made.
 """
 
-import ctypes
 import os
-import select
-import signal
 import struct
 import time
 
-from . import library
+from . import child, library
 
 # What the programs allow that plan a request from standard input: some hundredths of a second.
 TRIES = 10_000_000
@@ -21,60 +18,23 @@ TRIES = 10_000_000
 ENDED = 23
 
 SECONDS_BETWEEN_SIGNS = 1.0
-PARENT_DEATH_SIGNAL = 1  # PR_SET_PDEATHSIG of linux/prctl.h
 
 # The answer, the count of tries, and the seconds that the call took.
 HEAD = struct.Struct("<iQd")
 
 
-class SearchEnded(Exception):
-    """The search was ended from outside before it had an answer."""
-
-
-def _search(request, allowance, parent, writer):
-    """In the child: the library's answer into the pipe. It ends with its parent."""
-    signal.signal(signal.SIGINT, signal.SIG_DFL)
-    ctypes.CDLL(None).prctl(PARENT_DEATH_SIGNAL, signal.SIGKILL)
-    if os.getppid() == parent:
-        begin = time.monotonic()
-        answer, table, count = library.plan(request, allowance)
-        os.write(writer, HEAD.pack(answer, count, time.monotonic() - begin) + table)
-
-
-def _received(reader, tell):
-    """All that comes through the pipe; until then `tell` is called about once a second, with the seconds gone by."""
+def _search(request, allowance, writer):
+    """In the child: the library's answer into the pipe."""
     begin = time.monotonic()
-    received = b""
-    while True:
-        if tell is not None and not select.select([reader], [], [], SECONDS_BETWEEN_SIGNS)[0]:
-            tell(time.monotonic() - begin)
-            continue
-        piece = os.read(reader, 4096)
-        if not piece:
-            return received
-        received += piece
+    answer, table, count = library.plan(request, allowance)
+    os.write(writer, HEAD.pack(answer, count, time.monotonic() - begin) + table)
 
 
 def _in_child(request, allowance, tell):
     """The answer, the count of tries, the seconds that the call took, and the table's bytes."""
-    parent = os.getpid()
-    reader, writer = os.pipe()
-    child = os.fork()
-    if child == 0:
-        try:
-            _search(request, allowance, parent, writer)
-        finally:
-            os._exit(0)
-    try:
-        os.close(writer)
-        received = _received(reader, tell)
-    finally:
-        os.close(reader)
-        os.kill(child, signal.SIGKILL)
-        os.waitpid(child, 0)
-    if len(received) < HEAD.size:
-        raise SearchEnded("the search was ended from outside before it had an answer")
-    return *HEAD.unpack_from(received), received[HEAD.size :]
+    with child.started(lambda writer: _search(request, allowance, writer)) as reader:
+        came = child.received(reader, SECONDS_BETWEEN_SIGNS, tell and (lambda seconds, _: tell(seconds)))
+    return *HEAD.unpack_from(child.wholly(came, HEAD.size)), came[HEAD.size :]
 
 
 def plan(request, allowance=TRIES, tell=None):

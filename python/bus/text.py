@@ -1,5 +1,5 @@
-"""What the command prints, with names: a table's listing, its flight, its bytes in C, a frame with unused time, and how
-far apart starts can be."""
+"""What the command prints, with names: a table's listing, its flight, its bytes in C, a frame with unused time, how
+far apart starts can be, and which phases fit."""
 
 import re
 
@@ -65,6 +65,42 @@ def spacings(records):
         lines.append((quoted(one.name), any_table, this_table))
     first, second = (max(len(line[column]) for line in lines) for column in (0, 1))
     return "".join(f"{name:{first}}  {bound:{second}}  {here}\n" for name, bound, here in lines)
+
+
+def answer_word(answer):
+    """What planning a phase comes to, 0 being a table."""
+    return f"refused {answer}" if answer else "table"
+
+
+def answer_words(answer, tries):
+    """The same with the reason, where so many tries were allowed."""
+    reasons = {
+        9: ", no frame length is plausible",
+        10: ", some frame length is plausible, but there is no plan",
+        23: f", more than {tries:,} tries are needed",
+    }
+    return answer_word(answer) + reasons.get(answer, "")
+
+
+def phase_range(run):
+    """The phases of a run."""
+    return str(run.first) if run.first == run.last else f"{run.first} to {run.last}"
+
+
+def phase_lines(request, found):
+    """How many phases of a task come to each answer, and below the names of the columns a line for each run."""
+    task = request.tasks[found.task]
+    wide = len(str(task.period))
+    lines = [f"{quoted(task.name)}: {task.period} {'phase' if task.period == 1 else 'phases'}, its own is {task.phase}"]
+    lines += [f"{count:{wide}}  {answer_words(answer, found.tries)}" for answer, count in found.counts.items()]
+    ranges = ["phases", *map(phase_range, found.runs)]
+    answers = ["answer"]
+    for run in found.runs:
+        own = ", its own phase" if run.first <= task.phase <= run.last else ""
+        answers.append(f"{answer_word(run.answer)}{own}")
+    first = max(map(len, ranges))
+    lines += [f"{phases:{first}}  {answer}" for phases, answer in zip(ranges, answers)]
+    return "\n".join(lines) + "\n"
 
 
 def is_c_name(name):

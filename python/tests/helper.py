@@ -1,12 +1,20 @@
 """What several test files share."""
 
+import fcntl
+import io
 import os
+import pty
 import random
+import re
+import signal
+import struct
 import subprocess
 import sys
 import tempfile
+import termios
 import unittest
 from pathlib import Path
+from unittest import mock
 
 import bus
 
@@ -116,3 +124,85 @@ class Case(unittest.TestCase):
 
     def names_in_folder(self):
         return sorted(os.listdir(self.folder))
+
+
+def running(pid):
+    """Whether the process is there and not just a remainder."""
+    try:
+        with open(f"/proc/{pid}/stat", encoding="ascii", errors="replace") as file:
+            return file.read().rsplit(")", 1)[1].split()[0] != "Z"
+    except OSError:
+        return False
+
+
+def as_from_a_terminal():
+    """A process that a shell starts in the background ignores Ctrl-C, and what it starts does too."""
+    signal.signal(signal.SIGINT, signal.SIG_DFL)
+
+
+def children(pid):
+    with open(f"/proc/{pid}/task/{pid}/children", encoding="ascii") as file:
+        return [int(word) for word in file.read().split()]
+
+
+class Screen(io.StringIO):
+    """What is written to a terminal of so many columns: the line that is seen after each writing."""
+
+    def __init__(self, columns=80):
+        super().__init__()
+        self.columns = columns
+        self.seen = []
+
+    def isatty(self):
+        return True
+
+    def fileno(self):
+        return 2
+
+    def flush(self):
+        shown = ""
+        for part in self.getvalue().split("\r"):
+            shown = part + shown[len(part) :]
+        self.seen.append(shown.rstrip(" "))
+
+
+def with_this_terminal():
+    """The terminal that is standard error sends its Ctrl-C to the process."""
+    as_from_a_terminal()
+    fcntl.ioctl(2, termios.TIOCSCTTY, 0)
+
+
+class Terminal(Case):
+    """What is told to a person at a terminal."""
+
+    def seen(self, columns, signs, told):
+        """The lines that are seen, one after the other, when these signs are told so."""
+        screen = Screen(columns)
+        size = mock.patch.object(os, "get_terminal_size", lambda _: os.terminal_size((columns, 24)))
+        with size, mock.patch.object(sys, "stderr", screen), signs() as telling:
+            for arguments in told:
+                telling(*arguments)
+        return screen.seen
+
+    def on_a_terminal(self, *words):
+        """The command with a terminal as its standard error; the process and the terminal's other end."""
+        ours, theirs = pty.openpty()
+        fcntl.ioctl(theirs, termios.TIOCSWINSZ, struct.pack("4H", 24, 200, 0, 0))
+        command = [*COMMAND, *map(str, words)]
+        pipes = {"stdin": subprocess.DEVNULL, "stdout": subprocess.PIPE, "stderr": theirs}
+        started = subprocess.Popen(command, **pipes, start_new_session=True, preexec_fn=with_this_terminal)
+        os.close(theirs)
+        self.addCleanup(os.close, ours)
+        self.addCleanup(started.communicate)
+        self.addCleanup(started.kill)
+        return started, ours
+
+    def read(self, terminal, wanted=None):
+        """What comes from the terminal, until it ends or the wanted pattern is there."""
+        received = ""
+        while wanted is None or not re.search(wanted, received):
+            try:
+                received += os.read(terminal, 4096).decode()
+            except OSError:
+                break
+        return received

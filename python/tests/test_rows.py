@@ -74,7 +74,7 @@ class Refusals(Case):
     def test_rows_are_those_of_the_papers(self):
         """Every number of MODEL.md's table has one row, and no other has; so it is with the header's list."""
         text = (ROOT / "docs" / "MODEL.md").read_text(encoding="utf-8").split("## 8. Refusals", 1)[1].split("\n## ")[0]
-        model = [int(number) for number in re.findall(r"^\| [\w -]*\| (\d+) \|", text, re.MULTILINE)]
+        model = [int(number) for number in re.findall(r"^\| [\w ,-]*\| (\d+) \|", text, re.MULTILINE)]
         header = re.findall(r"^ \* +(\d+)  ", HEADER.split("The refusal numbers:")[1], re.MULTILINE)
         rows = [row.number for row in refusals.ROWS]
         self.assertEqual(sorted(rows), sorted(model))
@@ -99,6 +99,7 @@ class Refusals(Case):
             12: lambda: sources.table_in(b""),
             13: lambda: bus.check(request((1, 40, 40, 0)), table),
             14: lambda: bus.rewrite(one, bus.Table(table.frame, table.cycle, ((),))),
+            16: lambda: bus.phases(one, 1),
             17: lambda: sources.request_in(p1 + b"\x02"),
             18: lambda: bus.join(request(*[TASK] * 9), request(*[TASK] * 8)),
             19: lambda: bus.join(*[request(TASK, TASK, pairs=[(0, 1)] * 9)] * 2),

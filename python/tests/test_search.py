@@ -7,26 +7,7 @@ import time
 
 import bus
 from bus.library import MOST_TRIES
-from tests.helper import COMMAND, Case, pigeons
-
-
-def running(pid):
-    """Whether the process is there and not just a remainder."""
-    try:
-        with open(f"/proc/{pid}/stat", encoding="ascii", errors="replace") as file:
-            return file.read().rsplit(")", 1)[1].split()[0] != "Z"
-    except OSError:
-        return False
-
-
-def as_from_a_terminal():
-    """A process that a shell starts in the background ignores Ctrl-C, and what it starts does too."""
-    signal.signal(signal.SIGINT, signal.SIG_DFL)
-
-
-def children(pid):
-    with open(f"/proc/{pid}/task/{pid}/children", encoding="ascii") as file:
-        return [int(word) for word in file.read().split()]
+from tests.helper import COMMAND, Case, as_from_a_terminal, children, pigeons, running
 
 
 class Searches(Case):

@@ -1,21 +1,15 @@
 """The limit on tries: answers and counts beside the second implementation's, words, and signs of a long search."""
 
-import fcntl
-import io
 import os
-import pty
 import re
 import signal
-import struct
 import subprocess
-import termios
 import time
 from unittest import mock
 
 import bus
 from bus import details, library, progress, search
-from tests.helper import COMMAND, EXAMPLES, Case, pigeons, request, stored, unhex
-from tests.test_search import as_from_a_terminal
+from tests.helper import COMMAND, EXAMPLES, Case, Terminal, as_from_a_terminal, pigeons, request, stored, unhex
 
 LONG, LAST = EXAMPLES / "long-search.req", EXAMPLES / "last-try.req"
 WITHOUT_END = 10**15
@@ -126,41 +120,9 @@ class Words(Case):
         self.failed(2, "fly", EXAMPLES / "p1.req", table, "--tries", "9", says=["with a table nothing is searched"])
 
 
-class Screen(io.StringIO):
-    """What is written to a terminal of so many columns: the line that is seen after each writing."""
-
-    def __init__(self, columns=80):
-        super().__init__()
-        self.columns = columns
-        self.seen = []
-
-    def isatty(self):
-        return True
-
-    def fileno(self):
-        return 2
-
-    def flush(self):
-        shown = ""
-        for part in self.getvalue().split("\r"):
-            shown = part + shown[len(part) :]
-        self.seen.append(shown.rstrip(" "))
-
-
-def with_this_terminal():
-    """The terminal that is standard error sends its Ctrl-C to the process."""
-    as_from_a_terminal()
-    fcntl.ioctl(2, termios.TIOCSCTTY, 0)
-
-
-class Signs(Case):
+class Signs(Terminal):
     def told(self, columns, allowance, used):
-        screen = Screen(columns)
-        size = mock.patch.object(os, "get_terminal_size", lambda _: os.terminal_size((columns, 24)))
-        with size, mock.patch.object(progress.sys, "stderr", screen), progress.Progress(allowance) as told:
-            for number in used:
-                told(number)
-        return screen.seen
+        return self.seen(columns, lambda: progress.Progress(allowance), [(number,) for number in used])
 
     def test_line(self):
         """Each line takes the place of the one before, whichever is longer, and none is left."""
@@ -181,29 +143,6 @@ class Signs(Case):
             for line in self.told(columns, library.MOST_TRIES, [None, 10**9, None]):
                 self.assertLess(len(line), columns)
         self.assertEqual(len(self.told(0, library.MOST_TRIES, [10**9])[0]), 79)
-
-    def on_a_terminal(self, *words):
-        """The command with a terminal as its standard error; the process and the terminal's other end."""
-        ours, theirs = pty.openpty()
-        fcntl.ioctl(theirs, termios.TIOCSWINSZ, struct.pack("4H", 24, 200, 0, 0))
-        command = [*COMMAND, *map(str, words)]
-        pipes = {"stdin": subprocess.DEVNULL, "stdout": subprocess.PIPE, "stderr": theirs}
-        started = subprocess.Popen(command, **pipes, start_new_session=True, preexec_fn=with_this_terminal)
-        os.close(theirs)
-        self.addCleanup(os.close, ours)
-        self.addCleanup(started.communicate)
-        self.addCleanup(started.kill)
-        return started, ours
-
-    def read(self, terminal, wanted=None):
-        """What comes from the terminal, until it ends or the wanted pattern is there."""
-        received = ""
-        while wanted is None or not re.search(wanted, received):
-            try:
-                received += os.read(terminal, 4096).decode()
-            except OSError:
-                break
-        return received
 
     def numbers(self, received):
         found = re.findall(r"\rbus: searching for a plan, about ([\d,]+) of ([\d,]+) tries used", received)

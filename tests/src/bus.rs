@@ -24,6 +24,9 @@ pub const DRAFT_LEN: usize = 770;
 /// Refusal of a state, entries, tries or draft buffer that is too short, or of a mark that is not 0 or 1.
 pub const BAD_BUFFER: i32 = 99;
 
+/// Bytes of the four counts of phases.
+pub const COUNTS_LEN: usize = 8;
+
 /// Where the count of a task stands in a state.
 pub fn count_bytes(task: usize) -> Range<usize> {
     3 + 2 * task..5 + 2 * task
@@ -35,6 +38,13 @@ pub fn counts(state: &[u8]) -> [u16; TASKS] {
         let two = &state[count_bytes(task)];
         u16::from_le_bytes([two[0], two[1]])
     })
+}
+
+/// Puts the four counts of phases, to a table, 9, 10 and 23, to the front of their buffer.
+pub fn put_counts(four: [u16; 4], bytes: &mut [u8]) {
+    for (place, count) in four.iter().enumerate() {
+        bytes[2 * place..2 * place + 2].copy_from_slice(&count.to_le_bytes());
+    }
 }
 
 /// Where the count stands of the task that the call names.

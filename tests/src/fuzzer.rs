@@ -10,8 +10,10 @@ use crate::random::Random;
 use crate::reference::cut::Cut;
 use crate::reference::draft::Draft;
 use crate::reference::one_off::Asked;
+use crate::reference::phases::Shift;
 use crate::reference::table::encode;
 use crate::reference::{planned_within, read_cycle, tries_within};
+use crate::rounds::phases;
 use crate::rounds::planning::allowances;
 use crate::rounds::{cutting, drafting, joining, one_off};
 use crate::row::Kind;
@@ -64,6 +66,7 @@ struct Drawn {
     fitting: bool,
     requests: Vec<Vec<u8>>,
     table: Vec<u8>,
+    shift: Option<Shift>,
     asked: Option<Asked>,
     cut: Option<Cut>,
     draft: Option<Draft>,
@@ -235,6 +238,22 @@ impl Fuzzer {
             Some(_) => self.rng.draw(),
             None => self.rng.below(MOST_TRIES as usize) as u64,
         }
+    }
+
+    /// A task to be shifted and an allowance, drawn about the request.
+    fn shift(&mut self) -> Shift {
+        let drawn = &mut self.drawn;
+        *drawn
+            .shift
+            .get_or_insert_with(|| phases::some_shift(&mut self.rng, &drawn.requests[0]))
+    }
+
+    pub fn task_to_shift(&mut self) -> u64 {
+        self.shift().task.into()
+    }
+
+    pub fn allowance_of_phases(&mut self) -> u64 {
+        self.shift().allowance
     }
 
     pub fn task(&mut self) -> u64 {

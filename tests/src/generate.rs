@@ -149,6 +149,12 @@ fn loose(rng: &mut Random) -> Request {
     Request { tasks, pairs, g }
 }
 
+/// The bytes of a request of small tasks; many are refused with 7 or 8.
+pub fn loose_bytes(rng: &mut Random) -> Vec<u8> {
+    let request = loose(rng);
+    written(rng, &request)
+}
+
 fn plain_task(c: i64, t: i64, d: i64, p: i64) -> Task {
     Task { c, t, d, p }
 }
@@ -277,6 +283,53 @@ pub fn crowded_bytes(rng: &mut Random) -> Vec<u8> {
     written(rng, &request)
 }
 
+/// A task of period t and any phase. It takes up to a part of its period; often its deadline is the period.
+fn loose_task(rng: &mut Random, t: i64, part: i64) -> Task {
+    let c = rng.between(1, (t / part).max(1));
+    let d = match rng.below(3) {
+        0 => t,
+        1 => rng.between((c + t) / 2, t),
+        _ => rng.between(c, t),
+    };
+    plain_task(c, t, d, rng.between(0, t - 1))
+}
+
+/// A few tasks of short periods: over the phases of one of them the answers of planning differ.
+fn short_request(rng: &mut Random) -> Request {
+    let base = rng.pick(&[2, 3, 4, 5, 6, 8, 9, 10, 12, 16]);
+    let count = rng.between(1, 5);
+    let tasks: Vec<Task> = (0..count)
+        .map(|_| {
+            let times = rng.pick(&[1, 1, 1, 2, 2, 3]);
+            let part = rng.pick(&[2, 3, 4]);
+            loose_task(rng, base * times, part)
+        })
+        .collect();
+    let pairs = pairs(rng, &tasks);
+    let g = if rng.chance(70) { 0 } else { rng.between(1, 3) };
+    Request { tasks, pairs, g }
+}
+
+/// The bytes of a request with a few tasks of short periods.
+pub fn short_bytes(rng: &mut Random) -> Vec<u8> {
+    let request = short_request(rng);
+    written(rng, &request)
+}
+
+/// The bytes of a request of up to three tasks with one long period, which has more than 255 phases.
+pub fn lone_bytes(rng: &mut Random) -> Vec<u8> {
+    let t = rng.between(257, 400);
+    let count = rng.between(1, 3);
+    let tasks: Vec<Task> = (0..count)
+        .map(|_| {
+            let part = rng.pick(&[1, 2, t]);
+            loose_task(rng, t, part)
+        })
+        .collect();
+    let pairs = pairs(rng, &tasks);
+    written(rng, &Request { tasks, pairs, g: 0 })
+}
+
 /// Bytes of any content, now and then beginning like a request or a table.
 pub fn noise(rng: &mut Random) -> Vec<u8> {
     let longest = rng.pick(&[3, 12, 40, 170, 400]);
@@ -354,7 +407,7 @@ pub fn damage(rng: &mut Random, bytes: &mut Vec<u8>) {
 }
 
 /// A request with one field, count, pair or its third section made wrong, and all else kept.
-fn damage_a_field(rng: &mut Random, bytes: &mut Vec<u8>) {
+pub fn damage_a_field(rng: &mut Random, bytes: &mut Vec<u8>) {
     let n = usize::from(bytes[0]);
     let pair_count_at = 1 + 8 * n;
     let pairs_end = pair_count_at + 1 + 2 * usize::from(bytes[pair_count_at]);

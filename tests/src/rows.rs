@@ -21,6 +21,15 @@ macro_rules! every_call {
                 tries: write(|fuzzer| fuzzer.about(TRIES_LEN), Change::Always(TRIES_LEN)),
             ) refuses [99, 1, 2, 3, 4, 5, 17, 6, 7, 8, 9, 23, 10, 11];
 
+            /// 0, with four counts of phases of the task in the first 8 bytes: how many lead, with so many
+            /// tries allowed for each, to a table, to 9, to 10 and to 23.
+            phases(
+                request: read(Fuzzer::request),
+                task: u8(Fuzzer::task_to_shift),
+                allowance: u64(Fuzzer::allowance_of_phases),
+                counts: write(|fuzzer| fuzzer.about(COUNTS_LEN), Change::First(COUNTS_LEN)),
+            ) refuses [99, 1, 2, 3, 4, 5, 17, 6, 7, 8, 16];
+
             /// 0 if the table describes a plan of the request.
             check(
                 request: read(Fuzzer::request),

@@ -90,6 +90,14 @@ pub fn pigeons(count: usize, holes: i64, g: i64) -> Vec<u8> {
     silent_request(&tasks, &[], g)
 }
 
+/// 16 short tasks of the longest period, all with one deadline and released one after the other. Each
+/// phase of one of them takes a few tries.
+pub fn long_periods(deadline: i64) -> Vec<u8> {
+    let task = |i: i64| (4 + i, 10_000, deadline, 600 * i);
+    let tasks: Vec<Short> = (0..16).map(task).collect();
+    request(&tasks, &[])
+}
+
 /// P12 with T 10001.
 pub fn p12_long() -> Vec<u8> {
     request(&[(1, 10_001, 10_000, 0)], &[])

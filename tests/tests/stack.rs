@@ -1,7 +1,7 @@
 //! Every call in a thread with a stack of 256 KiB; an overflow ends the whole run.
 #![cfg(feature = "linked")]
 
-use bus_tests::bus::{DRAFT_LEN, ENTRIES_LEN, STATE_LEN, TRIES_LEN};
+use bus_tests::bus::{COUNTS_LEN, DRAFT_LEN, ENTRIES_LEN, STATE_LEN, TRIES_LEN};
 use bus_tests::call::{Call, Outcome};
 use bus_tests::compare::expected;
 use bus_tests::comparison::Comparison;
@@ -53,6 +53,7 @@ impl Calls {
         let room = vec![0; table.len()];
         self.add(&Call::plan(request, u64::MAX, &room, &[0; TRIES_LEN]))?;
         self.add(&Call::plan(request, full - 1, &room, &[0; TRIES_LEN]))?;
+        self.add(&Call::phases(request, 0, full, &[0; COUNTS_LEN]))?;
         self.add(&Call::check(request, &table))?;
         self.add(&Call::rewrite(request, &table, &room))?;
         self.add(&Call::join(request, &sheet::p1(), &[0; 164]))?;

@@ -8,6 +8,7 @@ pub mod StateLaws
 -- requests
 pub mod Join
 pub mod Cut
+pub mod Phases
 -- tables
 pub mod Plan
 pub mod Check

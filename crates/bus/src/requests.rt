@@ -1,9 +1,14 @@
 // The calls on requests.
 use crate::reply::refusal;
 use crate::reply::value;
+use phases::PhaseCounts;
 ghost use mathlib.Core.Path.{_≡_};
+ghost use Prim.Native.Nat.{_≤_};
+ghost use mathlib.Core.List.{_++_};
+ghost use lib.ListN.{length, drop};
 ghost use Rattle.bus.specs.Join.{joinReply, joinBuffer};
 ghost use Rattle.bus.specs.Cut.{cutReply, cutBuffer};
+ghost use Rattle.bus.specs.Phases.{countsBytes, phasesReply, phasesCounts};
 
 // The request of the two joined, written into `out`: its length, or 1 to 6, 17 to 20 or 11 negated.
 #[no_mangle]
@@ -29,4 +34,33 @@ pub extern "C" fn bus_cut(request: &[u8], task: u8, first: u16, out: &mut [u8]) 
         return refusal(written.refusal);
     }
     value(written.length)
+}
+
+// The first 8 bytes get the four counts; those behind them are left alone.
+fn write_phases(counts: &mut [u8], found: PhaseCounts)
+    requires { ⌜ 8 ≤ length (now counts) ⌝ }
+    ensures { λ r. ⌜ now (counts .exit) ≡ countsBytes found ++ drop 8 (now (counts .entry)) ⌝ }
+{
+    cursor::put_word(counts, 0, found.tables);
+    cursor::put_word(counts, 2, found.nines);
+    cursor::put_word(counts, 4, found.tens);
+    cursor::put_word(counts, 6, found.ended);
+}
+
+// How many phases of a task lead to a table, to 9, to 10 and to 23, as four u16 in the first 8 bytes of `counts`: 0, or 99, 1 to 8, 17 or 16 negated and
+// nothing changed.
+#[no_mangle]
+pub extern "C" fn bus_phases(request: &[u8], task: u8, allowance: u64, counts: &mut [u8]) -> i32
+    ensures { λ r. ⌜ (r ≡ phasesReply allowance (now (request .entry)) task (now (counts .entry)))
+        × (now (counts .exit) ≡ phasesCounts allowance (now (request .entry)) task (now (counts .entry))) ⌝ }
+{
+    if counts.len() < 8 {
+        return refusal(99);
+    }
+    let found = phases::phases(request, task, allowance);
+    if found.refusal != 0 {
+        return refusal(found.refusal);
+    }
+    write_phases(counts, found);
+    0
 }

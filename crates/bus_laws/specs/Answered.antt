@@ -20,7 +20,7 @@ use Rattle.bus.specs.Dispatch.{freshReply}
 use Rattle.bus.specs.DispatchLaws.{fresh-refused}
 use Rattle.bus.specs.Plan.{planReply, planBuffer, no-count}
 
-not-refused : (k n : ℕ) → refused (suc k) ≡ pos n → ⊥
+pub not-refused : (k n : ℕ) → refused (suc k) ≡ pos n → ⊥
 not-refused k n e = never (cc)
 
 pub reply-told : (number value n : ℕ) → reply number value ≡ pos n → (number ≡ 0) × (value ≡ n)

@@ -8,3 +8,5 @@ pub mod Changed
 pub mod Tries
 -- what answers from 0 on say, and what is planned passes the check
 pub mod Answered
+-- the bytes of the counts of phases give them back
+pub mod PhaseCounts

@@ -29,11 +29,15 @@ def add_table(parser):
     parser.add_argument("table", metavar="TABLE", help="a table file")
 
 
+def add_task(parser):
+    parser.add_argument("task", metavar="TASK", help="the transfer: its name, or its number from 0 on")
+
+
 def add_output(parser, metavar, help):
     parser.add_argument("-o", dest="output", metavar=metavar, help=help)
 
 
-def add_tries(parser, default=None):
-    allowed = f"how many tries the search may make ({search.TRIES})"
+def add_tries(parser, default=None, of="the search"):
+    allowed = f"how many tries {of} may make ({search.TRIES})"
     kind = whole_number(0, library.MOST_TRIES)
     parser.add_argument("--tries", metavar="N", type=kind, default=default, help=allowed)

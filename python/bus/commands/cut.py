@@ -2,7 +2,7 @@
 
 from .. import library
 from ..cut import cut
-from .arguments import add_list, add_output, whole_number
+from .arguments import add_list, add_output, add_task, whole_number
 from .steps import is_list, look_ahead, say, write_request
 
 NAME = "cut"
@@ -14,7 +14,7 @@ EXAMPLE = """\
 
 def arguments(parser):
     add_list(parser)
-    parser.add_argument("task", metavar="TASK", help="the transfer: its name, or its number from 0 on")
+    add_task(parser)
     ticks = whole_number(0, library.MOST_LENGTH)
     parser.add_argument("--first", metavar="U", type=ticks, required=True, help="the ticks of the first piece")
     add_output(parser, "OUT", "write a list if OUT ends in .csv, else a request file")

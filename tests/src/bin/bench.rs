@@ -5,10 +5,11 @@
 
 use std::hint::black_box;
 
-use bus_tests::bus::{Bus, ENTRIES_LEN, STATE_LEN, TRIES_LEN};
+use bus_tests::bus::{put_counts, Bus, COUNTS_LEN, ENTRIES_LEN, STATE_LEN, TRIES_LEN};
 use bus_tests::hard;
 use bus_tests::library::Library;
 use bus_tests::plain::{self, Effort};
+use bus_tests::reference::phases::{counts, with_phase};
 use bus_tests::reference::{read_cycle, table};
 use bus_tests::sheet::{self, pigeons, request, Short};
 use bus_tests::timing::{least, measure, median, quantile, Turns};
@@ -16,10 +17,11 @@ use bus_tests::timing::{least, measure, median, quantile, Turns};
 /// More than the longest table.
 const TABLE_LEN: usize = 600;
 
-/// Turns of most calls, of a hard request, and of the longest search.
+/// Turns of most calls, of a hard request, of the longest search, and of ten thousand phases.
 const TURNS: usize = 40;
 const TURNS_OF_HARD: usize = 10;
 const TURNS_OF_LONGEST: usize = 12;
+const TURNS_OF_PHASES: usize = 12;
 
 const LEGEND: &str = "\
 In each turn both sides are timed once, by turns the library first and the other first, in
@@ -311,11 +313,12 @@ fn print_searches(other: Other, by_hand: &[Search], hard: &[Search]) -> Figures 
 
 const MOST_TIMES_C: f64 = 1.2;
 const LEAST_MILLIONS: f64 = 150.0;
+const MOST_SECONDS_OF_PHASES: f64 = 2.0;
 
-fn print_budgets(beside_c: &Figures) {
+fn print_budgets(beside_c: &Figures, phases: f64) {
     let met = |holds: bool| if holds { "met" } else { "not met" };
     let Figures { ratio, slowest } = beside_c;
-    println!("\nBudgets of the search");
+    println!("\nBudgets");
     println!(
         "at most {MOST_TIMES_C:.2} times C over all with seeds, least times: {ratio:.2}, {}",
         met(*ratio <= MOST_TIMES_C)
@@ -324,16 +327,38 @@ fn print_budgets(beside_c: &Figures) {
         "at least {LEAST_MILLIONS:.0} million tries a second with every request: {slowest:.0}, {}",
         met(*slowest >= LEAST_MILLIONS)
     );
+    println!(
+        "at most {MOST_SECONDS_OF_PHASES:.2} s for 10,000 phases of 16 tasks: {phases:.3} s, {}",
+        met(phases <= MOST_SECONDS_OF_PHASES)
+    );
 }
 
 const CALL_WIDTHS: [usize; 7] = [40, 5, 10, 8, 5, 6, 12];
 
-fn print_call(name: &str, times: &Turns) {
+/// A unit of time: its name, and how many of it a second has.
+type Unit = (&'static str, f64);
+
+const MICROSECONDS: Unit = ("us", 1e6);
+const MILLISECONDS: Unit = ("ms", 1e3);
+
+fn print_call_header(title: &str, (unit, _): Unit) {
+    println!("\n{title}, beside Rust");
+    let mut header = cells(&["call", "turns"]);
+    header.extend([format!("library {unit}"), format!("Rust {unit}")]);
+    header.extend(cells(&["ratio", "median", "quartiles"]));
+    print_row(&CALL_WIDTHS, &header);
+}
+
+fn print_call_in((_, each): Unit, name: &str, times: &Turns) {
     let mut row = cells(&[name, &times.library.len().to_string()]);
-    row.push(format!("{:.3}", least(&times.library) * 1e6));
-    row.push(format!("{:.3}", least(&times.other) * 1e6));
+    row.push(format!("{:.3}", least(&times.library) * each));
+    row.push(format!("{:.3}", least(&times.other) * each));
     row.extend(ratio_cells(times));
     print_row(&CALL_WIDTHS, &row);
+}
+
+fn print_call(name: &str, times: &Turns) {
+    print_call_in(MICROSECONDS, name, times);
 }
 
 fn time_plan(name: &str, request: &[u8]) {
@@ -429,6 +454,36 @@ fn time_next_frame(name: &str, request: &[u8]) {
     print_call(&format!("next_frame: {name}"), &times);
 }
 
+/// The phases of a task counted by plain Rust: each is planned.
+fn phases_in_rust(request: &[u8], task: usize, period: i64, allowance: u64, out: &mut [u8]) -> i32 {
+    let end = |phase: i64| {
+        let (bytes, mut table) = (with_phase(request, task, phase), [0; TABLE_LEN]);
+        -plain::plan(&bytes, allowance, &mut table, &mut [0; TRIES_LEN]).min(0)
+    };
+    let ends: Vec<i32> = (0..period).map(end).collect();
+    put_counts(counts(&ends), out);
+    0
+}
+
+/// Allowed for each phase that is counted here, which takes 16 at most.
+const TRIES_OF_A_PHASE: u64 = 16;
+
+/// 16 tasks of the longest period; the least seconds of the library.
+fn time_phases(name: &str, request: &[u8]) -> f64 {
+    let (mut library, mut rust) = ([0; COUNTS_LEN], [0; COUNTS_LEN]);
+    let by_rust = |out: &mut [u8]| phases_in_rust(request, 3, 10_000, TRIES_OF_A_PHASE, out);
+    let answer = Library.phases(request, 3, TRIES_OF_A_PHASE, &mut library);
+    assert_eq!((answer, by_rust(&mut rust)), (0, 0), "phases, {name}");
+    assert_eq!(library, rust, "phases, {name}");
+    let times = measure(
+        TURNS_OF_PHASES,
+        &mut || Library.phases(black_box(request), 3, TRIES_OF_A_PHASE, &mut library),
+        &mut || by_rust(&mut rust),
+    );
+    print_call_in(MILLISECONDS, &format!("phases: {name}"), &times);
+    least(&times.library)
+}
+
 /// The longest table that there is: 128 jobs in 256 rows.
 fn longest_table() -> Vec<u8> {
     let tasks = [
@@ -445,10 +500,7 @@ fn longest_table() -> Vec<u8> {
 }
 
 fn print_calls() {
-    println!("\nShort calls, beside Rust");
-    let header = ["call", "turns", "library us", "Rust us"];
-    let ratios = ["ratio", "median", "quartiles"];
-    print_row(&CALL_WIDTHS, &cells(&[&header[..], &ratios[..]].concat()));
+    print_call_header("Short calls", MICROSECONDS);
     time_plan("P3, 4 tasks, 1 pair", &sheet::p3());
     time_plan("P5, no plan", &sheet::p5());
     time_plan("P9, 1 job, 256 rows", &sheet::p9());
@@ -462,6 +514,14 @@ fn print_calls() {
     time_next_frame("128 jobs, 256 rows", &longest_table());
 }
 
+/// The least seconds of the longer of the two.
+fn print_phases() -> f64 {
+    print_call_header("10,000 phases of 16 tasks", MILLISECONDS);
+    let roomy = time_phases("deadline 10,000", &sheet::long_periods(10_000));
+    let tight = time_phases("deadline 60", &sheet::long_periods(60));
+    roomy.max(tight)
+}
+
 fn main() {
     println!("{LEGEND}");
     let by_hand = searches_by_hand();
@@ -469,5 +529,6 @@ fn main() {
     let beside_c = print_searches(IN_C, &by_hand, &hard);
     print_searches(IN_RUST, &by_hand, &hard);
     print_calls();
-    print_budgets(&beside_c);
+    let phases = print_phases();
+    print_budgets(&beside_c, phases);
 }

@@ -5,9 +5,11 @@ use super::dispatch::{self, State};
 use super::draft::{self, Draft};
 use super::join::joined;
 use super::one_off::{earliest, Asked};
+use super::phases::{self, Shift};
 use super::table::{decode, encode, Entry};
 use super::{checked, planned_within, request};
 use crate::bus::{count_bytes, counts, BAD_BUFFER, DRAFT_LEN, ENTRIES_LEN, STATE_LEN, TRIES_LEN};
+use crate::bus::{put_counts, COUNTS_LEN};
 
 type Answer = Result<i32, i32>;
 
@@ -33,6 +35,13 @@ pub fn plan(request: &[u8], allowance: u64, out: &mut [u8], tries: &mut [u8]) ->
     let (chosen, count) = planned_within(request, allowance);
     tries[..TRIES_LEN].copy_from_slice(&count.to_le_bytes());
     write_out(&encode(&chosen?), out)
+}
+
+pub fn phases(request: &[u8], task: u8, allowance: u64, counts: &mut [u8]) -> Answer {
+    lent(counts, COUNTS_LEN)?;
+    let ends = phases::ends(request, Shift { task, allowance })?;
+    put_counts(phases::counts(&ends), counts);
+    Ok(0)
 }
 
 pub fn check(request: &[u8], table: &[u8]) -> Answer {

@@ -11,6 +11,7 @@ pub mod join;
 pub mod listing;
 pub mod model;
 pub mod one_off;
+pub mod phases;
 pub mod printed;
 pub mod request;
 pub mod search;

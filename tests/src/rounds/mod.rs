@@ -4,15 +4,17 @@ pub mod cutting;
 pub mod drafting;
 pub mod joining;
 pub mod one_off;
+pub mod phases;
 pub mod planning;
 
 use crate::comparison::Round;
 
 /// All kinds of rounds, for those who make every one.
-pub const ALL: [Round; 5] = [
+pub const ALL: [Round; 6] = [
     planning::round,
     joining::round,
     one_off::round,
     cutting::round,
     drafting::round,
+    phases::round,
 ];

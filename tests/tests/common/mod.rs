@@ -2,6 +2,7 @@
 #![allow(dead_code)]
 
 pub mod drafts;
+pub mod phases;
 
 use std::fs;
 use std::io::{stdout, Write};
