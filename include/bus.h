@@ -1,7 +1,7 @@
 /*
  * The bus table library: joining and cutting requests, planning, checking and dispatching a table
- * for the bus controller, finding time for a one-off transfer beside it, moving its jobs by hand, and
- * counting the phases of a task that still fit.
+ * for the bus controller, the registers of its timer, finding time for a one-off transfer, moving jobs
+ * by hand, and counting the phases of a task that still fit.
  *
  * All times are whole ticks. A u16 in a file, a state or a draft is two bytes, low byte first.
  *
@@ -24,8 +24,9 @@
 extern "C" {
 #endif
 
-/* The bytes of a state, of the entries of a frame, of a count of tries, of the counts of phases. */
+/* The bytes of a state, of a timer, of the entries of a frame, of a count of tries, of the counts of phases. */
 #define BUS_STATE_BYTES 64
+#define BUS_TIMER_BYTES 72
 #define BUS_ENTRIES_BYTES 32
 #define BUS_TRIES_BYTES 8
 #define BUS_PHASES_BYTES 8
@@ -44,8 +45,8 @@ extern "C" {
 #define BUS_LIFTED 65535
 
 /*
- * A state, entries, tries, draft or counts buffer that is too short, or a state whose mark is neither
- * 0 nor 1.
+ * A state, timer, entries, tries, draft or counts buffer that is too short, or bytes that are no state
+ * or no timer.
  */
 #define BUS_BAD_BUFFER 99
 
@@ -152,6 +153,104 @@ int32_t bus_next_frame(const uint8_t *table, size_t table_len, uint8_t *state, s
  */
 int32_t bus_report(const uint8_t *request, size_t request_len, uint8_t task, uint32_t ticks,
                    uint8_t *state, size_t state_len);
+
+/*
+ * The bus timer shows the dispatcher as eight registers, each a byte at an address:
+ *
+ *   0        control: bit 0 run, bit 1 interrupt enable
+ *   1        status: bit 0 frame due, bit 1 overrun, bit 2 frame missed; writing a 1 clears bit 1 or
+ *            bit 2, and bit 0 ignores writes
+ *   2 and 3  the row that is served next
+ *   4 and 5  the smaller of 65,535 and the sum of all tasks' overruns
+ *   6 and 7  0
+ *
+ * Bits without a name read 0, and bytes 2 to 7 ignore writes. A timer stands in 72 bytes that the
+ * caller lends:
+ *
+ *   bytes 0 to 63   the dispatcher's state, as for bus_fresh; bus_overruns reads it
+ *   byte 64         control, at most 3
+ *   byte 65         status, at most 7
+ *   bytes 66 to 71  kept free; bus_timer_fresh sets them to 0, the other calls neither read nor change
+ *                   them
+ *
+ * Every call refuses with 99, before every other number, a buffer of fewer than 72 bytes or bytes that
+ * are no timer: a mark above 1, control above 3 or status above 7. Bytes behind the first 72 of a
+ * longer buffer are never read or changed.
+ *
+ * If run is set before the first timer event and stays set, and each event is followed by its serving
+ * before any other event, a table flies as it does by bus_next_frame: frame m, counted from 0, starts
+ * with its event, at tick m * f. examples/interrupt.c is an interrupt routine that serves frames.
+ */
+
+/* The addresses of the registers, and the bits of control and of status. */
+#define BUS_TIMER_CONTROL 0
+#define BUS_TIMER_STATUS 1
+#define BUS_TIMER_ROW 2
+#define BUS_TIMER_SUM 4
+
+#define BUS_TIMER_RUN 0x01
+#define BUS_TIMER_ENABLE 0x02
+
+#define BUS_TIMER_DUE 0x01
+#define BUS_TIMER_OVERRUN 0x02
+#define BUS_TIMER_MISSED 0x04
+
+/*
+ * Makes a fresh timer, whose eight registers are 0 and whose dispatcher is fresh. It sets all 72
+ * bytes.
+ *
+ * Answers 0, or refuses with 99 where there are fewer than 72.
+ */
+int32_t bus_timer_fresh(uint8_t *timer, size_t timer_len);
+
+/*
+ * The register at an address.
+ *
+ * Answers its byte, 0 to 255, or refuses with 99, then with 29 for an address above 7.
+ */
+int32_t bus_timer_read(uint8_t address, const uint8_t *timer, size_t timer_len);
+
+/*
+ * Writes a byte to an address.
+ *
+ * Answers 0, or refuses with 99, then with 29 for an address above 7.
+ */
+int32_t bus_timer_write(uint8_t address, uint8_t value, uint8_t *timer, size_t timer_len);
+
+/*
+ * A timer event. With run set it makes a frame due, or marks a miss if one is due already; with run
+ * clear it does nothing.
+ *
+ * Answers 0, or refuses with 99.
+ */
+int32_t bus_timer_event(uint8_t *timer, size_t timer_len);
+
+/*
+ * Serves the frame that is due, as bus_next_frame does, and clears its status bit; run is not asked.
+ * Where the call is refused the frame stays due. With none due nothing is refused, whatever the table
+ * is, and nothing changes, in `entries` neither.
+ *
+ * Answers the number of entries, 0 to 16, and 0 with none due; or refuses with 99 (which `entries` of
+ * fewer than 32 bytes also get, whether or not a frame is due), then 12, then 15.
+ */
+int32_t bus_timer_serve(const uint8_t *table, size_t table_len, uint8_t *timer, size_t timer_len,
+                        uint8_t *entries, size_t entries_len);
+
+/*
+ * Reports the ticks that a task used, as bus_report does. More than the request's C for the task sets
+ * the overrun bit, also where the task's number of overruns stands at 65,535.
+ *
+ * Answers 0, or refuses with 99, then 1 to 5, then 17, then 6, then 16.
+ */
+int32_t bus_timer_report(const uint8_t *request, size_t request_len, uint8_t task, uint32_t ticks,
+                         uint8_t *timer, size_t timer_len);
+
+/*
+ * The interrupt line: it is on exactly if it is enabled and a status bit is set.
+ *
+ * Answers 1 where it is on, else 0; or refuses with 99.
+ */
+int32_t bus_timer_line(const uint8_t *timer, size_t timer_len);
 
 /*
  * Joins two requests and writes one to the front of `out`: the tasks of the first and then those
@@ -305,8 +404,9 @@ int32_t bus_draft_write(const uint8_t *request, size_t request_len, const uint8_
  *       of a placed one, or a draft to be written in which a job is lifted
  *   27  the frame is outside the job's window
  *   28  the frame's row has no room for the job, or a pair is out of order with a placed job
- *   99  a state, entries, tries, draft or counts buffer is too short, or the state's mark is neither 0
- *       nor 1
+ *   29  a register's address is above 7
+ *   99  a state, timer, entries, tries, draft or counts buffer is too short, the mark of a state is
+ *       neither 0 nor 1, or bytes lent as a timer have control above 3 or status above 7
  */
 
 #ifdef __cplusplus

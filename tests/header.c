@@ -185,6 +185,70 @@ static void shifts(const uint8_t *request, size_t len, const uint8_t *silent, si
     no_phases(request, len - 1, 3, 0, -BUS_BAD_BUFFER);
 }
 
+/* The eight registers, from the first. */
+static void registers(const uint8_t *timer, const int32_t *bytes)
+{
+    for (uint8_t address = 0; address < 8; address++)
+        expect("bus_timer_read", bus_timer_read(address, timer, BUS_TIMER_BYTES), bytes[address]);
+}
+
+/* P1's first frames by the timer, a miss and an overrun, and each number of the seven calls. */
+static void timers(const uint8_t *request, size_t len, const uint8_t *bad, size_t bad_len, const uint8_t *table, size_t used)
+{
+    static const int32_t none[8] = {0}, due[8] = {3, 1}, moved[8] = {3, 0, 1};
+    static const int32_t marked[8] = {3, 7, 1, 0, 1}, cleared[8] = {1, 1, 1, 0, 1};
+    uint8_t timer[BUS_TIMER_BYTES + 1], entries[BUS_ENTRIES_BYTES];
+    memset(timer, 0x5A, sizeof timer);
+    expect("bus_timer_fresh", bus_timer_fresh(timer, BUS_TIMER_BYTES - 1), -BUS_BAD_BUFFER);
+    expect("bus_timer_fresh, refused", timer[0], 0x5A);
+    expect("bus_timer_fresh", bus_timer_fresh(timer, sizeof timer), 0);
+    registers(timer, none);
+    expect("bus_timer_event", bus_timer_event(timer, sizeof timer), 0);
+    registers(timer, none);
+    expect("bus_timer_write", bus_timer_write(BUS_TIMER_CONTROL, 0xFF, timer, sizeof timer), 0);
+    expect("bus_timer_line", bus_timer_line(timer, sizeof timer), 0);
+    expect("bus_timer_event", bus_timer_event(timer, sizeof timer), 0);
+    registers(timer, due);
+    expect("bus_timer_line", bus_timer_line(timer, sizeof timer), 1);
+    memset(entries, 0x5A, sizeof entries);
+    expect("bus_timer_serve", bus_timer_serve(table, used - 1, timer, sizeof timer, entries, sizeof entries), -12);
+    expect("bus_timer_serve", bus_timer_serve(table, used, timer, sizeof timer, entries, sizeof entries - 1), -BUS_BAD_BUFFER);
+    registers(timer, due);
+    expect("bus_timer_serve, refused", entries[0], 0x5A);
+    expect("bus_timer_serve", bus_timer_serve(table, used, timer, sizeof timer, entries, sizeof entries), 3);
+    expect("bus_timer_serve, entries", entries[2] == 1 && entries[4] == 2 && entries[6] == 0, 1);
+    registers(timer, moved);
+    memset(entries, 0x5A, sizeof entries);
+    expect("bus_timer_serve", bus_timer_serve(table, 0, timer, sizeof timer, entries, sizeof entries), 0);
+    expect("bus_timer_serve, none due", entries[0], 0x5A);
+    expect("bus_timer_report", bus_timer_report(request, len, 2, 10, timer, sizeof timer), 0);
+    registers(timer, moved);
+    expect("bus_timer_report", bus_timer_report(request, len, 2, 11, timer, sizeof timer), 0);
+    expect("bus_timer_report", bus_timer_report(request, len, 3, 11, timer, sizeof timer), -16);
+    expect("bus_timer_report", bus_timer_report(bad, bad_len, 2, 11, timer, sizeof timer), -17);
+    expect("bus_overruns", bus_overruns(timer, 2), 1);
+    expect("bus_timer_event", bus_timer_event(timer, sizeof timer), 0);
+    expect("bus_timer_event", bus_timer_event(timer, sizeof timer), 0);
+    registers(timer, marked);
+    expect("bus_timer_write", bus_timer_write(BUS_TIMER_STATUS, 0xFF, timer, sizeof timer), 0);
+    expect("bus_timer_write", bus_timer_write(BUS_TIMER_CONTROL, BUS_TIMER_RUN, timer, sizeof timer), 0);
+    expect("bus_timer_write", bus_timer_write(BUS_TIMER_ROW, 7, timer, sizeof timer), 0);
+    expect("bus_timer_write", bus_timer_write(8, 7, timer, sizeof timer), -29);
+    expect("bus_timer_read", bus_timer_read(8, timer, sizeof timer), -29);
+    registers(timer, cleared);
+    expect("bus_timer_line", bus_timer_line(timer, sizeof timer), 0);
+    expect("the byte behind a timer", timer[BUS_TIMER_BYTES], 0x5A);
+    timer[0] = 2;
+    expect("bus_timer_serve", bus_timer_serve(table, used, timer, sizeof timer, entries, sizeof entries), -15);
+    timer[64] = 4;
+    expect("bus_timer_read", bus_timer_read(8, timer, sizeof timer), -BUS_BAD_BUFFER);
+    expect("bus_timer_write", bus_timer_write(8, 0, timer, sizeof timer), -BUS_BAD_BUFFER);
+    expect("bus_timer_event", bus_timer_event(timer, sizeof timer), -BUS_BAD_BUFFER);
+    expect("bus_timer_serve", bus_timer_serve(table, 0, timer, sizeof timer, entries, sizeof entries), -BUS_BAD_BUFFER);
+    expect("bus_timer_report", bus_timer_report(request, len, 3, 11, timer, sizeof timer), -BUS_BAD_BUFFER);
+    expect("bus_timer_line", bus_timer_line(timer, sizeof timer), -BUS_BAD_BUFFER);
+}
+
 int main(void)
 {
     static const uint8_t request[] = {
@@ -260,5 +324,6 @@ int main(void)
     expect("bus_one_off", bus_one_off(bad, sizeof bad, table, used, 10, 0, 80), -17);
     drafts(request, sizeof request, bad, sizeof bad, table, used);
     full_row(silent, sizeof silent);
+    timers(request, sizeof request, bad, sizeof bad, table, used);
     return faults != 0;
 }

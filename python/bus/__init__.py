@@ -15,6 +15,8 @@
     draft.lift("heater.0"), draft.put("heater.0", 3), draft.write()
     found = bus.phases(request, "star")        # how many phases of a task lead to a table, and which
     bus.strip(request, found)                  # the same as a picture
+    timer = bus.Timer(table, request)          # the dispatcher behind eight registers, for a controller's driver
+    timer.write(0, 3), timer.event(), timer.serve(), timer.registers, timer.line
 """
 
 from .build import NotBuilt
@@ -36,6 +38,7 @@ from .spacing import Spacing, spacing
 from .strip import strip
 from .table import Entry, Table
 from .text import c_array, flight, listing
+from .timer import Timer
 
 __all__ = [
     "Dispatcher",
@@ -57,6 +60,7 @@ __all__ = [
     "TRIES",
     "Table",
     "Task",
+    "Timer",
     "c_array",
     "check",
     "cut",

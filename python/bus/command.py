@@ -59,12 +59,13 @@ def _parser():
     return parser
 
 
-def _tell_faults(path, faults):
+def _tell_faults(path, found):
+    faults = found.faults
     for fault in faults[:MOST_FAULTS]:
         print(f"{path}: {fault}", file=sys.stderr)
     more = f", {len(faults) - MOST_FAULTS} of them not shown" if len(faults) > MOST_FAULTS else ""
     count = "1 fault" if len(faults) == 1 else f"{len(faults)} faults"
-    say(f"refused: the list has {count}{more}: mend what the lines say; docs/FORMATS.md has the format")
+    say(f"refused: the {found.kind} has {count}{more}: mend what the lines say; docs/FORMATS.md has the format")
 
 
 def _tell_refusal(refused, asked):
@@ -82,7 +83,7 @@ def main(words=None):
     except SystemExit as end:
         return end.code
     except ListFaults as found:
-        _tell_faults(found.source or asked.list, found.faults)
+        _tell_faults(found.source or asked.list, found)
         return REFUSED
     except refusals.Refused as refused:
         _tell_refusal(refused, asked)

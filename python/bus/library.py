@@ -20,6 +20,7 @@ PHASES_BYTES = 8
 TABLE_BYTES = 519
 REQUEST_BYTES = 164
 DRAFT_BYTES = 770
+TIMER_BYTES = 72
 
 # The most tries that can be allowed, the most ticks that can be asked for or reported, those of a transfer, and the
 # highest number of a frame that can be named.
@@ -137,6 +138,15 @@ draft_start = Call("draft_start", read("request"), read("table"), filled("draft"
 draft_lift = Call("draft_lift", read("request"), number("job", 8), changed("draft", DRAFT_BYTES))
 draft_put = Call("draft_put", read("request"), number("job", 8), number("frame", 16), changed("draft", DRAFT_BYTES))
 draft_write = Call("draft_write", read("request"), read("draft"), written("out", TABLE_BYTES))
+timer_fresh = Call("timer_fresh", filled("timer", TIMER_BYTES))
+timer_read = Call("timer_read", number("address", 8), read("timer"))
+timer_write = Call("timer_write", number("address", 8), number("value", 8), changed("timer", TIMER_BYTES))
+timer_event = Call("timer_event", changed("timer", TIMER_BYTES))
+timer_serve = Call("timer_serve", read("table"), changed("timer", TIMER_BYTES), filled("entries", ENTRIES_BYTES))
+timer_report = Call(
+    "timer_report", read("request"), number("task", 8), number("ticks", 32), changed("timer", TIMER_BYTES)
+)
+timer_line = Call("timer_line", read("timer"))
 
 
 @functools.lru_cache(maxsize=None)

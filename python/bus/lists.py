@@ -33,6 +33,8 @@ class Fault(NamedTuple):
 class ListFaults(Exception):
     """All faults of a list, by line. `source` names the list where there are two."""
 
+    kind = "list"
+
     def __init__(self, faults, source=""):
         self.faults = sorted(faults, key=lambda fault: fault.line)
         self.source = source

@@ -175,6 +175,11 @@ ROWS = (
         "the row would exceed the frame length, or a pair would be out of order with a job that is placed",
         "name another frame of the window; or first move a job out of that row, or the other job of the pair",
     ),
+    Refusal(
+        29, NO_ONE, None,
+        "the timer has no register at the address, which is above 7",
+        "read and write the bytes 0 to 7",
+    ),
 )
 
 REFUSALS = {row.number: row for row in ROWS}

@@ -1,5 +1,5 @@
 """What the command prints, with names: a table's listing, its flight, its bytes in C, a frame with unused time, how
-far apart starts can be, and which phases fit."""
+far apart starts can be, which phases fit, and the registers of a timer."""
 
 import re
 
@@ -101,6 +101,33 @@ def phase_lines(request, found):
     first = max(map(len, ranges))
     lines += [f"{phases:{first}}  {answer}" for phases, answer in zip(ranges, answers)]
     return "\n".join(lines) + "\n"
+
+
+def _bits(byte, *names):
+    """The names of the bits that are set in a byte, from bit 0 on."""
+    return ", ".join(name for bit, name in enumerate(names) if byte >> bit & 1)
+
+
+def register_words(registers, line_on):
+    """What the eight bytes say, and the interrupt line."""
+    control, status, row, row_high, overruns, overruns_high, *_ = registers
+    return "; ".join([
+        _bits(control, "run", "enable") or "control 0",
+        _bits(status, "frame due", "overrun", "frame missed") or "status 0",
+        f"row {row + 256 * row_high}",
+        f"overruns {overruns + 256 * overruns_high}",
+        f"line {'on' if line_on else 'off'}",
+    ])
+
+
+def registers(made):
+    """Two lines for each step of a program: its line, the call and what it answered; the registers and their words."""
+    lines = []
+    for done in made:
+        answer = f": {done.answer}" if done.answer else ""
+        lines.append(f"{done.step.line} {done.step.text}{answer}")
+        lines.append(f"    {bytes(done.registers).hex(' ').upper()}  {register_words(done.registers, done.line_on)}")
+    return "".join(f"{line}\n" for line in lines)
 
 
 def is_c_name(name):

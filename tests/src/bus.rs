@@ -21,7 +21,16 @@ pub const ENTRIES_LEN: usize = 32;
 pub const TRIES_LEN: usize = 8;
 /// Bytes of a draft: the frame length, 128 frames and 256 loads.
 pub const DRAFT_LEN: usize = 770;
-/// Refusal of a state, entries, tries or draft buffer that is too short, or of a mark that is not 0 or 1.
+/// Bytes of a timer: a dispatcher's state, control, status, and free ones.
+pub const TIMER_LEN: usize = 72;
+/// Where control and status stand in a timer, and how many of its bytes from the front are in use, those of
+/// the state among them.
+pub const CONTROL_AT: usize = 64;
+pub const STATUS_AT: usize = 65;
+pub const TIMER_USED: usize = 66;
+/// Registers of a timer.
+pub const REGISTERS: usize = 8;
+/// Refusal of a buffer that is too short, or of bytes that are no state or no timer.
 pub const BAD_BUFFER: i32 = 99;
 
 /// Bytes of the four counts of phases.
@@ -50,6 +59,19 @@ pub fn put_counts(four: [u16; 4], bytes: &mut [u8]) {
 /// Where the count stands of the task that the call names.
 fn own_count(call: &Call) -> Range<usize> {
     count_bytes(call.number("task") as usize)
+}
+
+/// The byte of a timer that a write to the register changes.
+fn written_register(call: &Call) -> Range<usize> {
+    match call.number("address") {
+        0 => CONTROL_AT..CONTROL_AT + 1,
+        1 => STATUS_AT..STATUS_AT + 1,
+        _ => 0..0,
+    }
+}
+
+fn status_of_timer(_: &Call) -> Range<usize> {
+    STATUS_AT..STATUS_AT + 1
 }
 
 /// The type of an argument of a call that is not made yet: of a buffer what it holds before.

@@ -62,7 +62,7 @@ impl Tally {
             self.requests, self.left_out, self.calls
         );
         for row in ROWS {
-            text.push_str(&format!("{:10}", row.name));
+            text.push_str(&format!("{:12}", row.name));
             for ((called, answer), count) in self.counts.iter().rev() {
                 if *called == row.name {
                     text.push_str(&format!("  {answer}: {count}"));

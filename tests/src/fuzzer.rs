@@ -3,6 +3,7 @@
 use std::collections::{BTreeMap, VecDeque};
 
 use crate::bus::{count_bytes, DRAFT_LEN, ROWS, STATE_LEN, STATE_USED, TASKS};
+use crate::bus::{CONTROL_AT, REGISTERS, STATUS_AT, TIMER_LEN, TIMER_USED};
 use crate::call::{Call, Outcome, Value};
 use crate::comparison::MOST_TRIES;
 use crate::generate;
@@ -205,6 +206,12 @@ impl Fuzzer {
             return bytes;
         }
         let mut bytes = self.about(STATE_LEN);
+        self.make_state(&mut bytes);
+        bytes
+    }
+
+    /// Mostly makes a state of the bytes that some calls can have left.
+    fn make_state(&mut self, bytes: &mut [u8]) {
         let rng = &mut self.rng;
         if bytes.len() > STATE_USED && rng.chance(95) {
             bytes[1] = rng.pick(&[0, 0, 0, 0, 1, 255]);
@@ -218,7 +225,6 @@ impl Fuzzer {
                 }
             }
         }
-        bytes
     }
 
     /// Room for a file.
@@ -341,5 +347,36 @@ impl Fuzzer {
         let length = self.about(DRAFT_LEN).len();
         bytes.resize(length, self.rng.byte());
         bytes
+    }
+
+    /// A timer: one that a call left, or one that some calls can have left.
+    pub fn timer(&mut self) -> Vec<u8> {
+        if let Some(bytes) = self.left("timer") {
+            return bytes;
+        }
+        let mut bytes = self.about(TIMER_LEN);
+        self.make_state(&mut bytes);
+        if bytes.len() >= TIMER_USED && self.rng.chance(95) {
+            bytes[CONTROL_AT] %= 4;
+            bytes[STATUS_AT] %= 8;
+        }
+        bytes
+    }
+
+    /// The address of a register, now and then none.
+    pub fn address(&mut self) -> u64 {
+        match self.rng.below(8) {
+            0 => self.rng.pick(&[8, 9, 64, 65, 128, 255]),
+            1 => self.rng.below(REGISTERS) as u64,
+            _ => self.rng.pick(&[0, 1]),
+        }
+    }
+
+    /// A byte to be written to a register.
+    pub fn value(&mut self) -> u64 {
+        match self.rng.below(3) {
+            0 => self.rng.byte().into(),
+            _ => self.rng.below(8) as u64,
+        }
     }
 }

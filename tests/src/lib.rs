@@ -19,6 +19,7 @@ pub mod programs;
 pub mod random;
 pub mod record;
 pub mod reference;
+pub mod registers;
 pub mod rounds;
 pub mod row;
 mod rows;

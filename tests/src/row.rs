@@ -3,6 +3,7 @@
 //! The rows themselves stand in `rows.rs`. Guards, descriptions, comparisons, fuzzing and the
 //! sanitizer's run know no call by its name: all they need is in its row.
 
+use std::iter;
 use std::ops::Range;
 
 use crate::bus::{Bus, BAD_BUFFER};
@@ -41,17 +42,22 @@ pub enum Change {
     Always(usize),
     /// Those that the call's own numbers name.
     Part(fn(&Call) -> Range<usize>),
+    /// The same in several parts of the buffer.
+    Parts(fn(&Call) -> Vec<Range<usize>>),
 }
 
 impl Change {
-    pub fn bytes(&self, call: &Call, answer: i32) -> Range<usize> {
-        match self {
-            Change::Always(count) if answer != -BAD_BUFFER => 0..*count,
-            _ if answer < 0 => 0..0,
-            Change::Answered => 0..answer as usize,
-            Change::First(count) | Change::Always(count) => 0..*count,
-            Change::Part(named) => named(call),
-        }
+    /// The parts of the buffer that the call may change, by its answer.
+    pub fn parts(&self, call: &Call, answer: i32) -> Vec<Range<usize>> {
+        let front = match self {
+            Change::Always(count) if answer != -BAD_BUFFER => *count,
+            _ if answer < 0 => 0,
+            Change::Answered => answer as usize,
+            Change::First(count) | Change::Always(count) => *count,
+            Change::Part(named) => return vec![named(call)],
+            Change::Parts(named) => return named(call),
+        };
+        iter::once(0..front).collect()
     }
 }
 

@@ -118,6 +118,53 @@ macro_rules! every_call {
                 draft: read(Fuzzer::draft),
                 out: write(Fuzzer::room, Change::Answered),
             ) refuses [99, 1, 2, 3, 4, 5, 17, 6, 7, 8, 26, 11];
+
+            /// 0, with a fresh timer in the first 72 bytes.
+            timer_fresh(
+                timer: write(Fuzzer::timer, Change::First(TIMER_LEN)),
+            ) refuses [99];
+
+            /// The byte of the register.
+            timer_read(
+                address: u8(Fuzzer::address),
+                timer: read(Fuzzer::timer),
+            ) refuses [99, 29];
+
+            /// 0, with what a write of the byte to the register makes of control or status.
+            timer_write(
+                address: u8(Fuzzer::address),
+                value: u8(Fuzzer::value),
+                timer: write(Fuzzer::timer, Change::Part(written_register)),
+            ) refuses [99, 29];
+
+            /// 0, with a frame due or a miss marked if run is set.
+            timer_event(
+                timer: write(Fuzzer::timer, Change::Part(status_of_timer)),
+            ) refuses [99];
+
+            /// The number of entries served as by `next_frame` if a frame is due, else 0; then no buffer
+            /// is changed.
+            timer_serve(
+                table: read(Fuzzer::table),
+                timer: write(Fuzzer::timer, Change::Parts(|call| vec![0..3, status_of_timer(call)])),
+                entries: write(|fuzzer| fuzzer.about(ENTRIES_LEN), Change::First(ENTRIES_LEN)),
+            ) refuses [99, 12, 15];
+
+            /// 0, with the task's overrun counted and marked in the timer.
+            timer_report(
+                request: read(Fuzzer::request),
+                task: u8(Fuzzer::task),
+                ticks: u32(Fuzzer::ticks),
+                timer: write(
+                    Fuzzer::timer,
+                    Change::Parts(|call| vec![own_count(call), status_of_timer(call)])
+                ),
+            ) refuses [99, 1, 2, 3, 4, 5, 17, 6, 16];
+
+            /// 1 if the interrupt line is on, else 0.
+            timer_line(
+                timer: read(Fuzzer::timer),
+            ) refuses [99];
         }
     };
 }

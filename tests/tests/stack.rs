@@ -1,7 +1,7 @@
 //! Every call in a thread with a stack of 256 KiB; an overflow ends the whole run.
 #![cfg(feature = "linked")]
 
-use bus_tests::bus::{COUNTS_LEN, DRAFT_LEN, ENTRIES_LEN, STATE_LEN, TRIES_LEN};
+use bus_tests::bus::{COUNTS_LEN, DRAFT_LEN, ENTRIES_LEN, STATE_LEN, TIMER_LEN, TRIES_LEN};
 use bus_tests::call::{Call, Outcome};
 use bus_tests::compare::expected;
 use bus_tests::comparison::Comparison;
@@ -74,6 +74,22 @@ impl Calls {
             let served = self.add(&Call::next_frame(&table, &state, &[0; ENTRIES_LEN]))?;
             let reported = self.add(&Call::report(request, 0, 1_000, &served.buffers[0]))?;
             state = reported.buffers[0].clone();
+        }
+        self.add_timer(request, &table)
+    }
+
+    /// Frames by the timer's registers.
+    fn add_timer(&mut self, request: &[u8], table: &[u8]) -> Result<(), String> {
+        let fresh = self.add(&Call::timer_fresh(&[0; TIMER_LEN]))?;
+        let set = self.add(&Call::timer_write(0, 3, &fresh.buffers[0]))?;
+        let mut timer = set.buffers[0].clone();
+        for _ in 0..100 {
+            let due = self.add(&Call::timer_event(&timer))?.buffers.remove(0);
+            let served = self.add(&Call::timer_serve(table, &due, &[0; ENTRIES_LEN]))?;
+            let call = Call::timer_report(request, 0, 1_000, &served.buffers[0]);
+            timer = self.add(&call)?.buffers.remove(0);
+            self.add(&Call::timer_read(4, &timer))?;
+            self.add(&Call::timer_line(&timer))?;
         }
         Ok(())
     }

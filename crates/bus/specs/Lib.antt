@@ -21,3 +21,6 @@ pub mod DispatchLaws
 pub mod DraftBytes
 pub mod Drafts
 pub mod DraftLaws
+-- registers
+pub mod Timer
+pub mod TimerLaws

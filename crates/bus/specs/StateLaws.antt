@@ -1,6 +1,6 @@
 -- The lent bytes: when 64 are there, and what stores one behind the other come to.
 use Prim.Native.Nat.{ℕ, _+_, _-_, _≤_, _<_}
-use mathlib.Core.Path.{_≡_, refl, ap}
+use mathlib.Core.Path.{_≡_, refl, ap, _∙_}
 use mathlib.Core.Bool.{Bool, true, false, false≢true}
 use mathlib.Core.List.{List, [], _∷_, _++_}
 use native.Mathlib.Omega.{arith}
@@ -48,21 +48,25 @@ state-stored s bytes h =
     let stored = sets-eq (wordBytes (s .row) ++ (markByte (s .first) ∷ [])) bytes 0 (omega arith) in
     rw (mark-is (s .first), stored, drop-drop 32 3 bytes)
 
--- 64 zeros: i are stored
+-- n zeros: i are stored
 
-module _ (old : List ℕ) where
-  pub cleared-start : 64 ≤ length old → PartWay (zeros 64) old old (zeros (64 - 0)) 0
-  cleared-start h = part-start [] (zeros 64) old 0 refl (rw (length-replicate {A = ℕ} 64 0) h)
+module _ (n : ℕ) (old : List ℕ) where
+  pub cleared-start : n ≤ length old → PartWay (zeros n) old old (zeros (n - 0)) 0
+  cleared-start h =
+      let none-yet : n - 0 ≡ n = omega arith in
+      rw none-yet (part-start [] (zeros n) old 0 refl (rw (length-replicate {A = ℕ} n 0) h))
 
-  module _ (out : List ℕ) (i : ℕ) (so : PartWay (zeros 64) old out (zeros (64 - i)) i) where
-    pub cleared-room : i < 64 → i < length out
-    cleared-room h = let left : length (zeros (64 - i)) ≡ 64 - i = length-replicate {A = ℕ} (64 - i) 0 in omega (arith, so .room, so .long)
+  module _ (out : List ℕ) (i : ℕ) (so : PartWay (zeros n) old out (zeros (n - i)) i) where
+    pub cleared-room : i < n → i < length out
+    cleared-room h = let left : length (zeros (n - i)) ≡ n - i = length-replicate {A = ℕ} (n - i) 0 in omega (arith, so .room, so .long)
 
-    pub cleared-more : i < 64 → PartWay (zeros 64) old (set out i 0) (zeros (64 - (i + 1))) (i + 1)
-    cleared-more h = one-more (zeros 64) old out (zeros (64 - i)) i so 0 (zeros (64 - (i + 1))) (rw (less-one 64 i h))
+    pub cleared-more : i < n → PartWay (zeros n) old (set out i 0) (zeros (n - (i + 1))) (i + 1)
+    cleared-more h = one-more (zeros n) old out (zeros (n - i)) i so 0 (zeros (n - (i + 1))) (rw (less-one n i h))
 
-    pub cleared-end : 64 ≤ i → out ≡ zeros 64 ++ drop 64 old
-    cleared-end h = part-end (zeros 64) old out (zeros (64 - i)) i so (rw (none-left 64 i h)) .whole
+    pub cleared-end : n ≤ i → out ≡ zeros n ++ drop n old
+    cleared-end h =
+        let done = part-end (zeros n) old out (zeros (n - i)) i so (rw (none-left n i h)) in
+        done .whole ∙ ap (λ (k : ℕ). zeros n ++ drop k old) (length-replicate {A = ℕ} n 0)
 
 -- 16 pairs: i are stored
 

@@ -20,13 +20,13 @@ pub extern "C" fn bus_fresh(state: &mut [u8]) -> i32
     if state.len() < 64 {
         return refusal(99);
     }
-    clear(state);
+    clear(state, 64);
     write_state(state, dispatcher::fresh());
     0
 }
 
 // 16 pairs of a task byte and a job byte; the bytes behind them are left alone.
-fn write_pairs(entries: &mut [u8], tasks: [u8; 16], jobs: [u8; 16])
+pub(super) fn write_pairs(entries: &mut [u8], tasks: [u8; 16], jobs: [u8; 16])
     requires { ⌜ 32 ≤ length (now entries) ⌝ }
     ensures { λ r. ⌜ now (entries .exit) ≡ pairBytes tasks jobs 16 0 ++ drop 32 (now (entries .entry)) ⌝ }
 {

@@ -72,13 +72,14 @@ pub(super) fn write_state(state: &mut [u8], new: State)
     write_counts(state, counts);
 }
 
-pub(super) fn clear(state: &mut [u8])
-    requires { ⌜ 64 ≤ length (now state) ⌝ }
-    ensures { λ r. ⌜ now (state .exit) ≡ zeros 64 ++ drop 64 (now (state .entry)) ⌝ }
+// The first n bytes are 0; those behind them are left alone.
+pub(super) fn clear(bytes: &mut [u8], n: usize)
+    requires { ⌜ n ≤ length (now bytes) ⌝ }
+    ensures { λ r. ⌜ now (bytes .exit) ≡ zeros n ++ drop n (now (bytes .entry)) ⌝ }
 {
     let mut i: usize = 0;
-    while i < 64 {
-        state[i] = 0;
+    while i < n {
+        bytes[i] = 0;
         i += 1;
     }
 }

@@ -2,6 +2,8 @@
 pub mod WordsBack
 pub mod RoundTrip
 pub mod DraftTrip
+-- and so are those of a timer
+pub mod TimerRoundTrip
 -- which bytes of a state a call changes
 pub mod Changed
 -- the bytes of the tries give the count back

@@ -7,9 +7,11 @@ use super::join::joined;
 use super::one_off::{earliest, Asked};
 use super::phases::{self, Shift};
 use super::table::{decode, encode, Entry};
+use super::timer::Timer;
 use super::{checked, planned_within, request};
 use crate::bus::{count_bytes, counts, BAD_BUFFER, DRAFT_LEN, ENTRIES_LEN, STATE_LEN, TRIES_LEN};
 use crate::bus::{put_counts, COUNTS_LEN};
+use crate::bus::{CONTROL_AT, STATUS_AT, TIMER_LEN};
 
 type Answer = Result<i32, i32>;
 
@@ -145,4 +147,70 @@ pub fn draft_put(request: &[u8], job: u8, frame: u16, draft: &mut [u8]) -> Answe
 pub fn draft_write(request: &[u8], draft: &[u8], out: &mut [u8]) -> Answer {
     lent(draft, DRAFT_LEN)?;
     write_out(&encode(&draft::write(request, &Draft::read(draft))?), out)
+}
+
+fn timer_in(bytes: &[u8]) -> Result<Timer, i32> {
+    lent(bytes, TIMER_LEN)?;
+    let (control, status) = (bytes[CONTROL_AT], bytes[STATUS_AT]);
+    if control > 3 || status > 7 {
+        return Err(BAD_BUFFER);
+    }
+    Ok(Timer {
+        state: state_in(bytes)?,
+        control,
+        status,
+    })
+}
+
+fn put_timer(timer: Timer, bytes: &mut [u8]) {
+    put_state(timer.state, bytes);
+    bytes[CONTROL_AT] = timer.control;
+    bytes[STATUS_AT] = timer.status;
+}
+
+pub fn timer_fresh(timer: &mut [u8]) -> Answer {
+    lent(timer, TIMER_LEN)?;
+    timer[..TIMER_LEN].fill(0);
+    put_timer(Timer::fresh(), timer);
+    Ok(0)
+}
+
+pub fn timer_read(address: u8, timer: &[u8]) -> Answer {
+    timer_in(timer)?.read(address).map(i32::from)
+}
+
+pub fn timer_write(address: u8, value: u8, timer: &mut [u8]) -> Answer {
+    let mut now = timer_in(timer)?;
+    now.write(address, value)?;
+    put_timer(now, timer);
+    Ok(0)
+}
+
+pub fn timer_event(timer: &mut [u8]) -> Answer {
+    let mut now = timer_in(timer)?;
+    now.event();
+    put_timer(now, timer);
+    Ok(0)
+}
+
+pub fn timer_serve(table: &[u8], timer: &mut [u8], entries: &mut [u8]) -> Answer {
+    let mut now = timer_in(timer)?;
+    lent(entries, ENTRIES_LEN)?;
+    let Some(served) = now.serve(table)? else {
+        return Ok(0);
+    };
+    put_timer(now, timer);
+    put_entries(&served, entries);
+    Ok(served.len() as i32)
+}
+
+pub fn timer_report(request: &[u8], task: u8, ticks: u32, timer: &mut [u8]) -> Answer {
+    let mut now = timer_in(timer)?;
+    now.report(&request::read(request)?, task, ticks)?;
+    put_timer(now, timer);
+    Ok(0)
+}
+
+pub fn timer_line(timer: &[u8]) -> Answer {
+    Ok(timer_in(timer)?.line().into())
 }

@@ -16,6 +16,7 @@ pub mod printed;
 pub mod request;
 pub mod search;
 pub mod table;
+pub mod timer;
 pub mod tries;
 
 use crate::bus::Bus;

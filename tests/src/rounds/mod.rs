@@ -6,15 +6,17 @@ pub mod joining;
 pub mod one_off;
 pub mod phases;
 pub mod planning;
+pub mod timer;
 
 use crate::comparison::Round;
 
 /// All kinds of rounds, for those who make every one.
-pub const ALL: [Round; 6] = [
+pub const ALL: [Round; 7] = [
     planning::round,
     joining::round,
     one_off::round,
     cutting::round,
     drafting::round,
     phases::round,
+    timer::round,
 ];

@@ -5,6 +5,7 @@ use crate::bus::{count_bytes, ENTRIES_LEN, STATE_LEN, STATE_USED, TASKS, TRIES_L
 use crate::call::{Call, Outcome};
 use crate::comparison::{Comparison, MOST_TRIES};
 use crate::generate;
+use crate::random::Random;
 use crate::reference::table::{encode, Table};
 use crate::reference::{planned, tries_within};
 
@@ -180,47 +181,51 @@ impl Comparison<'_> {
     }
 
     fn report(&mut self, request: &[u8], state: Vec<u8>) -> Result<Vec<u8>, String> {
-        let mut bytes = request.to_vec();
-        match self.rng.below(10) {
-            0 => generate::damage(&mut self.rng, &mut bytes),
-            1 => bytes = generate::noise(&mut self.rng),
-            2 => bytes = generate::request_bytes(&mut self.rng),
-            _ => {}
-        }
-        let task = if self.rng.chance(85) {
-            self.rng
-                .below(usize::from(bytes.first().map_or(1, |n| (*n).clamp(1, 16))))
-                as u8
-        } else {
-            self.rng.byte()
-        };
-        let ticks = self.ticks(&bytes, task);
+        let (bytes, task, ticks) = some_report(&mut self.rng, request);
         let lent = self.lent_state(&state);
         let outcome = self.same(&Call::report(&bytes, task, ticks, &lent))?;
         Ok(after(state, &outcome))
     }
+}
 
-    /// Ticks about the C that the bytes give the task, or far above.
-    fn ticks(&mut self, request: &[u8], task: u8) -> u32 {
-        let at = 1 + 8 * usize::from(task);
-        let c = match request.get(at..at + 2) {
-            Some(two) => u32::from(two[0]) + 256 * u32::from(two[1]),
-            None => 5,
-        };
-        match self.rng.below(8) {
-            0 => u32::MAX,
-            1 => self.rng.draw() as u32,
-            2 => c + 65_536,
-            3 => c.saturating_sub(1),
-            4 => 0,
-            5 => c,
-            _ => c + 1,
-        }
+/// A report: a request, mostly this one, a task number, mostly one that it has, and ticks.
+pub fn some_report(rng: &mut Random, request: &[u8]) -> (Vec<u8>, u8, u32) {
+    let mut bytes = request.to_vec();
+    match rng.below(10) {
+        0 => generate::damage(rng, &mut bytes),
+        1 => bytes = generate::noise(rng),
+        2 => bytes = generate::request_bytes(rng),
+        _ => {}
+    }
+    let task = if rng.chance(85) {
+        rng.below(usize::from(bytes.first().map_or(1, |n| (*n).clamp(1, 16)))) as u8
+    } else {
+        rng.byte()
+    };
+    let ticks = ticks(rng, &bytes, task);
+    (bytes, task, ticks)
+}
+
+/// Ticks about the C that the bytes give the task, or far above.
+fn ticks(rng: &mut Random, request: &[u8], task: u8) -> u32 {
+    let at = 1 + 8 * usize::from(task);
+    let c = match request.get(at..at + 2) {
+        Some(two) => u32::from(two[0]) + 256 * u32::from(two[1]),
+        None => 5,
+    };
+    match rng.below(8) {
+        0 => u32::MAX,
+        1 => rng.draw() as u32,
+        2 => c + 65_536,
+        3 => c.saturating_sub(1),
+        4 => 0,
+        5 => c,
+        _ => c + 1,
     }
 }
 
 /// The state that the list goes on with: what the call left, if it was lent whole.
-fn after(state: Vec<u8>, outcome: &Outcome) -> Vec<u8> {
+pub(super) fn after(state: Vec<u8>, outcome: &Outcome) -> Vec<u8> {
     if outcome.buffers[0].len() == state.len() {
         outcome.buffers[0].clone()
     } else {

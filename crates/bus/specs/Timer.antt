@@ -1,0 +1,105 @@
+-- The timer in the bytes that the caller lends: 72, of which 0 to 63 are the dispatcher's state, 64 is control, 65 is status and 66 to 71 are free. What each
+-- of its calls answers and leaves.
+use Prim.Native.Nat.{ℕ}
+use mathlib.Core.Bool.{Bool, false, not}
+use mathlib.Core.List.{List, _++_}
+use lib.IntN.{ℤ, pos}
+use lib.ListN.{length, getD, set, drop}
+use lib.Dec.{ltb}
+use Rattle.cursor.specs.Choice.{pick, both, bit}
+use Rattle.request.specs.Request.{reading}
+use Rattle.table.specs.Table.{decode}
+use Rattle.timer.specs.Registers.{freshTimer, controlByte, statusByte, controlOf, statusOf, registerRead, written, afterEvent, serving, reporting, lineOn}
+use Rattle.timer.specs.declared.Timer.{Timer}
+use Rattle.timer.specs.declared.Changed.{Changed}
+use Rattle.timer.specs.declared.RegisterRead.{RegisterRead}
+use Rattle.timer.specs.declared.FrameServed.{FrameServed}
+use Rattle.bus.specs.Reply.{refused, reply, after}
+use Rattle.bus.specs.State.{stateOf, stateBytes, pairBytes, zeros}
+
+-- 72 bytes or more, a mark that is 0 or 1, control of at most 3 and status of at most 7; otherwise 99, before every other number
+unfoldable pub isTimer : List ℕ → Bool
+isTimer bytes = pick (ltb (length bytes) 72) false (both (ltb (getD bytes 2 0) 2) (both (ltb (getD bytes 64 0) 4) (ltb (getD bytes 65 0) 8)))
+
+unfoldable pub timerOf : List ℕ → Timer
+timerOf bytes = record { state = stateOf bytes; control = controlOf (getD bytes 64 0); status = statusOf (getD bytes 65 0) }
+
+-- the dispatcher's state, control and status in their bytes; the free bytes, and those behind the timer, are what was there
+unfoldable pub timerBytes : Timer → List ℕ → List ℕ
+timerBytes t bytes = set (set (stateBytes (t .state) bytes) 64 (controlByte (t .control))) 65 (statusByte (t .status))
+
+-- bus_timer_fresh sets all 72 bytes
+
+unfoldable pub timerFreshReply : List ℕ → ℤ
+timerFreshReply bytes = pick (ltb (length bytes) 72) (refused 99) (pos 0)
+
+unfoldable pub timerFreshBytes : List ℕ → List ℕ
+timerFreshBytes bytes = pick (ltb (length bytes) 72) bytes (timerBytes freshTimer (zeros 72 ++ drop 72 bytes))
+
+-- bus_timer_read: the byte
+
+abbrev pub byteReply : RegisterRead → ℤ
+byteReply r = reply (r .refusal) (r .value)
+
+unfoldable pub timerReadReply : ℕ → List ℕ → ℤ
+timerReadReply address bytes = pick (isTimer bytes) (byteReply (registerRead address (timerOf bytes))) (refused 99)
+
+-- bus_timer_write and bus_timer_report: 0, and the timer after it
+
+abbrev pub changedReply : Changed → List ℕ → ℤ
+changedReply r bytes = pick (isTimer bytes) (reply (r .refusal) 0) (refused 99)
+
+abbrev pub changedBytes : Changed → List ℕ → List ℕ
+changedBytes r bytes = pick (isTimer bytes) (after (r .refusal) (timerBytes (r .timer) bytes) bytes) bytes
+
+unfoldable pub timerWriteReply : ℕ → ℕ → List ℕ → ℤ
+timerWriteReply address value bytes = changedReply (written address value (timerOf bytes)) bytes
+
+unfoldable pub timerWriteBytes : ℕ → ℕ → List ℕ → List ℕ
+timerWriteBytes address value bytes = changedBytes (written address value (timerOf bytes)) bytes
+
+unfoldable pub timerReportReply : List ℕ → ℕ → ℕ → List ℕ → ℤ
+timerReportReply request task ticks bytes = changedReply (reporting (reading request) task ticks (timerOf bytes)) bytes
+
+unfoldable pub timerReportBytes : List ℕ → ℕ → ℕ → List ℕ → List ℕ
+timerReportBytes request task ticks bytes = changedBytes (reporting (reading request) task ticks (timerOf bytes)) bytes
+
+-- bus_timer_event
+
+unfoldable pub timerEventReply : List ℕ → ℤ
+timerEventReply bytes = pick (isTimer bytes) (pos 0) (refused 99)
+
+unfoldable pub timerEventBytes : List ℕ → List ℕ
+timerEventBytes bytes = pick (isTimer bytes) (timerBytes (afterEvent (timerOf bytes)) bytes) bytes
+
+-- bus_timer_serve: the number of entries; with none due 0, and all bytes stay as they were
+
+module _ (table bytes entries : List ℕ) where
+  abbrev pub timerFrame : FrameServed
+  timerFrame = serving (decode table) (timerOf bytes)
+
+  -- otherwise 99
+  unfoldable pub canServeTimer : Bool
+  canServeTimer = both (isTimer bytes) (not (ltb (length entries) 32))
+
+  -- a frame is due
+  unfoldable pub frameAsked : Bool
+  frameAsked = both canServeTimer (timerOf bytes .status .due)
+
+  unfoldable pub timerServeReply : ℤ
+  timerServeReply = pick canServeTimer (reply (timerFrame .refusal) (timerFrame .count)) (refused 99)
+
+  unfoldable pub timerServeBytes : List ℕ
+  timerServeBytes = pick frameAsked (after (timerFrame .refusal) (timerBytes (timerFrame .timer) bytes) bytes) bytes
+
+  -- 16 pairs of a task byte and a job byte, of which the unused ones are 0
+  abbrev pub timerEntries : List ℕ
+  timerEntries = pairBytes (timerFrame .tasks) (timerFrame .jobs) 16 0 ++ drop 32 entries
+
+  unfoldable pub timerServeEntries : List ℕ
+  timerServeEntries = pick frameAsked (after (timerFrame .refusal) timerEntries entries) entries
+
+-- bus_timer_line: 0 or 1
+
+unfoldable pub timerLineReply : List ℕ → ℤ
+timerLineReply bytes = pick (isTimer bytes) (pos (bit (lineOn (timerOf bytes)))) (refused 99)

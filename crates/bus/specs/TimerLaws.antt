@@ -1,0 +1,173 @@
+-- Each way out of a call of the timer, as its definition has it.
+use Prim.Native.Nat.{ℕ, _≤_, _<_}
+use mathlib.Core.Path.{_≡_, refl}
+use mathlib.Core.Bool.{Bool, true, false, false≢true}
+use mathlib.Core.List.{List, _++_}
+use lib.IntN.{ℤ, pos}
+use lib.ListN.{length, getD, drop}
+use lib.Dec.{ltb}
+use borrow.Author.Tests.{ltb-false, lt-ltb, le-ltb}
+use Rattle.cursor.specs.Choice.{pick, both}
+use Rattle.table.specs.Table.{decode}
+use Rattle.timer.specs.Registers.{freshTimer, afterEvent, registerRead, lineOn}
+use Rattle.timer.specs.RegisterLaws.{serve-none}
+use Rattle.timer.specs.declared.RegisterRead.{RegisterRead}
+use Rattle.timer.specs.declared.Changed.{Changed}
+use Rattle.timer.specs.declared.FrameServed.{FrameServed}
+use Rattle.bus.specs.Reply.{refused, reply}
+use Rattle.bus.specs.ReplyLaws.{reply-refused, reply-value, after-refusal, after-value}
+use Rattle.bus.specs.State.{pairBytes, zeros}
+use Rattle.bus.specs.Timer.{isTimer, timerOf, timerBytes, timerFreshReply, timerFreshBytes, timerReadReply, changedReply, changedBytes}
+use Rattle.bus.specs.Timer.{timerEventReply, timerEventBytes, timerFrame, canServeTimer, frameAsked, timerServeReply, timerServeBytes}
+use Rattle.bus.specs.Timer.{timerServeEntries, timerLineReply}
+
+-- whether the bytes are a timer
+
+module _ (bytes : List ℕ) where
+  abbrev judgedLong : Bool
+  judgedLong = both (ltb (getD bytes 2 0) 2) (both (ltb (getD bytes 64 0) 4) (ltb (getD bytes 65 0) 8))
+
+  pub timer-short : length bytes < 72 → false ≡ isTimer bytes
+  unfolding isTimer
+  timer-short h = rw (lt-ltb (length bytes) 72 h)
+
+  pub timer-long : isTimer bytes ≡ true → 72 ≤ length bytes
+  unfolding isTimer
+  timer-long e = go (ltb (length bytes) 72) refl e
+    where
+      go : (b : Bool) → ltb (length bytes) 72 ≡ b → pick b false judgedLong ≡ true → 72 ≤ length bytes
+      go true w q = absurd (false≢true q)
+      go false w q = ltb-false (length bytes) 72 w
+
+  module _ (long : 72 ≤ length bytes) where
+    pub bad-mark : 2 ≤ getD bytes 2 0 → false ≡ isTimer bytes
+    unfolding isTimer
+    bad-mark h = rw (le-ltb (length bytes) 72 long, le-ltb (getD bytes 2 0) 2 h)
+
+    module _ (mark : getD bytes 2 0 < 2) where
+      pub bad-control : 4 ≤ getD bytes 64 0 → false ≡ isTimer bytes
+      unfolding isTimer
+      bad-control h = rw (le-ltb (length bytes) 72 long, lt-ltb (getD bytes 2 0) 2 mark, le-ltb (getD bytes 64 0) 4 h)
+
+      pub status-decides : getD bytes 64 0 < 4 → ltb (getD bytes 65 0) 8 ≡ isTimer bytes
+      unfolding isTimer
+      status-decides h = rw (le-ltb (length bytes) 72 long, lt-ltb (getD bytes 2 0) 2 mark, lt-ltb (getD bytes 64 0) 4 h)
+
+-- bus_timer_fresh
+
+module _ (bytes : List ℕ) where
+  pub timer-fresh-refused : length bytes < 72 → (refused 99 ≡ timerFreshReply bytes) × (bytes ≡ timerFreshBytes bytes)
+  unfolding timerFreshReply timerFreshBytes
+  timer-fresh-refused h = let e = lt-ltb (length bytes) 72 h in (rw e, rw e)
+
+  pub timer-fresh-made : 72 ≤ length bytes
+      → (pos 0 ≡ timerFreshReply bytes) × (timerBytes freshTimer (zeros 72 ++ drop 72 bytes) ≡ timerFreshBytes bytes)
+  unfolding timerFreshReply timerFreshBytes
+  timer-fresh-made h = let e = le-ltb (length bytes) 72 h in (rw e, rw e)
+
+-- bus_timer_read
+
+module _ (address : ℕ) (bytes : List ℕ) where
+  pub read-no-timer : isTimer bytes ≡ false → refused 99 ≡ timerReadReply address bytes
+  unfolding timerReadReply
+  read-no-timer e = rw e
+
+  module _ (is : isTimer bytes ≡ true) (r : RegisterRead) (e : r ≡ registerRead address (timerOf bytes)) where
+    pub timer-read-refused : (r .refusal ≡ 0 → ⊥) → refused (r .refusal) ≡ timerReadReply address bytes
+    unfolding timerReadReply
+    timer-read-refused h = rw (is, ← e) (reply-refused (r .refusal) (r .value) h)
+
+    pub timer-read-made : r .refusal ≡ 0 → pos (r .value) ≡ timerReadReply address bytes
+    unfolding timerReadReply
+    timer-read-made h = rw (is, ← e) (reply-value (r .refusal) (r .value) h)
+
+-- bus_timer_write and bus_timer_report: `answer` is what the timer answers
+
+module _ (bytes : List ℕ) (answer : Changed) where
+  abbrev pub ChangedSo : ℤ → List ℕ → Type 0
+  ChangedSo z bytes′ = (z ≡ changedReply answer bytes) × (bytes′ ≡ changedBytes answer bytes)
+
+  pub change-no-timer : isTimer bytes ≡ false → ChangedSo (refused 99) bytes
+  change-no-timer e = (rw e, rw e)
+
+  module _ (is : isTimer bytes ≡ true) (r : Changed) (e : r ≡ answer) where
+    pub change-refused : (r .refusal ≡ 0 → ⊥) → ChangedSo (refused (r .refusal)) bytes
+    change-refused h = rw (is, ← e) (reply-refused (r .refusal) 0 h, after-refusal (r .refusal) (timerBytes (r .timer) bytes) bytes h)
+
+    pub change-made : r .refusal ≡ 0 → ChangedSo (pos 0) (timerBytes (r .timer) bytes)
+    change-made h = rw (is, ← e) (reply-value (r .refusal) 0 h, after-value (r .refusal) (timerBytes (r .timer) bytes) bytes h)
+
+-- bus_timer_event
+
+module _ (bytes : List ℕ) where
+  pub event-no-timer : isTimer bytes ≡ false → (refused 99 ≡ timerEventReply bytes) × (bytes ≡ timerEventBytes bytes)
+  unfolding timerEventReply timerEventBytes
+  event-no-timer e = (rw e, rw e)
+
+  pub event-made : isTimer bytes ≡ true → (pos 0 ≡ timerEventReply bytes) × (timerBytes (afterEvent (timerOf bytes)) bytes ≡ timerEventBytes bytes)
+  unfolding timerEventReply timerEventBytes
+  event-made e = (rw e, rw e)
+
+-- bus_timer_serve
+
+module _ (table bytes entries : List ℕ) where
+  abbrev pub ServedSo : ℤ → List ℕ → List ℕ → Type 0
+  ServedSo z bytes′ entries′ =
+      (z ≡ timerServeReply table bytes entries) × (bytes′ ≡ timerServeBytes table bytes entries) × (entries′ ≡ timerServeEntries table bytes entries)
+
+  not-served : canServeTimer table bytes entries ≡ false → ServedSo (refused 99) bytes entries
+  unfolding timerServeReply timerServeBytes timerServeEntries frameAsked
+  not-served e = (rw e, rw e, rw e)
+
+  pub serve-no-timer : isTimer bytes ≡ false → ServedSo (refused 99) bytes entries
+  unfolding canServeTimer
+  serve-no-timer e = not-served (rw e)
+
+  pub serve-no-room : isTimer bytes ≡ true → length entries < 32 → ServedSo (refused 99) bytes entries
+  unfolding canServeTimer
+  serve-no-room e h = not-served (rw (e, lt-ltb (length entries) 32 h))
+
+  module _ (is : isTimer bytes ≡ true) (room : 32 ≤ length entries) where
+    can : canServeTimer table bytes entries ≡ true
+    unfolding canServeTimer
+    can = rw (is, le-ltb (length entries) 32 room)
+
+    pub serve-none-due : timerOf bytes .status .due ≡ false → ServedSo (pos 0) bytes entries
+    unfolding timerServeReply timerServeBytes timerServeEntries frameAsked reply
+    serve-none-due due = (rw (can, serve-none (decode table) (timerOf bytes) due), rw (can, due), rw (can, due))
+
+    module _ (due : timerOf bytes .status .due ≡ true) (frame : FrameServed) (e : frame ≡ timerFrame table bytes entries) where
+      abbrev shown : List ℕ
+      shown = pairBytes (frame .tasks) (frame .jobs) 16 0 ++ drop 32 entries
+
+      pub timer-serve-refused : (frame .refusal ≡ 0 → ⊥) → ServedSo (refused (frame .refusal)) bytes entries
+      unfolding timerServeReply timerServeBytes timerServeEntries frameAsked
+      timer-serve-refused h = rw (← e, can, due) (
+        reply-refused (frame .refusal) (frame .count) h,
+        after-refusal (frame .refusal) (timerBytes (frame .timer) bytes) bytes h,
+        after-refusal (frame .refusal) shown entries h,
+      )
+
+      pub timer-serve-made : frame .refusal ≡ 0 → ServedSo (pos (frame .count)) (timerBytes (frame .timer) bytes) shown
+      unfolding timerServeReply timerServeBytes timerServeEntries frameAsked
+      timer-serve-made h = rw (← e, can, due) (
+        reply-value (frame .refusal) (frame .count) h,
+        after-value (frame .refusal) (timerBytes (frame .timer) bytes) bytes h,
+        after-value (frame .refusal) shown entries h,
+      )
+
+-- bus_timer_line
+
+module _ (bytes : List ℕ) where
+  pub line-no-timer : isTimer bytes ≡ false → refused 99 ≡ timerLineReply bytes
+  unfolding timerLineReply
+  line-no-timer e = rw e
+
+  module _ (is : isTimer bytes ≡ true) where
+    pub line-on : lineOn (timerOf bytes) ≡ true → pos 1 ≡ timerLineReply bytes
+    unfolding timerLineReply
+    line-on e = rw (is, e)
+
+    pub line-off : lineOn (timerOf bytes) ≡ false → pos 0 ≡ timerLineReply bytes
+    unfolding timerLineReply
+    line-off e = rw (is, e)

@@ -1,0 +1,4 @@
+-- to be believed
+pub mod Registers
+-- laws
+pub mod RegisterLaws
