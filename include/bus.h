@@ -1,7 +1,8 @@
 /*
  * The bus table library: joining and cutting requests, planning, checking and dispatching a table
- * for the bus controller, the registers of its timer, finding time for a one-off transfer, moving jobs
- * by hand, and counting the phases of a task that still fit.
+ * for the bus controller, the registers of its timer, a heater's commands, which are sent again until
+ * they are answered, finding time for a one-off transfer, moving jobs by hand, and counting the phases
+ * of a task that still fit.
  *
  * All times are whole ticks. A u16 in a file, a state or a draft is two bytes, low byte first.
  *
@@ -31,6 +32,9 @@ extern "C" {
 #define BUS_TRIES_BYTES 8
 #define BUS_PHASES_BYTES 8
 
+/* The bytes of a heater. */
+#define BUS_HEATER_BYTES 72
+
 /* The most tasks, and so the counts of a state. */
 #define BUS_TASKS 16
 
@@ -45,8 +49,8 @@ extern "C" {
 #define BUS_LIFTED 65535
 
 /*
- * A state, timer, entries, tries, draft or counts buffer that is too short, or bytes that are no state
- * or no timer.
+ * A state, timer, heater, entries, tries, draft or counts buffer that is too short, or bytes that are
+ * no state, no timer or no heater.
  */
 #define BUS_BAD_BUFFER 99
 
@@ -253,6 +257,68 @@ int32_t bus_timer_report(const uint8_t *request, size_t request_len, uint8_t tas
 int32_t bus_timer_line(const uint8_t *timer, size_t timer_len);
 
 /*
+ * The heater link sends a heater's commands over a line that may lose them. For a pair a, b of the
+ * request a command goes out each time task a is served, and a reply each time task b is. A command
+ * carries the master's bit, a reply the bit that the board last obeyed. The board toggles the heater
+ * if the arriving bit differs from the one it last obeyed. The master repeats its bit until a reply
+ * shows it; that reply answers the command, and the next command has the other bit. So whatever is
+ * lost, the toggles are as many as the commands answered, or one more while a command is unanswered:
+ * a command that is sent again never toggles twice.
+ *
+ * A heater stands in 72 bytes that the caller lends:
+ *
+ *   bytes 0 to 63     the dispatcher's state, as above
+ *   byte 64           the bit that the master sends
+ *   byte 65           the bit that the board last obeyed
+ *   byte 66           1 where the board toggled in the last call that was not refused, else 0
+ *   byte 67           1 where the command was answered in that call, else 0
+ *   bytes 68 to 71    kept free; bus_heater_fresh sets them to 0, bus_heater_serve neither reads nor
+ *                     changes them
+ *
+ * Bytes behind the first 72 of a longer buffer are never read or changed. A heater is a state for
+ * bus_report too: the overruns of a flight are counted in its first 64 bytes.
+ */
+
+/*
+ * Whether the board toggled, and whether the command was answered, in the last call that was not
+ * refused: 1 or 0. `heater` points to the 72 bytes of a heater.
+ */
+static inline int bus_heater_toggled(const uint8_t *heater)
+{
+    return heater[66];
+}
+
+static inline int bus_heater_answered(const uint8_t *heater)
+{
+    return heater[67];
+}
+
+/*
+ * Makes a fresh heater: a fresh state, the master's bit 0, the bit last obeyed 1, nothing toggled and
+ * nothing answered. All 72 bytes are set.
+ *
+ * Answers 0, or refuses with 99 (fewer than 72 bytes).
+ */
+int32_t bus_heater_fresh(uint8_t *heater, size_t heater_len);
+
+/*
+ * Serves one frame of a table for the pair a, b of the request, as bus_next_frame does with the
+ * heater's state, and plays the command and the reply that are served in it. Where both are, the
+ * command goes first. `lost` tells which of the two are lost: bit 0 the command, bit 1 the reply;
+ * other bits mean nothing, and so does the loss of what is not served in this frame. Bytes 66 and 67
+ * tell what came of it.
+ *
+ * `entries` is filled as by bus_next_frame.
+ *
+ * Answers the number of entries, 0 to 16, or refuses with 99 (fewer than 72 bytes in `heater` or 32
+ * in `entries`, or byte 2 or one of bytes 64 to 67 neither 0 nor 1), then with bus_check's numbers,
+ * then with 30, then with 15.
+ */
+int32_t bus_heater_serve(const uint8_t *request, size_t request_len, const uint8_t *table, size_t table_len,
+                         uint8_t a, uint8_t b, uint8_t lost, uint8_t *heater, size_t heater_len,
+                         uint8_t *entries, size_t entries_len);
+
+/*
  * Joins two requests and writes one to the front of `out`: the tasks of the first and then those
  * of the second, the pairs of the first and then those of the second with both numbers raised by
  * the first's number of tasks, and the silent ticks, which must be the same in both. No silent
@@ -405,8 +471,9 @@ int32_t bus_draft_write(const uint8_t *request, size_t request_len, const uint8_
  *   27  the frame is outside the job's window
  *   28  the frame's row has no room for the job, or a pair is out of order with a placed job
  *   29  a register's address is above 7
- *   99  a state, timer, entries, tries, draft or counts buffer is too short, the mark of a state is
- *       neither 0 nor 1, or bytes lent as a timer have control above 3 or status above 7
+ *   30  a, b is no pair of the request
+ *   99  a state, timer, heater, entries, tries, draft or counts buffer is too short, the mark of a state
+ *       is neither 0 nor 1, or the bytes are no timer or no heater
  */
 
 #ifdef __cplusplus

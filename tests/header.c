@@ -249,6 +249,58 @@ static void timers(const uint8_t *request, size_t len, const uint8_t *bad, size_
     expect("bus_timer_line", bus_timer_line(timer, sizeof timer), -BUS_BAD_BUFFER);
 }
 
+/* A command and its reply in one frame of 4 ticks: (1,4,4,0) twice, pair 0, 1. */
+static const uint8_t switched[] = {
+    0x02, 0x01, 0x00, 0x04, 0x00, 0x04, 0x00, 0x00, 0x00, 0x01, 0x00,
+    0x04, 0x00, 0x04, 0x00, 0x00, 0x00, 0x01, 0x00, 0x01,
+};
+static const uint8_t switched_table[] = {0x02, 0x04, 0x00, 0x04, 0x00, 0x01, 0x00, 0x02, 0x00, 0x00, 0x01, 0x00};
+
+/* Serves a frame for a pair, with so much room for its entries: this answer, and both entries in it. */
+static void serve(uint8_t a, uint8_t b, uint8_t lost, uint8_t *link, size_t room, int32_t answer)
+{
+    uint8_t entries[BUS_ENTRIES_BYTES];
+    memset(entries, 0x5A, sizeof entries);
+    expect("bus_heater_serve",
+           bus_heater_serve(switched, sizeof switched, switched_table, sizeof switched_table, a, b, lost, link,
+                            BUS_HEATER_BYTES, entries, room), answer);
+    expect("bus_heater_serve, entries", entries[2], answer < 0 ? 0x5A : 1);
+    expect("bus_heater_serve, unused entries", entries[31], answer < 0 ? 0x5A : 0);
+}
+
+/* A reply is lost and the command sent again; then a command is lost, both, and nothing. Refusals leave what was told. */
+static void heater(const uint8_t *other, size_t other_len)
+{
+    static const uint8_t frames[][3] = {{2, 1, 0}, {2, 0, 0}, {0, 0, 1}, {1, 0, 0}, {3, 0, 0}, {252, 1, 1}};
+    uint8_t link[BUS_HEATER_BYTES + 1], entries[BUS_ENTRIES_BYTES];
+    memset(link, 0x5A, sizeof link);
+    expect("bus_heater_fresh", bus_heater_fresh(link, BUS_HEATER_BYTES - 1), -BUS_BAD_BUFFER);
+    expect("bus_heater_fresh, refused", link[64], 0x5A);
+    expect("bus_heater_fresh", bus_heater_fresh(link, sizeof link), 0);
+    expect("bus_heater_fresh, bits", link[64] == 0 && link[65] == 1 && link[71] == 0, 1);
+    expect("bus_heater_fresh, behind", link[BUS_HEATER_BYTES], 0x5A);
+    for (size_t i = 0; i < sizeof frames / sizeof *frames; i++) {
+        serve(0, 1, frames[i][0], link, sizeof entries, 2);
+        expect("bus_heater_toggled", bus_heater_toggled(link), frames[i][1]);
+        expect("bus_heater_answered", bus_heater_answered(link), frames[i][2]);
+    }
+    serve(1, 0, 0, link, sizeof entries, -30);
+    serve(0, 1, 0, link, sizeof entries - 1, -BUS_BAD_BUFFER);
+    expect("bus_heater_serve",
+           bus_heater_serve(switched, sizeof switched, other, other_len, 1, 0, 0, link, sizeof link, entries,
+                            sizeof entries), -13);
+    expect("bus_heater_serve, refused", bus_heater_toggled(link) && bus_heater_answered(link), 1);
+    expect("bus_report", bus_report(switched, sizeof switched, 1, 9, link, sizeof link), 0);
+    expect("bus_overruns", bus_overruns(link, 1), 1);
+    serve(0, 1, 0, link, sizeof entries, 2);
+    expect("bus_overruns", bus_overruns(link, 1), 1);
+    link[0] = 1;
+    serve(0, 1, 0, link, sizeof entries, -15);
+    link[67] = 2;
+    serve(0, 1, 0, link, sizeof entries, -BUS_BAD_BUFFER);
+    expect("bus_heater_serve, behind", link[BUS_HEATER_BYTES], 0x5A);
+}
+
 int main(void)
 {
     static const uint8_t request[] = {
@@ -325,5 +377,6 @@ int main(void)
     drafts(request, sizeof request, bad, sizeof bad, table, used);
     full_row(silent, sizeof silent);
     timers(request, sizeof request, bad, sizeof bad, table, used);
+    heater(table, used);
     return faults != 0;
 }

@@ -17,6 +17,8 @@
     bus.strip(request, found)                  # the same as a picture
     timer = bus.Timer(table, request)          # the dispatcher behind eight registers, for a controller's driver
     timer.write(0, 3), timer.event(), timer.serve(), timer.registers, timer.line
+    heater = bus.Heater("examples/heater.csv", "examples/heater.table", "switch", "status")
+    heater.serve("r"), heater.toggles, heater.on   # a frame in which the reply is lost
 """
 
 from .build import NotBuilt
@@ -26,6 +28,7 @@ from .cut import cut
 from .dispatcher import Dispatcher, Frame, Served
 from .draft import Draft
 from .files import FileFault
+from .heater import Exchange, Heater, Message
 from .join import join
 from .lists import ListFaults
 from .phases import Phases, Run, phases
@@ -44,11 +47,14 @@ __all__ = [
     "Dispatcher",
     "Draft",
     "Entry",
+    "Exchange",
     "FileFault",
     "Frame",
     "FreeFrame",
+    "Heater",
     "Job",
     "ListFaults",
+    "Message",
     "NotBuilt",
     "Phases",
     "Refused",

@@ -347,3 +347,15 @@ def _out_of_order(request, draft, job, frame):
 def no_place(*, request, draft, place, frame, **_):
     job = request.jobs()[place]
     return "; ".join([*_row_over(request, draft, job, frame), *_out_of_order(request, draft, job, frame)])
+
+
+def no_such_pair(*, request, pair, called, **_):
+    for task, name in zip(pair, called):
+        if task >= len(request.tasks):
+            return _no_such_task(request, name)
+    first, second = (request.place(task) for task in pair)
+    if pair[::-1] in request.pairs:
+        return f"{second} comes before {first}: the command is the first of the two"
+    names = [task.name for task in request.tasks]
+    pairs = ", ".join(f"{names[a]} before {names[b]}" for a, b in dict.fromkeys(request.pairs))
+    return f"{first} and {second} are none; " + (f"the pairs are {pairs}" if pairs else "the list has no pairs")

@@ -27,6 +27,13 @@ class Frame(NamedTuple):
     entries: tuple
 
 
+def frame_of(table, number, entries):
+    """The frame of a table with this number, and the bytes of the entries that it serves."""
+    cycle = number // len(table.rows)
+    served = tuple(Served(*entry, cycle - entry.carry) for entry in tables.entries_of(entries))
+    return Frame(number, number * table.frame, served)
+
+
 class Dispatcher:
     """Serves a table frame by frame, from a fresh state, and counts overruns by task.
 
@@ -62,10 +69,7 @@ class Dispatcher:
             raise Refused(-answer)
         number, self.state = self._served, state
         self._served += 1
-        cycle = number // len(self._table.rows)
-        served = tables.entries_of(entries[: 2 * answer])
-        standing = tuple(Served(*entry, cycle - entry.carry) for entry in served)
-        return Frame(number, number * self._table.frame, standing)
+        return frame_of(self._table, number, entries[: 2 * answer])
 
     def report(self, task, ticks):
         """Reports the ticks that a task, given by its number, used."""

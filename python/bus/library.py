@@ -21,6 +21,7 @@ TABLE_BYTES = 519
 REQUEST_BYTES = 164
 DRAFT_BYTES = 770
 TIMER_BYTES = 72
+HEATER_BYTES = 72
 
 # The most tries that can be allowed, the most ticks that can be asked for or reported, those of a transfer, and the
 # highest number of a frame that can be named.
@@ -147,6 +148,12 @@ timer_report = Call(
     "timer_report", read("request"), number("task", 8), number("ticks", 32), changed("timer", TIMER_BYTES)
 )
 timer_line = Call("timer_line", read("timer"))
+heater_fresh = Call("heater_fresh", filled("heater", HEATER_BYTES))
+heater_serve = Call(
+    "heater_serve",
+    *(read("request"), read("table"), number("a", 8), number("b", 8), number("lost", 8)),
+    *(changed("heater", HEATER_BYTES), filled("entries", ENTRIES_BYTES)),
+)
 
 
 @functools.lru_cache(maxsize=None)

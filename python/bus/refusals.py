@@ -180,6 +180,12 @@ ROWS = (
         "the timer has no register at the address, which is above 7",
         "read and write the bytes 0 to 7",
     ),
+    Refusal(
+        30, LIST, details.no_such_pair,
+        "the two tasks of a heater link are no pair of the request",
+        "name the two transfers of a pair, that of the command first; in a list a pair is a line"
+        " `before,COMMAND,REPLY`",
+    ),
 )
 
 REFUSALS = {row.number: row for row in ROWS}

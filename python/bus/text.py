@@ -1,5 +1,5 @@
 """What the command prints, with names: a table's listing, its flight, its bytes in C, a frame with unused time, how
-far apart starts can be, which phases fit, and the registers of a timer."""
+far apart starts can be, which phases fit, the registers of a timer, and the frames of a heater link."""
 
 import re
 
@@ -57,14 +57,35 @@ def free_frame(request, frame):
     return f"frame {frame.number} start {frame.start} end {frame.end}\n{row}\n"
 
 
+def _columns(lines):
+    """Lines of as many words each, one below the other."""
+    widths = [max(map(len, column)) for column in zip(*lines)]
+    return "".join("  ".join(map(str.ljust, line, widths)).rstrip() + "\n" for line in lines)
+
+
 def spacings(records):
     """A line for each task below the names of the columns: what any table gives, and what this one."""
     lines = [("name", "ticks apart in any table", "in this table")]
     for one in records:
         any_table, this_table = f"{one.bound_least} to {one.bound_most}", f"{one.least} to {one.most}"
         lines.append((quoted(one.name), any_table, this_table))
-    first, second = (max(len(line[column]) for line in lines) for column in (0, 1))
-    return "".join(f"{name:{first}}  {bound:{second}}  {here}\n" for name, bound, here in lines)
+    return _columns(lines)
+
+
+def _message(message):
+    """The bit of a command or a reply, and whether it was lost."""
+    return "-" if message is None else f"{message.bit}{' lost' if message.lost else ''}"
+
+
+def exchanges(records, heater):
+    """A line for each frame of a heater link below the names of the columns, and one for all of them."""
+    lines = [("frame", "start", "command", "reply", "toggled", "answered")]
+    for one in records:
+        told = ("yes" if done else "-" for done in (one.toggled, one.answered))
+        lines.append((str(one.frame.number), str(one.frame.start), _message(one.command), _message(one.reply), *told))
+    under_way = ", its answer still to come" if heater.under_way else ""
+    state = "on" if heater.on else "off"
+    return f"{_columns(lines)}toggles {heater.toggles}, answered {heater.answered}, heater {state}{under_way}\n"
 
 
 def answer_word(answer):

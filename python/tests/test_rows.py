@@ -111,6 +111,7 @@ class Refusals(Case):
             26: lambda: bus.Draft(one, table).lift("task1.0"),
             27: lambda: moved(one, table, "task0.0", 1),
             28: lambda: moved(full, bus.plan(full), "task1.0", 1),
+            30: lambda: bus.Heater(one, table, 0, 0),
         }
         self.assertEqual(sorted(cases), [row.number for row in refusals.ROWS if row.details])
         for number, case in cases.items():

@@ -30,7 +30,13 @@ pub const STATUS_AT: usize = 65;
 pub const TIMER_USED: usize = 66;
 /// Registers of a timer.
 pub const REGISTERS: usize = 8;
-/// Refusal of a buffer that is too short, or of bytes that are no state or no timer.
+/// Bytes of a heater that a caller lends: a dispatcher's state, 4 of the link, and 4 that are free.
+pub const HEATER_LEN: usize = 72;
+/// Where a heater has the master's bit, the bit last obeyed, toggled and answered.
+pub const LINK_BYTES: Range<usize> = 64..68;
+/// Bytes of a heater up to the last that is in use.
+pub const HEATER_USED: usize = 68;
+/// Refusal of a buffer that is too short, or of bytes that are no state, no timer or no heater.
 pub const BAD_BUFFER: i32 = 99;
 
 /// Bytes of the four counts of phases.

@@ -4,19 +4,21 @@ use std::collections::{BTreeMap, VecDeque};
 
 use crate::bus::{count_bytes, DRAFT_LEN, ROWS, STATE_LEN, STATE_USED, TASKS};
 use crate::bus::{CONTROL_AT, REGISTERS, STATUS_AT, TIMER_LEN, TIMER_USED};
+use crate::bus::{HEATER_LEN, LINK_BYTES};
 use crate::call::{Call, Outcome, Value};
 use crate::comparison::MOST_TRIES;
 use crate::generate;
 use crate::random::Random;
 use crate::reference::cut::Cut;
 use crate::reference::draft::Draft;
+use crate::reference::heater::Pair;
 use crate::reference::one_off::Asked;
 use crate::reference::phases::Shift;
 use crate::reference::table::encode;
 use crate::reference::{planned_within, read_cycle, tries_within};
 use crate::rounds::phases;
 use crate::rounds::planning::allowances;
-use crate::rounds::{cutting, drafting, joining, one_off};
+use crate::rounds::{cutting, drafting, heater, joining, one_off};
 use crate::row::Kind;
 
 /// How many requests and how many tables are kept.
@@ -72,6 +74,7 @@ struct Drawn {
     cut: Option<Cut>,
     draft: Option<Draft>,
     job: usize,
+    pair: Option<Pair>,
 }
 
 pub struct Fuzzer {
@@ -363,6 +366,21 @@ impl Fuzzer {
         bytes
     }
 
+    /// A heater: one that a call left, or a state with four bytes of a link behind it.
+    pub fn heater(&mut self) -> Vec<u8> {
+        if let Some(bytes) = self.left("heater") {
+            return bytes;
+        }
+        let mut bytes = self.about(HEATER_LEN);
+        let state = self.state();
+        let both = state.len().min(bytes.len());
+        bytes[..both].copy_from_slice(&state[..both]);
+        if bytes.len() >= HEATER_LEN && self.rng.chance(95) {
+            bytes[LINK_BYTES].fill_with(|| self.rng.pick(&[0, 1]));
+        }
+        bytes
+    }
+
     /// The address of a register, now and then none.
     pub fn address(&mut self) -> u64 {
         match self.rng.below(8) {
@@ -378,5 +396,25 @@ impl Fuzzer {
             0 => self.rng.byte().into(),
             _ => self.rng.below(8) as u64,
         }
+    }
+
+    /// A pair for command and reply, drawn about the request.
+    fn pair(&mut self) -> Pair {
+        let drawn = &mut self.drawn;
+        *drawn
+            .pair
+            .get_or_insert_with(|| heater::some_pair(&mut self.rng, &drawn.requests[0]))
+    }
+
+    pub fn command_task(&mut self) -> u64 {
+        self.pair().a.into()
+    }
+
+    pub fn reply_task(&mut self) -> u64 {
+        self.pair().b.into()
+    }
+
+    pub fn lost(&mut self) -> u64 {
+        heater::some_loss(&mut self.rng, 40).into()
     }
 }

@@ -165,6 +165,24 @@ macro_rules! every_call {
             timer_line(
                 timer: read(Fuzzer::timer),
             ) refuses [99];
+
+            /// 0, with a fresh heater in the first 72 bytes.
+            heater_fresh(
+                heater: write(Fuzzer::heater, Change::First(HEATER_LEN)),
+            ) refuses [99];
+
+            /// The number of entries served; `entries` gets 16 places of a task and a job byte, and the
+            /// heater another row and mark, its bits, and whether the board toggled and the command was
+            /// answered.
+            heater_serve(
+                request: read(Fuzzer::request),
+                table: read(Fuzzer::table),
+                a: u8(Fuzzer::command_task),
+                b: u8(Fuzzer::reply_task),
+                lost: u8(Fuzzer::lost),
+                heater: write(Fuzzer::heater, Change::First(HEATER_USED)),
+                entries: write(|fuzzer| fuzzer.about(ENTRIES_LEN), Change::First(ENTRIES_LEN)),
+            ) refuses [99, 1, 2, 3, 4, 5, 17, 6, 7, 8, 12, 13, 14, 30, 15];
         }
     };
 }

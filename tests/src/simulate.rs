@@ -2,6 +2,7 @@
 //! plain dispatcher that keeps only the frames served and the overruns of each task.
 
 pub mod cut;
+pub mod heater;
 pub mod timer;
 
 use std::collections::BTreeMap;

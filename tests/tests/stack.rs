@@ -1,7 +1,9 @@
 //! Every call in a thread with a stack of 256 KiB; an overflow ends the whole run.
 #![cfg(feature = "linked")]
 
-use bus_tests::bus::{COUNTS_LEN, DRAFT_LEN, ENTRIES_LEN, STATE_LEN, TIMER_LEN, TRIES_LEN};
+use bus_tests::bus::{
+    COUNTS_LEN, DRAFT_LEN, ENTRIES_LEN, HEATER_LEN, STATE_LEN, TIMER_LEN, TRIES_LEN,
+};
 use bus_tests::call::{Call, Outcome};
 use bus_tests::compare::expected;
 use bus_tests::comparison::Comparison;
@@ -9,6 +11,7 @@ use bus_tests::fuzzer::Fuzzer;
 use bus_tests::lending::run;
 use bus_tests::library::Library;
 use bus_tests::reference::planned_within;
+use bus_tests::reference::request::read;
 use bus_tests::reference::table::encode;
 use bus_tests::rounds;
 use bus_tests::sheet::{self, request, silent_request};
@@ -33,6 +36,13 @@ fn deep_requests() -> Vec<Vec<u8>> {
         sheet::p9(),
         sheet::p3(),
     ]
+}
+
+/// The last pair of the request, or two tasks that are none.
+fn some_pair(request: &[u8]) -> (u8, u8) {
+    let pairs = read(request).expect("it has a table").pairs;
+    let (a, b) = pairs.last().copied().unwrap_or((0, 0));
+    (a as u8, b as u8)
 }
 
 /// Calls with the outcomes of the reference, which needs a longer stack.
@@ -68,6 +78,13 @@ impl Calls {
         let frame = u16::from_le_bytes([draft[2], draft[3]]);
         for k in [0, 1, 65_535, frame] {
             self.add(&Call::draft_put(request, 0, k, &up[0]))?;
+        }
+        let mut heater = self.add(&Call::heater_fresh(&[0; HEATER_LEN]))?.buffers;
+        let (a, b) = some_pair(request);
+        for lost in 0..40 {
+            let entries = [0; ENTRIES_LEN];
+            let call = Call::heater_serve(request, &table, a, b, lost, &heater[0], &entries);
+            heater = self.add(&call)?.buffers;
         }
         let mut state = self.add(&Call::fresh(&[0; STATE_LEN]))?.buffers.remove(0);
         for _ in 0..300 {

@@ -24,3 +24,6 @@ pub mod DraftLaws
 -- registers
 pub mod Timer
 pub mod TimerLaws
+-- heater
+pub mod Heater
+pub mod HeaterLaws

@@ -4,6 +4,7 @@
 pub mod dispatch;
 mod draft_bytes;
 pub mod drafts;
+pub mod heater;
 pub mod registers;
 mod reply;
 pub mod requests;

@@ -4,6 +4,8 @@ pub mod RoundTrip
 pub mod DraftTrip
 -- and so are those of a timer
 pub mod TimerRoundTrip
+-- and those of a heater
+pub mod HeaterBack
 -- which bytes of a state a call changes
 pub mod Changed
 -- the bytes of the tries give the count back

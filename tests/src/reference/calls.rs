@@ -3,6 +3,7 @@
 use super::cut::{self, Cut};
 use super::dispatch::{self, State};
 use super::draft::{self, Draft};
+use super::heater::{self, Link, Lost, Pair};
 use super::join::joined;
 use super::one_off::{earliest, Asked};
 use super::phases::{self, Shift};
@@ -12,6 +13,7 @@ use super::{checked, planned_within, request};
 use crate::bus::{count_bytes, counts, BAD_BUFFER, DRAFT_LEN, ENTRIES_LEN, STATE_LEN, TRIES_LEN};
 use crate::bus::{put_counts, COUNTS_LEN};
 use crate::bus::{CONTROL_AT, STATUS_AT, TIMER_LEN};
+use crate::bus::{HEATER_LEN, LINK_BYTES};
 
 type Answer = Result<i32, i32>;
 
@@ -213,4 +215,47 @@ pub fn timer_report(request: &[u8], task: u8, ticks: u32, timer: &mut [u8]) -> A
 
 pub fn timer_line(timer: &[u8]) -> Answer {
     Ok(timer_in(timer)?.line().into())
+}
+
+fn link_in(bytes: &[u8]) -> Result<Link, i32> {
+    lent(bytes, HEATER_LEN)?;
+    let own = &bytes[LINK_BYTES];
+    if own.iter().any(|byte| *byte > 1) {
+        return Err(BAD_BUFFER);
+    }
+    Ok(Link {
+        state: state_in(bytes)?,
+        master: own[0] == 1,
+        obeyed: own[1] == 1,
+    })
+}
+
+fn put_link(link: Link, toggled: bool, answered: bool, bytes: &mut [u8]) {
+    put_state(link.state, bytes);
+    let own = [link.master, link.obeyed, toggled, answered];
+    bytes[LINK_BYTES].copy_from_slice(&own.map(u8::from));
+}
+
+pub fn heater_fresh(heater: &mut [u8]) -> Answer {
+    lent(heater, HEATER_LEN)?;
+    heater[..HEATER_LEN].fill(0);
+    put_link(heater::fresh(), false, false, heater);
+    Ok(0)
+}
+
+pub fn heater_serve(
+    request: &[u8],
+    table: &[u8],
+    a: u8,
+    b: u8,
+    lost: u8,
+    heater: &mut [u8],
+    entries: &mut [u8],
+) -> Answer {
+    let before = link_in(heater)?;
+    lent(entries, ENTRIES_LEN)?;
+    let done = heater::serve(request, table, Pair { a, b }, Lost::told(lost), before)?;
+    put_link(done.link, done.toggled, done.answered, heater);
+    put_entries(&done.served, entries);
+    Ok(done.served.len() as i32)
 }

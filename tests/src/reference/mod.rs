@@ -7,6 +7,7 @@ pub mod cut;
 pub mod cycle;
 pub mod dispatch;
 pub mod draft;
+pub mod heater;
 pub mod join;
 pub mod listing;
 pub mod model;

@@ -2,6 +2,7 @@
 
 pub mod cutting;
 pub mod drafting;
+pub mod heater;
 pub mod joining;
 pub mod one_off;
 pub mod phases;
@@ -11,7 +12,7 @@ pub mod timer;
 use crate::comparison::Round;
 
 /// All kinds of rounds, for those who make every one.
-pub const ALL: [Round; 7] = [
+pub const ALL: [Round; 8] = [
     planning::round,
     joining::round,
     one_off::round,
@@ -19,4 +20,5 @@ pub const ALL: [Round; 7] = [
     drafting::round,
     phases::round,
     timer::round,
+    heater::round,
 ];

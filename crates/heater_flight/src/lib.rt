@@ -1,0 +1,1 @@
+// The heater link in flight: a theorem, and computed lists, in specs/. No function.

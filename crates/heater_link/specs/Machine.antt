@@ -1,0 +1,65 @@
+-- The two ends of the link, and what they make of what arrives: 02, R-13. A command carries the master's bit, a reply the bit that the board last obeyed. Nothing
+-- here speaks of tables.
+use Prim.Native.Nat.{ℕ, _+_}
+use mathlib.Core.Bool.{Bool, true, false, not}
+use mathlib.Core.List.{List, [], _∷_}
+use Rattle.cursor.specs.Choice.{pick, both, bit}
+
+-- the bit that the master sends, and the bit that the board last obeyed
+pub record Ends : Type 0 where
+  pub master : Bool
+  pub obeyed : Bool
+
+-- "The master starts with 0", and the bit last obeyed is "1 when fresh"
+abbrev pub freshEnds : Ends
+freshEnds = record { master = false; obeyed = true }
+
+-- which of the two arrive in a frame
+pub record Arrivals : Type 0 where
+  pub command : Bool
+  pub reply : Bool
+
+-- what comes of it: the board toggled; the command was answered
+pub record Outcome : Type 0 where
+  pub toggled : Bool
+  pub answered : Bool
+
+abbrev pub differ : Bool → Bool → Bool
+differ x y = pick x (not y) y
+
+-- in one frame the command goes before the reply
+module _ (e : Ends) (x : Arrivals) where
+  -- "The board toggles exactly if an arriving bit differs from the last one it obeyed"; and then it has obeyed that one
+  abbrev pub toggles : Bool
+  toggles = both (x .command) (differ (e .master) (e .obeyed))
+
+  abbrev pub obeyedNow : Bool
+  obeyedNow = pick (x .command) (e .master) (e .obeyed)
+
+  -- "each reply carries the bit last obeyed": one that arrives answers the command if it "shows" the master's bit
+  abbrev pub answers : Bool
+  answers = both (x .reply) (not (differ obeyedNow (e .master)))
+
+  -- "repeats the bit until the reply shows it, then flips it for the next command"
+  abbrev pub masterNow : Bool
+  masterNow = differ answers (e .master)
+
+  abbrev pub outcome : Outcome
+  outcome = record { toggled = toggles; answered = answers }
+
+  abbrev pub endsNow : Ends
+  endsNow = record { master = masterNow; obeyed = obeyedNow }
+
+-- frame by frame: "neither end restarts"
+unfoldable pub outcomes : Ends → List Arrivals → List Outcome
+outcomes e [] = []
+outcomes e (x ∷ xs) = outcome e x ∷ outcomes (endsNow e x) xs
+
+-- how many times the board toggled, and how many commands were answered
+unfoldable pub togglesIn : List Outcome → ℕ
+togglesIn [] = 0
+togglesIn (o ∷ os) = bit (o .toggled) + togglesIn os
+
+unfoldable pub answeredIn : List Outcome → ℕ
+answeredIn [] = 0
+answeredIn (o ∷ os) = bit (o .answered) + answeredIn os
