@@ -1,8 +1,8 @@
 /*
  * The bus table library: joining and cutting requests, planning, checking and dispatching a table
  * for the bus controller, the registers of its timer, a heater's commands, which are sent again until
- * they are answered, finding time for a one-off transfer, moving jobs by hand, and counting the phases
- * of a task that still fit.
+ * they are answered, finding time for a one-off transfer, moving jobs by hand, counting the phases
+ * of a task that still fit, and listing the jobs of a table for the ground team.
  *
  * All times are whole ticks. A u16 in a file, a state or a draft is two bytes, low byte first.
  *
@@ -41,6 +41,10 @@ extern "C" {
 /* The longest table: 7 + 256 rows + 2 for each of 128 jobs. */
 #define BUS_TABLE_BYTES 519
 
+/* The bytes of a job record, and of a list that holds the records of every cycle: 128 jobs. */
+#define BUS_RECORD_BYTES 8
+#define BUS_RECORDS_BYTES 1024
+
 /* The longest request: 16 tasks, 16 pairs and the silent ticks. */
 #define BUS_REQUEST_BYTES 164
 
@@ -62,8 +66,8 @@ extern "C" {
  * One try is one job tested in one frame of its window, whether it is then placed there or passed
  * over. The tries of the full search depend on the request alone. If it needs more than `allowance`,
  * the answer is 23: a table may or may not exist. With enough tries the answer is final. The programs
- * `plan`, `plan_table` and `fly` allow 10,000,000 tries; UINT64_MAX is a limit that no search reaches
- * in a lifetime.
+ * `plan`, `plan_table`, `fly` and `timeline` allow 10,000,000 tries; UINT64_MAX is a limit that no search
+ * reaches in a lifetime.
  *
  * The first 8 bytes of `tries` get the count of tries, low byte first, with every answer but 99: with
  * 1 to 9 and 17 it is 0, with 23 the allowance, else the tries of the full search. The bytes behind
@@ -381,6 +385,25 @@ int32_t bus_one_off(const uint8_t *request, size_t request_len, const uint8_t *t
                     uint32_t length, uint32_t from, uint32_t until);
 
 /*
+ * Checks a table like bus_check, and writes a record for each job of the cycle to the front of
+ * `records`, in planning order: by release, then task number. A record has 8 bytes:
+ *
+ *   byte 0            the task
+ *   byte 1            the job
+ *   bytes 2 and 3     its release
+ *   bytes 4 and 5     its due time, which may pass the cycle's end
+ *   bytes 6 and 7     its frame k, counted from time 0; for a carried entry k is the number of rows
+ *                     or more
+ *
+ * The list has records_len / 8 places. The bytes behind the records are left as they are.
+ *
+ * Answers the number of jobs, or refuses with 1 to 5, 17, 6 to 8, 12 to 14, then with 11 where the
+ * list has fewer places than the cycle has jobs. A list of BUS_RECORDS_BYTES is never too short.
+ */
+int32_t bus_timeline(const uint8_t *request, size_t request_len, const uint8_t *table,
+                     size_t table_len, uint8_t *records, size_t records_len);
+
+/*
  * A draft is a table whose jobs are moved by hand. It stands in 770 bytes that the caller lends:
  *
  *   bytes 0 and 1        the frame length f
@@ -451,7 +474,7 @@ int32_t bus_draft_write(const uint8_t *request, size_t request_len, const uint8_
  *    8  more than 128 jobs
  *    9  no frame length is plausible
  *   10  some frame length is plausible, but there is no plan
- *   11  the buffer is shorter than the table, or than the joined or cut request
+ *   11  the buffer is shorter than the table, than the joined or cut request, or than the records
  *   12  the bytes are no table
  *   13  the table's cycle is not the request's, or its frame length is not plausible
  *   14  the table does not describe a plan

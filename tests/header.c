@@ -301,6 +301,28 @@ static void heater(const uint8_t *other, size_t other_len)
     expect("bus_heater_serve, behind", link[BUS_HEATER_BYTES], 0x5A);
 }
 
+/* The jobs of P1 in planning order: task, job, release, due and frame; and the lists that are too short. */
+static void timeline(const uint8_t *request, size_t len, const uint8_t *bad, size_t bad_len, const uint8_t *table,
+                     size_t table_len)
+{
+    static const uint8_t jobs[5][BUS_RECORD_BYTES] = {
+        {0, 0, 0, 0, 20, 0, 0, 0}, {1, 0, 0, 0, 20, 0, 0, 0}, {2, 0, 0, 0, 40, 0, 0, 0},
+        {0, 1, 20, 0, 40, 0, 1, 0}, {1, 1, 20, 0, 40, 0, 1, 0},
+    };
+    uint8_t records[BUS_RECORDS_BYTES];
+    memset(records, 0x5A, sizeof records);
+    expect("bus_timeline", bus_timeline(request, len, table, table_len, records, sizeof jobs - 1), -11);
+    expect("bus_timeline", bus_timeline(request, len, table, table_len - 1, records, 0), -12);
+    expect("bus_timeline", bus_timeline(bad, bad_len, table, table_len, records, sizeof records), -17);
+    for (size_t i = 0; i < sizeof records; i++)
+        expect("bus_timeline, refused", records[i], 0x5A);
+    expect("bus_timeline", bus_timeline(request, len, table, table_len, records, sizeof jobs), 5);
+    expect("bus_timeline", bus_timeline(request, len, table, table_len, records, sizeof records), 5);
+    expect("bus_timeline, records", memcmp(records, jobs, sizeof jobs), 0);
+    for (size_t i = sizeof jobs; i < sizeof records; i++)
+        expect("bus_timeline, behind", records[i], 0x5A);
+}
+
 int main(void)
 {
     static const uint8_t request[] = {
@@ -378,5 +400,6 @@ int main(void)
     full_row(silent, sizeof silent);
     timers(request, sizeof request, bad, sizeof bad, table, used);
     heater(table, used);
+    timeline(request, sizeof request, bad, sizeof bad, table, used);
     return faults != 0;
 }

@@ -19,10 +19,13 @@
     timer.write(0, 3), timer.event(), timer.serve(), timer.registers, timer.line
     heater = bus.Heater("examples/heater.csv", "examples/heater.table", "switch", "status")
     heater.serve("r"), heater.toggles, heater.on   # a frame in which the reply is lost
+    jobs = bus.timeline(request, table)        # every job of a cycle with its window and its frame
+    bus.chart(request, table, jobs)            # the same as a picture
 """
 
 from .build import NotBuilt
 from .calls import FreeFrame, check, one_off, plan, rewrite
+from .chart import chart
 from .child import SearchEnded
 from .cut import cut
 from .dispatcher import Dispatcher, Frame, Served
@@ -41,6 +44,7 @@ from .spacing import Spacing, spacing
 from .strip import strip
 from .table import Entry, Table
 from .text import c_array, flight, listing
+from .timeline import Record, timeline
 from .timer import Timer
 
 __all__ = [
@@ -57,6 +61,7 @@ __all__ = [
     "Message",
     "NotBuilt",
     "Phases",
+    "Record",
     "Refused",
     "Request",
     "Run",
@@ -68,6 +73,7 @@ __all__ = [
     "Task",
     "Timer",
     "c_array",
+    "chart",
     "check",
     "cut",
     "flight",
@@ -81,4 +87,5 @@ __all__ = [
     "rewrite",
     "spacing",
     "strip",
+    "timeline",
 ]

@@ -22,6 +22,8 @@ REQUEST_BYTES = 164
 DRAFT_BYTES = 770
 TIMER_BYTES = 72
 HEATER_BYTES = 72
+RECORD_BYTES = 8
+RECORDS_BYTES = 1024
 
 # The most tries that can be allowed, the most ticks that can be asked for or reported, those of a transfer, and the
 # highest number of a frame that can be named.
@@ -77,6 +79,13 @@ def filled(name, size):
 def written(name, size):
     """An empty buffer; given back as far as the answer says that it was written."""
     return Argument(name, POINTER_AND_LENGTH, size, given=False, taken=lambda raw, answer: raw[: max(answer, 0)])
+
+
+def recorded(name, size, record):
+    """An empty buffer; given back as far as records of so many bytes were written, as many as the answer says."""
+    return Argument(
+        name, POINTER_AND_LENGTH, size, given=False, taken=lambda raw, answer: raw[: record * max(answer, 0)]
+    )
 
 
 def counted(name, size):
@@ -154,6 +163,7 @@ heater_serve = Call(
     *(read("request"), read("table"), number("a", 8), number("b", 8), number("lost", 8)),
     *(changed("heater", HEATER_BYTES), filled("entries", ENTRIES_BYTES)),
 )
+timeline = Call("timeline", read("request"), read("table"), recorded("records", RECORDS_BYTES, RECORD_BYTES))
 
 
 @functools.lru_cache(maxsize=None)

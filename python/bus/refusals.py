@@ -78,8 +78,9 @@ ROWS = (
     ),
     Refusal(
         11, NO_ONE, None,
-        "the buffer is shorter than the table, or than the joined or cut request",
-        "lend 7 + F + 2·(number of jobs) bytes for a table; 519 are always enough, and 164 for a request",
+        "the buffer is shorter than the table, than the joined or cut request, or than the records of a timeline",
+        "lend 7 + F + 2·(number of jobs) bytes for a table; 519 are always enough, 164 for a request, and 8 for each"
+        " job of a timeline, 1,024 for any",
     ),
     Refusal(
         12, TABLE, details.table_length,

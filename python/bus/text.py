@@ -1,6 +1,8 @@
 """What the command prints, with names: a table's listing, its flight, its bytes in C, a frame with unused time, how
-far apart starts can be, which phases fit, the registers of a timer, and the frames of a heater link."""
+far apart starts can be, which phases fit, the registers of a timer, the frames of a heater link, and a timeline."""
 
+import csv
+import io
 import re
 
 from .dispatcher import Dispatcher
@@ -23,7 +25,7 @@ def entry_label(request, entry):
 
 
 def busy(request, row):
-    """The ticks of a row's transfers, silent ones not counted."""
+    """The ticks of a row's transfers, or of a timeline's, silent ones not counted."""
     return sum(request.tasks[entry.task].length for entry in row)
 
 
@@ -70,6 +72,25 @@ def spacings(records):
         any_table, this_table = f"{one.bound_least} to {one.bound_most}", f"{one.least} to {one.most}"
         lines.append((quoted(one.name), any_table, this_table))
     return _columns(lines)
+
+
+TIMELINE_HEADER = ("name", "job", "release", "due", "frame")
+
+
+def timeline_lines(request, records):
+    """A line for each job below the names of the columns, then the ticks of all transfers."""
+    lines = [TIMELINE_HEADER]
+    lines += [(quoted(request.tasks[one.task].name), *map(str, one[1:])) for one in records]
+    return f"{_columns(lines)}busy {busy(request, records)}\n"
+
+
+def timeline_csv(request, records):
+    """The same as CSV, for other tools; without the last line."""
+    out = io.StringIO()
+    writer = csv.writer(out, lineterminator="\n")
+    writer.writerow(TIMELINE_HEADER)
+    writer.writerows((request.tasks[one.task].name, *one[1:]) for one in records)
+    return out.getvalue()
 
 
 def _message(message):

@@ -42,6 +42,9 @@ pub const BAD_BUFFER: i32 = 99;
 /// Bytes of the four counts of phases.
 pub const COUNTS_LEN: usize = 8;
 
+/// Bytes of a record of the timeline: task, job, release, due and frame.
+pub const RECORD_LEN: usize = 8;
+
 /// Where the count of a task stands in a state.
 pub fn count_bytes(task: usize) -> Range<usize> {
     3 + 2 * task..5 + 2 * task

@@ -18,7 +18,7 @@ use crate::reference::table::encode;
 use crate::reference::{planned_within, read_cycle, tries_within};
 use crate::rounds::phases;
 use crate::rounds::planning::allowances;
-use crate::rounds::{cutting, drafting, heater, joining, one_off};
+use crate::rounds::{cutting, drafting, heater, joining, one_off, timeline};
 use crate::row::Kind;
 
 /// How many requests and how many tables are kept.
@@ -237,6 +237,12 @@ impl Fuzzer {
             1 => self.rng.below(60),
             _ => self.rng.below(700),
         };
+        self.rng.bytes(length)
+    }
+
+    /// A list of records, mostly about as long as the request's jobs need.
+    pub fn records(&mut self) -> Vec<u8> {
+        let length = timeline::some_length(&mut self.rng, &self.drawn.requests[0]);
         self.rng.bytes(length)
     }
 

@@ -36,6 +36,8 @@ pub enum Kind {
 pub enum Change {
     /// As many from the front as is answered.
     Answered,
+    /// As many places of so many bytes from the front as is answered.
+    Places(usize),
     /// So many from the front.
     First(usize),
     /// So many from the front with every answer, unless the buffer is too short.
@@ -53,6 +55,7 @@ impl Change {
             Change::Always(count) if answer != -BAD_BUFFER => *count,
             _ if answer < 0 => 0,
             Change::Answered => answer as usize,
+            Change::Places(length) => length * answer as usize,
             Change::First(count) | Change::Always(count) => *count,
             Change::Part(named) => return vec![named(call)],
             Change::Parts(named) => return named(call),

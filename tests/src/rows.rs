@@ -183,6 +183,13 @@ macro_rules! every_call {
                 heater: write(Fuzzer::heater, Change::First(HEATER_USED)),
                 entries: write(|fuzzer| fuzzer.about(ENTRIES_LEN), Change::First(ENTRIES_LEN)),
             ) refuses [99, 1, 2, 3, 4, 5, 17, 6, 7, 8, 12, 13, 14, 30, 15];
+
+            /// The number of jobs of a cycle, each with its record in the front of `records`.
+            timeline(
+                request: read(Fuzzer::request),
+                table: read(Fuzzer::table),
+                records: write(Fuzzer::records, Change::Places(RECORD_LEN)),
+            ) refuses [1, 2, 3, 4, 5, 17, 6, 7, 8, 12, 13, 14, 11];
         }
     };
 }

@@ -58,8 +58,10 @@ struct Seen {
 impl Seen {
     fn note(&mut self, program: &str, printed: &Printed) {
         self.note_answer(program, printed);
-        if program == "plan" {
-            self.note_listing(printed);
+        match program {
+            "plan" => self.note_listing(printed),
+            "timeline" => self.note_timeline(printed),
+            _ => {}
         }
     }
 
@@ -83,6 +85,15 @@ impl Seen {
                 self.count("plan: a row with 16 entries".to_string());
             }
             entries.iter().for_each(|entry| self.note_entry(entry));
+        }
+    }
+
+    /// The records stand in the lines before the last, which has the busy ticks.
+    fn note_timeline(&mut self, printed: &Printed) {
+        let written = text(&printed.out);
+        let lines: Vec<&str> = written.lines().collect();
+        if lines.len() > 100 {
+            self.count("timeline: 100 jobs or more".to_string());
         }
     }
 
@@ -114,11 +125,12 @@ fn all_kinds() -> Vec<String> {
         "plan: a task number above 9",
         "plan: a job number above 9",
         "plan: a carried entry",
+        "timeline: 100 jobs or more",
         "check_table: accepted",
     ]
     .map(String::from)
     .to_vec();
-    for program in ["plan", "plan_table", "fly"] {
+    for program in ["plan", "plan_table", "fly", "timeline"] {
         let of_plan = (1..=10).chain([17]);
         kinds.extend(of_plan.map(|number| format!("{program}: refused {number}")));
     }
@@ -127,7 +139,7 @@ fn all_kinds() -> Vec<String> {
     kinds
 }
 
-fn plans_alike(input: &Path, request: &[u8]) -> [(&'static str, Printed); 3] {
+fn plans_alike(input: &Path, request: &[u8]) -> [(&'static str, Printed); 4] {
     plans_as(input, request, by_planning(request))
 }
 
@@ -135,8 +147,8 @@ fn plans_alike(input: &Path, request: &[u8]) -> [(&'static str, Printed); 3] {
 fn plans_as(
     input: &Path,
     request: &[u8],
-    expected: [(&'static str, Printed); 3],
-) -> [(&'static str, Printed); 3] {
+    expected: [(&'static str, Printed); 4],
+) -> [(&'static str, Printed); 4] {
     expected.map(|(program, expected)| {
         let printed = fed(program, input);
         let about = format!("request [{}]", hex(request));

@@ -2,7 +2,7 @@
 #![cfg(feature = "linked")]
 
 use bus_tests::bus::{
-    COUNTS_LEN, DRAFT_LEN, ENTRIES_LEN, HEATER_LEN, STATE_LEN, TIMER_LEN, TRIES_LEN,
+    COUNTS_LEN, DRAFT_LEN, ENTRIES_LEN, HEATER_LEN, RECORD_LEN, STATE_LEN, TIMER_LEN, TRIES_LEN,
 };
 use bus_tests::call::{Call, Outcome};
 use bus_tests::compare::expected;
@@ -70,6 +70,10 @@ impl Calls {
         self.add(&Call::cut(request, 1, 1, &[0; 164]))?;
         for (length, from, until) in [(1, 0, 16), (1, 17, 80), (u32::MAX, 0, 32), (0, 0, 0)] {
             self.add(&Call::one_off(request, &table, length, from, until))?;
+        }
+        for places in [128, 1] {
+            let records = vec![0; places * RECORD_LEN];
+            self.add(&Call::timeline(request, &table, &records))?;
         }
         let call = Call::draft_start(request, &table, &[0; DRAFT_LEN]);
         let draft = self.add(&call)?.buffers.remove(0);

@@ -14,6 +14,9 @@ pub mod Plan
 pub mod Check
 pub mod Rewrite
 pub mod OneOff
+-- timeline
+pub mod Timeline
+pub mod TimelineLaws
 -- dispatch
 pub mod Dispatch
 pub mod DispatchLaws

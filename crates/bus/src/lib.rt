@@ -10,3 +10,4 @@ mod reply;
 pub mod requests;
 mod state;
 pub mod tables;
+pub mod timeline;

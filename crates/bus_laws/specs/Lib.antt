@@ -14,3 +14,5 @@ pub mod Tries
 pub mod Answered
 -- the bytes of the counts of phases give them back
 pub mod PhaseCounts
+-- the bytes of the records of a timeline give them back
+pub mod Records

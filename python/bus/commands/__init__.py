@@ -4,6 +4,6 @@ A module has NAME, the word behind `bus`; HELP, what it does; EXAMPLE, lines for
 arguments to a parser; and `run`, which does what the parsed arguments ask.
 """
 
-from . import check, cut, fly, heater, join, list, move, one_off, phases, plan, spacing, timer
+from . import check, cut, fly, heater, join, list, move, one_off, phases, plan, spacing, timeline, timer
 
-COMMANDS = (plan, check, fly, list, join, cut, one_off, spacing, move, phases, timer, heater)
+COMMANDS = (plan, check, fly, list, join, cut, one_off, spacing, move, phases, timer, heater, timeline)

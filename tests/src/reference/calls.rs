@@ -8,8 +8,10 @@ use super::join::joined;
 use super::one_off::{earliest, Asked};
 use super::phases::{self, Shift};
 use super::table::{decode, encode, Entry};
+use super::timeline;
 use super::timer::Timer;
 use super::{checked, planned_within, request};
+use crate::bus::RECORD_LEN;
 use crate::bus::{count_bytes, counts, BAD_BUFFER, DRAFT_LEN, ENTRIES_LEN, STATE_LEN, TRIES_LEN};
 use crate::bus::{put_counts, COUNTS_LEN};
 use crate::bus::{CONTROL_AT, STATUS_AT, TIMER_LEN};
@@ -258,4 +260,15 @@ pub fn heater_serve(
     put_link(done.link, done.toggled, done.answered, heater);
     put_entries(&done.served, entries);
     Ok(done.served.len() as i32)
+}
+
+pub fn timeline(request: &[u8], table: &[u8], records: &mut [u8]) -> Answer {
+    let whole = timeline::records(request, table)?;
+    if records.len() / RECORD_LEN < whole.len() {
+        return Err(11);
+    }
+    for (place, record) in records.chunks_exact_mut(RECORD_LEN).zip(&whole) {
+        place.copy_from_slice(&record.bytes());
+    }
+    Ok(whole.len() as i32)
 }

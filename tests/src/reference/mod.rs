@@ -17,6 +17,7 @@ pub mod printed;
 pub mod request;
 pub mod search;
 pub mod table;
+pub mod timeline;
 pub mod timer;
 pub mod tries;
 

@@ -1,7 +1,7 @@
 //! What each program writes to standard output and standard error, from docs/FORMATS.md.
 
 use super::table::{self, Table};
-use super::{checked, listing, planned_within, read_cycle, PROGRAM_TRIES};
+use super::{checked, listing, planned_within, read_cycle, timeline, PROGRAM_TRIES};
 
 /// What a program wrote. Every program ends with status 0; its answer is what it wrote.
 #[derive(Clone, Debug, PartialEq, Eq)]
@@ -52,17 +52,23 @@ fn by_fly(chosen: &Result<Table, i32>) -> Printed {
     })
 }
 
+/// Every job of the chosen table.
+fn by_timeline(request: &[u8], chosen: &Result<Table, i32>) -> Printed {
+    Printed::on_output(timeline::printed(request, chosen))
+}
+
 /// What the programs write that plan a request from standard input, if they come to this.
-pub fn by_planners(request: &[u8], chosen: &Result<Table, i32>) -> [(&'static str, Printed); 3] {
+pub fn by_planners(request: &[u8], chosen: &Result<Table, i32>) -> [(&'static str, Printed); 4] {
     [
         ("plan", by_plan(request, chosen)),
         ("plan_table", by_plan_table(chosen)),
         ("fly", by_fly(chosen)),
+        ("timeline", by_timeline(request, chosen)),
     ]
 }
 
 /// The same with what the second planner comes to.
-pub fn by_planning(request: &[u8]) -> [(&'static str, Printed); 3] {
+pub fn by_planning(request: &[u8]) -> [(&'static str, Printed); 4] {
     by_planners(request, &planned_within(request, PROGRAM_TRIES).0)
 }
 

@@ -7,12 +7,13 @@ pub mod joining;
 pub mod one_off;
 pub mod phases;
 pub mod planning;
+pub mod timeline;
 pub mod timer;
 
 use crate::comparison::Round;
 
 /// All kinds of rounds, for those who make every one.
-pub const ALL: [Round; 8] = [
+pub const ALL: [Round; 9] = [
     planning::round,
     joining::round,
     one_off::round,
@@ -21,4 +22,5 @@ pub const ALL: [Round; 8] = [
     phases::round,
     timer::round,
     heater::round,
+    timeline::round,
 ];
