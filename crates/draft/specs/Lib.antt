@@ -9,3 +9,4 @@ pub mod MoveLaws
 pub mod WriteLaws
 pub mod Kept
 pub mod SoundLaws
+pub mod SizeLaws
