@@ -8,31 +8,9 @@
  * with the row's kept load and two with the bounds. As in the library, each try is taken off those
  * that are left before its test, and the search ends where one more would be needed.
  */
-#include <stdbool.h>
-#include <stddef.h>
-#include <stdint.h>
-#include <string.h>
+#include "cycle.h"
 
-enum { MOST_TASKS = 16, MOST_PAIRS = 16, MOST_JOBS = 128, MOST_ROWS = 256, MOST_LINKS = 16 };
-
-struct task {
-    unsigned c, t, d, p;
-};
-
-struct pair {
-    unsigned a, b;
-};
-
-struct job {
-    unsigned task, number, release;
-};
-
-static struct {
-    unsigned n, m, g, h, jobs;
-    struct task task[MOST_TASKS];
-    struct pair pair[MOST_PAIRS];
-    struct job job[MOST_JOBS];
-} cycle;
+enum { MOST_LINKS = 16 };
 
 /* The jobs placed before that must not stand later (earlier) than a job. */
 struct links {
@@ -52,94 +30,18 @@ static struct {
 /* How the search for one length went: ended where one more try than allowed would be needed. */
 enum went { NO_PLAN, PLACED, ENDED };
 
-static unsigned u16_at(const uint8_t *bytes)
+static void add_link(struct links *links, unsigned y)
 {
-    return bytes[0] + 256u * bytes[1];
+    links->job[links->count++] = (uint8_t)y;
 }
 
-static void read_request(const uint8_t *bytes, size_t len)
+/* Job a must not stand later than job b; the one that is placed last knows the other. */
+static void link_jobs(unsigned a, unsigned b)
 {
-    const uint8_t *end = bytes + len;
-    cycle.n = *bytes++;
-    for (unsigned i = 0; i < cycle.n; i++, bytes += 8) {
-        struct task task = {u16_at(bytes), u16_at(bytes + 2), u16_at(bytes + 4), u16_at(bytes + 6)};
-        cycle.task[i] = task;
-    }
-    cycle.m = *bytes++;
-    for (unsigned u = 0; u < cycle.m; u++, bytes += 2) {
-        struct pair pair = {bytes[0], bytes[1]};
-        cycle.pair[u] = pair;
-    }
-    cycle.g = bytes < end && *bytes == 1 ? bytes[1] : 0;
-}
-
-/* What a job of the task takes of its row: its transfer and the silent ticks behind it. */
-static unsigned slot(const struct task *task)
-{
-    return task->c + cycle.g;
-}
-
-static unsigned gcd(unsigned a, unsigned b)
-{
-    while (b != 0) {
-        unsigned rest = a % b;
-        a = b;
-        b = rest;
-    }
-    return a;
-}
-
-/* Puts a job behind those that are released before it, or with it and of a lower task. */
-static void insert_job(struct job job)
-{
-    unsigned y = cycle.jobs++;
-    while (y > 0 && cycle.job[y - 1].release > job.release) {
-        cycle.job[y] = cycle.job[y - 1];
-        y--;
-    }
-    cycle.job[y] = job;
-}
-
-static void make_cycle(void)
-{
-    cycle.h = 1;
-    for (unsigned i = 0; i < cycle.n; i++)
-        cycle.h = cycle.h / gcd(cycle.h, cycle.task[i].t) * cycle.task[i].t;
-    cycle.jobs = 0;
-    for (unsigned i = 0; i < cycle.n; i++)
-        for (unsigned j = 0; j < cycle.h / cycle.task[i].t; j++) {
-            struct job job = {i, j, cycle.task[i].p + j * cycle.task[i].t};
-            insert_job(job);
-        }
-}
-
-/* Whether each window of the task holds a whole frame, by the phase. */
-static bool windows_hold(const struct task *task, unsigned f)
-{
-    unsigned common = gcd(f, task->t), p = task->p % common;
-    return 2 * f - (p == 0 ? common : p) <= task->d;
-}
-
-static bool plausible(unsigned f)
-{
-    for (unsigned i = 0; i < cycle.n; i++) {
-        const struct task *task = &cycle.task[i];
-        if (f < slot(task) || !windows_hold(task, f))
-            return false;
-    }
-    return true;
-}
-
-/* Links job y with job z before it, where the pair orders the two. */
-static void link_by(struct pair pair, unsigned y, unsigned z)
-{
-    struct job late = cycle.job[y], early = cycle.job[z];
-    if (early.number != late.number)
-        return;
-    if (early.task == pair.a && late.task == pair.b)
-        search.not_later[y].job[search.not_later[y].count++] = z;
-    if (early.task == pair.b && late.task == pair.a)
-        search.not_earlier[y].job[search.not_earlier[y].count++] = z;
+    if (a < b)
+        add_link(&search.not_later[b], a);
+    else
+        add_link(&search.not_earlier[a], b);
 }
 
 static void make_links(void)
@@ -147,9 +49,11 @@ static void make_links(void)
     for (unsigned y = 0; y < cycle.jobs; y++) {
         search.not_later[y].count = 0;
         search.not_earlier[y].count = 0;
-        for (unsigned u = 0; u < cycle.m; u++)
-            for (unsigned z = 0; z < y; z++)
-                link_by(cycle.pair[u], y, z);
+    }
+    for (unsigned u = 0; u < cycle.m; u++) {
+        const struct pair pair = cycle.pair[u];
+        for (unsigned j = 0; j < cycle.h / cycle.task[pair.a].t; j++)
+            link_jobs(cycle.place[pair.a][j], cycle.place[pair.b][j]);
     }
 }
 
@@ -161,7 +65,7 @@ static void begin_length(unsigned f)
     for (unsigned y = 0; y < cycle.jobs; y++) {
         const struct job *job = &cycle.job[y];
         const struct task *task = &cycle.task[job->task];
-        search.cost[y] = slot(task);
+        search.cost[y] = slot_of(task);
         search.first[y] = (job->release + f - 1) / f;
         search.end[y] = (job->release + task->d) / f;
         search.first_row[y] = search.first[y] % search.rows;

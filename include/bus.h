@@ -15,6 +15,36 @@
  * calls but what stands in the buffers: there are no globals, no allocation and no input or output,
  * so calls on different buffers may run at the same time.
  */
+/*
+ * A whole flight: the request is planned, and frame after frame its table is served. The board has
+ * `wait_until`, which answers 0 when the flight is over, and `transfer`, which runs one transfer and
+ * answers the ticks that it took.
+ *
+ *     #include <bus.h>
+ *
+ *     int fly(const uint8_t *request, size_t request_len)
+ *     {
+ *         uint8_t table[BUS_TABLE_BYTES], tries[BUS_TRIES_BYTES];
+ *         uint8_t state[BUS_STATE_BYTES], entries[BUS_ENTRIES_BYTES];
+ *         int32_t len = bus_plan(request, request_len, 10000000, table, sizeof table, tries, sizeof tries);
+ *         if (len < 0)
+ *             return (int)-len; // BUS_NO_PLAN, for example
+ *         bus_fresh(state, sizeof state);
+ *         for (uint32_t frame = 0; wait_until(frame * bus_table_frame(table)); frame++) {
+ *             int32_t count = bus_next_frame(table, (size_t)len, state, sizeof state, entries, sizeof entries);
+ *             for (int32_t i = 0; i < count; i++) {
+ *                 uint8_t task = bus_entry_task(entries, (unsigned)i);
+ *                 uint32_t ticks = transfer(task, bus_entry_job(entries, (unsigned)i));
+ *                 bus_report(request, request_len, task, ticks, state, sizeof state);
+ *             }
+ *         }
+ *         return 0;
+ *     }
+ *
+ * The command `bus` writes requests (`bus list`) and plans on the ground (`bus plan`), and docs/FORMATS.md
+ * has the formats of requests, tables, states and timers. The library is for x86-64 Linux; for another
+ * processor `bus c` writes a table and its dispatcher as C source: see docs/CONTROLLER.md.
+ */
 #ifndef BUS_H
 #define BUS_H
 
@@ -24,6 +54,9 @@
 #ifdef __cplusplus
 extern "C" {
 #endif
+
+/* The version: the first number changes with a call or a format, the second with what is new. */
+#define BUS_VERSION "1.0.0"
 
 /* The bytes of a state, of a timer, of the entries of a frame, of a count of tries, of the counts of phases. */
 #define BUS_STATE_BYTES 64
@@ -59,15 +92,43 @@ extern "C" {
 #define BUS_BAD_BUFFER 99
 
 /*
- * Plans a request and writes the table of the chosen plan to the front of `out`. The bytes behind
- * the table are left as they are.
+ * Two calls plan a request: bus_decide and bus_plan. Unless bus_plan answers 23 both come to the same,
+ * byte for byte: the table of the chosen plan, or the number that tells why there is none.
+ *
+ *   bus_decide  where an answer is wanted: on the ground, in a tool, in a test. Every request gets its
+ *               table or a final number, and never 23.
+ *   bus_plan    where the work must have a limit that is known before: at most so many tries are made,
+ *               and a request that needs more is refused with 23. Also where the count of tries is
+ *               wanted, or the stack is small.
+ *
+ * Most requests take either call some microseconds. Where bus_plan needs millions of tries, bus_decide
+ * mostly takes milliseconds; but no bound on its time is promised, and there are requests for which it
+ * takes seconds.
+ *
+ * Stack: bus_decide stays below 512 KiB, every other call of this file below 256 KiB.
+ */
+
+/*
+ * Decides a request: writes the table of the chosen plan to the front of `out`, however long the search
+ * for it would be. The bytes behind the table are left as they are.
+ *
+ * The answer is that of bus_plan with enough tries. So 10 means that there is no plan at all.
+ *
+ * Answers the table's length, or refuses with 1 to 5, 17, 6 to 10, or 11. A buffer of BUS_TABLE_BYTES is
+ * never too short.
+ */
+int32_t bus_decide(const uint8_t *request, size_t request_len, uint8_t *out, size_t out_len);
+
+/*
+ * Plans a request with a limit and writes the table of the chosen plan to the front of `out`. The bytes
+ * behind the table are left as they are.
  *
  * The search may be long where plans are hard to find, so it is allowed so many tries and no more.
  * One try is one job tested in one frame of its window, whether it is then placed there or passed
  * over. The tries of the full search depend on the request alone. If it needs more than `allowance`,
  * the answer is 23: a table may or may not exist. With enough tries the answer is final. The programs
  * `plan`, `plan_table`, `fly` and `timeline` allow 10,000,000 tries; UINT64_MAX is a limit that no search
- * reaches in a lifetime.
+ * reaches in a lifetime. bus_decide answers without a limit.
  *
  * The first 8 bytes of `tries` get the count of tries, low byte first, with every answer but 99: with
  * 1 to 9 and 17 it is 0, with 23 the allowance, else the tries of the full search. The bytes behind
@@ -104,6 +165,25 @@ int32_t bus_check(const uint8_t *request, size_t request_len, const uint8_t *tab
  */
 int32_t bus_rewrite(const uint8_t *request, size_t request_len, const uint8_t *table, size_t table_len,
                     uint8_t *out, size_t out_len);
+
+/*
+ * The sizes that stand in a table: the ticks of a frame f, the ticks of the cycle H and the number of
+ * rows F, with F * f = H. `table` points to a table that a call wrote or accepted.
+ */
+static inline uint16_t bus_table_frame(const uint8_t *table)
+{
+    return (uint16_t)(table[1] + 256u * table[2]);
+}
+
+static inline uint16_t bus_table_cycle(const uint8_t *table)
+{
+    return (uint16_t)(table[3] + 256u * table[4]);
+}
+
+static inline uint16_t bus_table_rows(const uint8_t *table)
+{
+    return (uint16_t)(table[5] + 256u * table[6]);
+}
 
 /*
  * The dispatcher's state stands in 64 bytes that the caller lends:
@@ -151,6 +231,25 @@ int32_t bus_fresh(uint8_t *state, size_t state_len);
  */
 int32_t bus_next_frame(const uint8_t *table, size_t table_len, uint8_t *state, size_t state_len,
                        uint8_t *entries, size_t entries_len);
+
+/*
+ * The task of an entry, its job's number in the cycle, and whether it is carried, a job of the cycle
+ * before: 1 or 0. `entries` points to the 32 bytes that a call filled, and `place` is from 0 to 15.
+ */
+static inline uint8_t bus_entry_task(const uint8_t *entries, unsigned place)
+{
+    return entries[2u * place];
+}
+
+static inline uint8_t bus_entry_job(const uint8_t *entries, unsigned place)
+{
+    return (uint8_t)(entries[2u * place + 1u] & 0x7Fu);
+}
+
+static inline int bus_entry_carried(const uint8_t *entries, unsigned place)
+{
+    return entries[2u * place + 1u] >> 7;
+}
 
 /*
  * Reports the ticks that a task used. More than the request's C for the task is an overrun, and
@@ -461,6 +560,40 @@ int32_t bus_draft_put(const uint8_t *request, size_t request_len, uint8_t job, u
 int32_t bus_draft_write(const uint8_t *request, size_t request_len, const uint8_t *draft, size_t draft_len,
                         uint8_t *out, size_t out_len);
 
+/* The names of the refusals; a call answers them negated. BUS_BAD_BUFFER stands above. Their words follow. */
+enum bus_refusal {
+    BUS_REQUEST_ENDS = 1,
+    BUS_TASK_COUNT = 2,
+    BUS_BAD_TASK = 3,
+    BUS_PAIR_COUNT = 4,
+    BUS_BAD_PAIR = 5,
+    BUS_BYTES_FOLLOW = 6,
+    BUS_CYCLE_TOO_LONG = 7,
+    BUS_TOO_MANY_JOBS = 8,
+    BUS_NO_FRAME_LENGTH = 9,
+    BUS_NO_PLAN = 10,
+    BUS_SHORT_BUFFER = 11,
+    BUS_NO_TABLE = 12,
+    BUS_WRONG_SIZES = 13,
+    BUS_NOT_A_PLAN = 14,
+    BUS_ROW_TOO_HIGH = 15,
+    BUS_NO_SUCH_TASK = 16,
+    BUS_BAD_SILENT_TICKS = 17,
+    BUS_JOINED_TASKS = 18,
+    BUS_MADE_PAIRS = 19,
+    BUS_SILENT_TICKS_DIFFER = 20,
+    BUS_BAD_ONE_OFF = 21,
+    BUS_NO_TIME = 22,
+    BUS_MORE_TRIES_NEEDED = 23,
+    BUS_BAD_CUT = 24,
+    BUS_NO_TASK_LEFT = 25,
+    BUS_BAD_DRAFT = 26,
+    BUS_OUTSIDE_WINDOW = 27,
+    BUS_NO_ROOM = 28,
+    BUS_NO_REGISTER = 29,
+    BUS_NO_SUCH_PAIR = 30
+};
+
 /*
  * The refusal numbers:
  *
@@ -486,7 +619,7 @@ int32_t bus_draft_write(const uint8_t *request, size_t request_len, const uint8_
  *   20  the two requests differ in their silent ticks
  *   21  a one-off transfer of length 0, from a tick after its last, or until a tick after two cycles
  *   22  no frame has time for the one-off transfer
- *   23  the search needs more tries than are allowed
+ *   23  the search needs more tries than are allowed; bus_decide tells what it would come to
  *   24  the request has no such task to cut, or the first piece is not from 1 to C - 1 ticks
  *   25  the request to be cut has 16 tasks already
  *   26  the draft is wrong for the request, the request has no such job, a lift of a lifted job, a put

@@ -1,5 +1,5 @@
-//! With the feature `linked`, link libbus.a from the directory BUS_LIB_DIR, and the search in C
-//! into the program that measures.
+//! With the feature `linked`, link libbus.a from the directory BUS_LIB_DIR, and the search and
+//! the exact planner in C into the programs that measure.
 
 use std::env;
 use std::path::Path;
@@ -15,9 +15,9 @@ fn link_library() {
     println!("cargo:rustc-link-lib=static=bus");
 }
 
-fn link_search_in_c() {
-    let source = "../bench/search.c";
-    let object = Path::new(&env::var("OUT_DIR").expect("cargo sets it")).join("search.o");
+fn link_in_c(name: &str, programs: &[&str]) {
+    let source = &format!("../bench/{name}.c");
+    let object = Path::new(&env::var("OUT_DIR").expect("cargo sets it")).join(format!("{name}.o"));
     let compiled = Command::new("gcc")
         .args(["-std=c99", "-O2", "-Wall", "-Wextra", "-Werror"])
         .args(["-c", source, "-o"])
@@ -26,13 +26,17 @@ fn link_search_in_c() {
         .expect("gcc is needed");
     assert!(compiled.success(), "{source} does not compile");
     println!("cargo:rerun-if-changed={source}");
-    println!("cargo:rustc-link-arg-bin=bench={}", object.display());
+    println!("cargo:rerun-if-changed=../bench/cycle.h");
+    for program in programs {
+        println!("cargo:rustc-link-arg-bin={program}={}", object.display());
+    }
 }
 
 fn main() {
     println!("cargo:rerun-if-env-changed=BUS_LIB_DIR");
     if env::var_os("CARGO_FEATURE_LINKED").is_some() {
         link_library();
-        link_search_in_c();
+        link_in_c("search", &["bench", "decisions"]);
+        link_in_c("exact", &["decisions"]);
     }
 }

@@ -42,6 +42,16 @@ static void plan(const uint8_t *request, size_t len, uint64_t allowance, int32_t
         expect("bus_plan, behind the table", table[i], 0x5A);
 }
 
+/* Decides: this answer, and nothing written behind the table. */
+static void decide(const uint8_t *request, size_t len, size_t room, int32_t answer)
+{
+    uint8_t table[BUS_TABLE_BYTES];
+    memset(table, 0x5A, sizeof table);
+    expect("bus_decide", bus_decide(request, len, table, room), answer);
+    for (size_t i = answer < 0 ? 0 : (size_t)answer; i < sizeof table; i++)
+        expect("bus_decide, behind the table", table[i], 0x5A);
+}
+
 /* P1's search takes 5 tries, one for each job; with a silent tick 6, since one frame is passed over before the last job has no room. */
 static void limits(const uint8_t *request, size_t len, const uint8_t *silent, size_t silent_len)
 {
@@ -53,6 +63,11 @@ static void limits(const uint8_t *request, size_t len, const uint8_t *silent, si
     plan(request, len - 1, 0, -1, 0);
     plan(silent, silent_len, 6, -10, 6);
     plan(silent, silent_len, 5, -23, 5);
+    decide(request, len, BUS_TABLE_BYTES, 19);
+    decide(request, len, 19, 19);
+    decide(request, len, 18, -11);
+    decide(request, len - 1, 0, -1);
+    decide(silent, silent_len, BUS_TABLE_BYTES, -10);
     memset(tries, 0x5A, sizeof tries);
     expect("bus_plan", bus_plan(request, len, 1000, table, 18, tries, sizeof tries), -11);
     expect("bus_tries", bus_tries(tries) == 5, 1);
@@ -323,6 +338,83 @@ static void timeline(const uint8_t *request, size_t len, const uint8_t *bad, siz
         expect("bus_timeline, behind", records[i], 0x5A);
 }
 
+/* The sizes of a table beside the library: f is a draft's, F the first row that is refused, and 2H the last tick that may be asked for. */
+static void sizes(const uint8_t *request, size_t len, const uint8_t *table, size_t used)
+{
+    uint8_t draft[BUS_DRAFT_BYTES], state[BUS_STATE_BYTES], entries[BUS_ENTRIES_BYTES];
+    uint32_t frame = bus_table_frame(table), cycle = bus_table_cycle(table), rows = bus_table_rows(table);
+    expect("bus_draft_start", bus_draft_start(request, len, table, used, draft, sizeof draft), 0);
+    expect("bus_table_frame", (int32_t)frame, draft[0] + 256 * draft[1]);
+    expect("bus_table_cycle", bus_one_off(request, len, table, used, 1, 2 * cycle, 2 * cycle), -BUS_NO_TIME);
+    expect("bus_table_cycle", bus_one_off(request, len, table, used, 1, 2 * cycle, 2 * cycle + 1), -BUS_BAD_ONE_OFF);
+    memset(state, 0, sizeof state);
+    state[0] = (uint8_t)((rows - 1) % 256);
+    state[1] = (uint8_t)((rows - 1) / 256);
+    expect("bus_table_rows", bus_next_frame(table, used, state, sizeof state, entries, sizeof entries) >= 0, 1);
+    state[0] = (uint8_t)(rows % 256);
+    state[1] = (uint8_t)(rows / 256);
+    expect("bus_table_rows", bus_next_frame(table, used, state, sizeof state, entries, sizeof entries), -BUS_ROW_TOO_HIGH);
+    expect("the sizes of a table", (int32_t)(rows * frame), (int32_t)cycle);
+}
+
+/* The frame of a job in the records of a timeline, or -1. */
+static int32_t frame_of(const uint8_t *records, int32_t count, uint8_t task, uint8_t job)
+{
+    for (const uint8_t *record = records; record < records + 8 * count; record += 8)
+        if (record[0] == task && record[1] == job)
+            return record[6] + 256 * record[7];
+    return -1;
+}
+
+/* Task, job and carry of the entries of a row, which is not in the first cycle: their frames are those of the timeline. Answers their number. */
+static int32_t row_entries(const uint8_t *table, size_t used, uint16_t row, const uint8_t *records, int32_t jobs)
+{
+    uint8_t state[BUS_STATE_BYTES], entries[BUS_ENTRIES_BYTES];
+    memset(state, 0, sizeof state);
+    state[0] = (uint8_t)(row % 256);
+    state[1] = (uint8_t)(row / 256);
+    int32_t count = bus_next_frame(table, used, state, sizeof state, entries, sizeof entries);
+    for (unsigned i = 0; (int32_t)i < count; i++) {
+        int32_t frame = row + bus_entry_carried(entries, i) * bus_table_rows(table);
+        expect("an entry", frame_of(records, jobs, bus_entry_task(entries, i), bus_entry_job(entries, i)), frame);
+    }
+    return count;
+}
+
+/* Plans a request and looks at all that the accessors say of its table; so many jobs are carried. */
+static void accessors(const uint8_t *request, size_t len, int32_t carried)
+{
+    uint8_t table[BUS_TABLE_BYTES], tries[BUS_TRIES_BYTES], records[BUS_RECORDS_BYTES];
+    int32_t length = bus_plan(request, len, UINT64_MAX, table, sizeof table, tries, sizeof tries);
+    expect("bus_plan", length > 0, 1);
+    if (length <= 0)
+        return;
+    sizes(request, len, table, (size_t)length);
+    int32_t jobs = bus_timeline(request, len, table, (size_t)length, records, sizeof records), served = 0;
+    for (uint16_t row = 0; row < bus_table_rows(table); row++)
+        served += row_entries(table, (size_t)length, row, records, jobs);
+    expect("the entries of a table", served, jobs);
+    for (int32_t i = 0; i < jobs; i++)
+        carried -= records[8 * i + 6] + 256 * records[8 * i + 7] >= bus_table_rows(table);
+    expect("carried jobs", carried, 0);
+}
+
+/* P7 has a carried job, P9 256 rows, P12 a frame of 10,000 ticks; the last request has 128 jobs. */
+static void all_accessors(const uint8_t *request, size_t len)
+{
+    static const uint8_t p7[] = {0x01, 0x02, 0x00, 0x0A, 0x00, 0x09, 0x00, 0x06, 0x00, 0x00};
+    static const uint8_t p9[] = {0x01, 0x01, 0x00, 0x00, 0x01, 0x01, 0x00, 0x00, 0x00, 0x00};
+    static const uint8_t p12[] = {0x01, 0x01, 0x00, 0x10, 0x27, 0x10, 0x27, 0x00, 0x00, 0x00};
+    static const uint8_t many[] = {0x02, 0x01, 0x00, 0x02, 0x00, 0x02, 0x00, 0x01, 0x00, 0x01, 0x00, 0xFE, 0x00, 0xFE, 0x00, 0x00, 0x00, 0x00};
+    accessors(request, len, 0);
+    accessors(p7, sizeof p7, 1);
+    accessors(p9, sizeof p9, 0);
+    accessors(p12, sizeof p12, 0);
+    accessors(many, sizeof many, 0);
+    expect("BUS_VERSION", BUS_VERSION[0], '1');
+    expect("enum bus_refusal", BUS_NO_SUCH_PAIR, 30);
+}
+
 int main(void)
 {
     static const uint8_t request[] = {
@@ -401,5 +493,6 @@ int main(void)
     timers(request, sizeof request, bad, sizeof bad, table, used);
     heater(table, used);
     timeline(request, sizeof request, bad, sizeof bad, table, used);
+    all_accessors(request, sizeof request);
     return faults != 0;
 }

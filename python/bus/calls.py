@@ -4,12 +4,14 @@ A request may be given as a record, as bytes, or as the path of a list or a requ
 or as the path of a table file.
 """
 
-from dataclasses import replace
-from typing import NamedTuple
+from typing import Any, Callable, NamedTuple, Optional, Tuple
 
 from . import library, search, table as tables
+from .accepted import RequestLike, TableLike, tick, whole
 from .refusals import Refused
+from .request import Request
 from .sources import content, given
+from .table import Row, Table
 
 
 class FreeFrame(NamedTuple):
@@ -20,31 +22,43 @@ class FreeFrame(NamedTuple):
     start: int
     end: int
     row: int
-    entries: tuple
+    entries: Row
     used: int
 
     @property
-    def unused(self):
+    def unused(self) -> int:
         """The ticks of the frame that are left for the transfer and the silent ticks after it."""
         return self.end - self.start - self.used
 
+    @property
+    def send(self) -> int:
+        """The tick from which the transfer may be sent: by then the entries of the row, each with the silent ticks
+        after it, have ended, however long they take."""
+        return self.start + self.used
 
-def plan(request, tries=search.TRIES, tell=None):
-    """The chosen table of a request; its `tries` are those that the search made, as those of a refusal are.
 
-    Where more than `tries` are needed the refusal is 23. `tell` is called about once a second of a long search, with
-    about how many tries are used, or None while that is not known.
+def plan(
+    request: RequestLike, tries: Optional[int] = None, tell: Optional[Callable[[Optional[int]], Any]] = None
+) -> Table:
+    """The chosen table of a request, or why there is none.
+
+    With `tries` no more are made, and where more are needed the refusal is 23; the table has those that were made, as
+    a refusal has. Without them no tries are counted, and no answer is 23. `tell` is called about once a second of a
+    long search, with about how many tries are used, or None while that is not known.
     """
-    if not 0 <= tries <= library.MOST_TRIES:
-        raise ValueError(f"the tries that are allowed are a number from 0 to {library.MOST_TRIES}")
+    if tries is not None:
+        tries = whole("the number of tries that are allowed", tries, 0, library.MOST_TRIES)
     data, request = given(request)
-    answer, table, count = search.plan(data, tries, tell)
+    if tries is None:
+        answer, table, count = *search.decide(data, tell), 0
+    else:
+        answer, table, count = search.plan(data, tries, tell)
     if answer < 0:
         raise Refused.of(-answer, tries=count, data=data, request=request, allowed=tries)
-    return replace(tables.decode(table), tries=count)
+    return tables.of(tables.decode(table), request, count)
 
 
-def checked(request, table):
+def checked(request: RequestLike, table: TableLike) -> Tuple[bytes, Request, bytes]:
     """A request's bytes, the request, and the bytes of a table that describes a plan of it."""
     data, request = given(request)
     table = content(table)
@@ -54,35 +68,70 @@ def checked(request, table):
     return data, request, table
 
 
-def check(request, table):
+def check(request: RequestLike, table: TableLike) -> Table:
     """The table, if it describes a plan of the request, of any frame length."""
-    return tables.decode(checked(request, table)[2])
+    _, request, table = checked(request, table)
+    return tables.of(tables.decode(table), request)
 
 
-def rewrite(request, table):
+def rewrite(request: RequestLike, table: TableLike) -> Table:
     """Checks a table and gives the table of the plan that the library read, as the library writes it."""
     data, request = given(request)
     table = content(table)
     answer, written = library.rewrite(data, table)
     if answer < 0:
         raise Refused.of(-answer, data=data, request=request, table=table)
-    return tables.decode(written)
+    return tables.of(tables.decode(written), request)
 
 
-def one_off(request, table, length, begin=0, until=None):
+def _earliest(data, table, plan, length, begin, until):
+    """The library's answer, for any two ticks. It is asked about the first two cycles, which all others are like: whole
+    cycles are taken off both ticks and put back on the frame. A time that goes beyond has a whole cycle before that."""
+    cycles = min(begin, until) // plan.cycle
+    off = cycles * plan.cycle
+    begin, until = min(begin - off, library.MOST_TICKS), min(until - off, 2 * plan.cycle)
+    frame = library.one_off(data, table, length, begin, until)
+    return frame + cycles * len(plan.rows) if frame >= 0 else frame
+
+
+def _free_frame(request, plan, number):
+    row = number % len(plan.rows)
+    entries = plan.rows[row]
+    return FreeFrame(number, number * plan.frame, (number + 1) * plan.frame, row, entries, request.used(entries))
+
+
+def one_off(
+    request: RequestLike, table: TableLike, length: int, begin: int = 0, until: Optional[int] = None
+) -> FreeFrame:
     """The earliest frame, from the tick `begin` until the tick `until`, with time for a transfer of `length` ticks.
 
-    Without `until` that is the end of the second cycle, the latest tick that may be asked for.
+    Without `until` any later frame will do.
     """
-    if not all(0 <= ticks <= library.MOST_TICKS for ticks in (length, begin, until or 0)):
-        raise ValueError("a length and ticks are numbers of four bytes")
+    length = whole("a length", length, 0, library.MOST_TICKS)
+    begin = tick(begin)
+    until = until if until is None else tick(until)
     data, request, table = checked(request, table)
     plan = tables.decode(table)
-    if until is None:
-        until = 2 * plan.cycle
-    frame = library.one_off(data, table, length, begin, until)
+    last = begin + 2 * plan.cycle if until is None else until
+    frame = _earliest(data, table, plan, length, begin, last)
     if frame < 0:
-        raise Refused.of(-frame, request=request, table=table, length=length, begin=begin, until=until)
-    row = frame % len(plan.rows)
-    entries = plan.rows[row]
-    return FreeFrame(frame, frame * plan.frame, (frame + 1) * plan.frame, row, entries, request.used(entries))
+        raise Refused.of(-frame, request=request, table=table, length=length, begin=begin, until=last)
+    return _free_frame(request, plan, frame)
+
+
+def free_frames(
+    request: RequestLike, table: TableLike, length: int, begin: int = 0, until: Optional[int] = None
+) -> Tuple[FreeFrame, ...]:
+    """Every frame with time for a transfer of `length` ticks, of one cycle that begins with the first whole frame from
+    the tick `begin` on, and no frame that ends after the tick `until`. Where there is none, it is refused."""
+    first = one_off(request, table, length, begin, until)
+    data, request = given(request)
+    table = content(table)
+    plan = tables.decode(table)
+    end = (-(-begin // plan.frame) + len(plan.rows)) * plan.frame
+    end = end if until is None else min(end, until)
+    found, frame = [], first.number
+    while frame >= 0 and (frame + 1) * plan.frame <= end:
+        found.append(_free_frame(request, plan, frame))
+        frame = _earliest(data, table, plan, length, (frame + 1) * plan.frame, end)
+    return tuple(found)

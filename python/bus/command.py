@@ -6,14 +6,16 @@ import signal
 import sys
 import traceback
 
-from . import files, refusals
-from .build import NotBuilt
-from .child import SearchEnded
+from . import answer as answers, files, hint, refusals, sources
+from .amounts import counted
+from .answer import ANSWERED, FAILED, REFUSED, UNKNOWN, Answer
 from .commands import COMMANDS
-from .commands.steps import WrongUse, say
-from .lists import ListFaults
+from .commands.steps import one_way, say
+from .errors import Error
+from .lists import ListFaults, WrongFile
+from .progress import put
+from .version import __version__
 
-ANSWERED, REFUSED, FAILED = 0, 1, 2
 MOST_FAULTS = 30
 
 DESCRIPTION = """\
@@ -21,13 +23,21 @@ Plans a bus table from a team's list of periodic transfers. The proved library
 decides everything; the first time, it is built.
 
 Wherever a LIST is asked for, a CSV file or a request file will do, and '-' is
-standard input. docs/FORMATS.md has the formats."""
+standard input. docs/FORMATS.md of the repository has the formats."""
 
 EXAMPLE = "  bus plan examples/team.csv --svg team.svg"
 
+COLUMNS = """\
+a list, as CSV from a workbook or by hand; all times are whole ticks:
+  name,length,period,deadline,phase
+  star,6,40,30,10
+  gyro,2,20,,                 no deadline: the period; no phase: 0
+  before,camera,downlink      the first runs before the second
+  silent,1                    ticks without a transfer after each one"""
+
 STATUS = """\
 exit status: 0 answered; 1 refused; 2 wrong use, or a file that cannot be read
-or written. Why, and what to do, stands on standard error."""
+or written; 3 not known. Why, and what to do, stands on standard error."""
 
 
 class _Parser(argparse.ArgumentParser):
@@ -40,10 +50,16 @@ class _Parser(argparse.ArgumentParser):
         raise SystemExit(FAILED)
 
 
+class _Version(argparse.Action):
+    def __call__(self, *_):
+        files.print_out(f"bus {__version__}\n")
+        raise SystemExit(ANSWERED)
+
+
 def _layout(description, example):
     return {
         "description": description,
-        "epilog": f"example:\n{example}\n\n{STATUS}",
+        "epilog": f"{COLUMNS}\n\nexample:\n{example}\n\n{STATUS}",
         "formatter_class": argparse.RawDescriptionHelpFormatter,
         "allow_abbrev": False,
     }
@@ -51,44 +67,76 @@ def _layout(description, example):
 
 def _parser():
     parser = _Parser(prog="bus", **_layout(DESCRIPTION, EXAMPLE))
+    parser.add_argument("--version", action=_Version, nargs=0, help="print the version")
     group = parser.add_subparsers(metavar="COMMAND", required=True, parser_class=_Parser)
     for command in COMMANDS:
         subparser = group.add_parser(command.NAME, help=command.HELP, **_layout(command.HELP, command.EXAMPLE))
-        subparser.set_defaults(run=command.run)
+        subparser.set_defaults(run=command.run, subcommand=command.NAME, own_parser=subparser)
         command.arguments(subparser)
+        subparser.add_argument("--json", action="store_true", help="print the answer as one record, in JSON")
     return parser
 
 
-def _tell_faults(path, found):
-    faults = found.faults
+def _parsed(words):
+    """The arguments; what is too much is a fault of the subcommand."""
+    asked, more = _parser().parse_known_args(words)
+    if more:
+        asked.own_parser.error(f"unrecognized arguments: {' '.join(more)}")
+    return asked
+
+
+def _faults_told(found, asked):
+    source, faults = found.source or files.called(asked.list), found.faults
+    told = Answer({"faults": [{"file": source, **fault._asdict()} for fault in faults]}, "", REFUSED)
+    if isinstance(found, WrongFile):
+        say(f"{source}: refused: {faults[0]}")
+        return told
     for fault in faults[:MOST_FAULTS]:
-        print(f"{path}: {fault}", file=sys.stderr)
+        put(f"{source}: {fault}")
     more = f", {len(faults) - MOST_FAULTS} of them not shown" if len(faults) > MOST_FAULTS else ""
-    count = "1 fault" if len(faults) == 1 else f"{len(faults)} faults"
-    say(f"refused: the {found.kind} has {count}{more}: mend what the lines say; docs/FORMATS.md has the format")
+    mend = "mend what the line says" if len(faults) == 1 else "mend what the lines say"
+    say(f"refused: the {found.kind} has {counted(len(faults), 'fault')}{more}: {mend}; {found.more}")
+    return told
 
 
-def _tell_refusal(refused, asked):
-    """The refusal with the file that it speaks of."""
-    refused.source = refused.source or getattr(asked, refusals.row(refused.number).speaks_of, "")
-    say(str(refused))
+def _refusal_told(refused, asked):
+    """The refusal with the file that it speaks of, and a last line that names who is to blame and what tells more."""
+    speaks_of = getattr(asked, refusals.row(refused.number).speaks_of, "")
+    refused.source = refused.source or files.called(speaks_of)
+    say("\n".join(filter(None, (str(refused), hint.last_line(refused, asked)))))
+    return Answer(refused.record(), "", UNKNOWN if refused.number in refusals.NOT_KNOWN else REFUSED)
+
+
+def _told(fault, asked):
+    """What is told of a fault on standard error, and its answer, which has no words."""
+    if isinstance(fault, ListFaults):
+        return _faults_told(fault, asked)
+    if isinstance(fault, refusals.Refused):
+        return _refusal_told(fault, asked)
+    say(str(fault))
+    return Answer({"words": str(fault)}, "", FAILED)
+
+
+def _answer(asked):
+    """What the subcommand answers; a fault is an answer too."""
+    try:
+        one_way(asked)
+        return asked.run(asked)
+    except Error as fault:
+        return _told(fault, asked)
 
 
 def main(words=None):
     """Runs the command with these words and answers its exit status."""
     try:
-        asked = _parser().parse_args(words)
-        asked.run(asked)
-        return ANSWERED
+        asked = _parsed(words)
+        with sources.listening(lambda source, note: say(f"{source}: {note}")):
+            answer = _answer(asked)
+        answers.show(answer, asked)
+        return answer.status
     except SystemExit as end:
         return end.code
-    except ListFaults as found:
-        _tell_faults(found.source or asked.list, found)
-        return REFUSED
-    except refusals.Refused as refused:
-        _tell_refusal(refused, asked)
-        return REFUSED
-    except (WrongUse, files.FileFault, NotBuilt, SearchEnded) as fault:
+    except files.FileFault as fault:
         say(str(fault))
         return FAILED
     except Exception:

@@ -1,9 +1,12 @@
 """A long transfer cut in two: the library cuts the request, and the names go along."""
 
+from typing import Optional
+
 from . import library, request as requests
+from .accepted import RequestLike, TaskLike, Tell, whole
 from .names import piece_names, task_number
-from .progress import tell as tell_on_screen
 from .refusals import Refused
+from .request import Request
 from .sources import called, given
 from .text import quoted
 
@@ -16,14 +19,13 @@ def _changes(old, task, new):
             yield f"{quoted(name)} to {' and '.join(map(quoted, now))}"
 
 
-def cut(request, task, first, tell=tell_on_screen):
+def cut(request: RequestLike, task: TaskLike, first: int, tell: Optional[Tell] = None) -> Request:
     """The request with a task, given by its name or its number, cut in two: `first` ticks, and then the rest of them.
 
     Both pieces have its period, deadline and phase, and the first comes before the second. `tell` is called with a line
-    about the names that are others then, or is None.
+    about the names that are others then.
     """
-    if not 0 <= first <= library.MOST_LENGTH:
-        raise ValueError(f"the ticks of the first piece are a number from 0 to {library.MOST_LENGTH}")
+    first = whole("the length of the first piece", first, 0, library.MOST_LENGTH)
     source = called(request, "the request")
     data, request = given(request)
     number = task_number(request, task)

@@ -6,9 +6,12 @@ needs: `data`, the bytes of a request; the `request` in them; `table`, the bytes
 
 import struct
 
+from .amounts import counted
+from .lengths import lengths, too_many_rows
+from .lists import kinds
 from .names import task_and_job, task_number
 from .table import decode
-from .words import pair_faults, task_faults
+from .words import MOST_ROWS, pair_faults, share_of_time, task_faults
 
 MOST_NAMED = 3
 
@@ -28,11 +31,11 @@ def _where_it_ends(data):
 
 
 def cut_bytes(*, data, **_):
-    return f"the file has {len(data)} bytes: {_where_it_ends(data)}"
+    return f"the file has {counted(len(data), 'byte')}: {_where_it_ends(data)}"
 
 
 def said_tasks(*, data, **_):
-    return f"the file's first byte says {data[0]} tasks"
+    return f"the file's first byte says {counted(data[0], 'task')}"
 
 
 def first_task_fault(*, data, **_):
@@ -70,12 +73,12 @@ def _behind_the_pairs(data):
 
 def bytes_too_many(*, data, **_):
     third = _behind_the_pairs(data)
-    return f"{len(third) - 1 - third[0] % 2} bytes too many"
+    return f"{counted(len(third) - 1 - third[0] % 2, 'byte')} too many"
 
 
 def third_section(*, data, **_):
     third = _behind_the_pairs(data)
-    return f"the count is {third[0]}" if third[0] > 1 else f"it asks for {third[1]} silent ticks"
+    return f"the count is {third[0]}" if third[0] > 1 else f"it asks for {counted(third[1], 'silent tick')}"
 
 
 def periods(*, request, **_):
@@ -90,28 +93,35 @@ def job_counts(*, request, **_):
     counts = [request.cycle // task.period for task in request.tasks]
     most = sorted(range(len(counts)), key=lambda number: -counts[number])[:MOST_NAMED]
     named = ", ".join(f"{request.place(number)} {counts[number]}" for number in most)
-    return f"a cycle of {request.cycle} ticks has {sum(counts)} jobs; the most: {named}"
+    return f"a cycle of {counted(request.cycle, 'tick')} has {sum(counts)} jobs; the most: {named}"
 
 
 def _silent_ones(request):
     """The silent ticks that a transfer needs beside its own, if there are any."""
-    return f" and {request.silent} silent ones" if request.silent else ""
+    return f" and {counted(request.silent, 'silent one')}" if request.silent else ""
 
 
 def longest_and_shortest(*, request, **_):
+    """Of 9: the two that are far apart, unless the rows alone are too many."""
+    short = too_many_rows(lengths(request))
+    if short:
+        rows = f"a cycle of {request.cycle} ticks would have {short[0].rows} rows of them"
+        fit = f"frames of {counted(short[0].frame, 'tick')} would fit into every window"
+        return f"{fit}, but {rows}, and a table has at most {MOST_ROWS}"
     numbers = range(len(request.tasks))
     longest = max(numbers, key=lambda i: request.tasks[i].length)
     shortest = min(numbers, key=lambda i: request.tasks[i].deadline)
     silent = _silent_ones(request)
+    ticks = counted(request.tasks[longest].length, "tick")
     return (
-        f"the longest transfer is {request.place(longest)} with {request.tasks[longest].length} ticks{silent},"
+        f"the longest transfer is {request.place(longest)} with {ticks}{silent},"
         f" the shortest deadline that of {request.place(shortest)} with {request.tasks[shortest].deadline}"
     )
 
 
 def asked_for(*, request, **_):
     more = ": more than there is" if request.load > 1 else ""
-    return f"the transfers ask for {100 * request.load:.0f} % of the time{more}"
+    return f"the transfers ask for {share_of_time(request.load)} of the time{more}"
 
 
 def _alike(request):
@@ -125,7 +135,7 @@ def _alike(request):
 
 
 def tries_allowed(*, request, allowed, **_):
-    said = f"{allowed:,} tries are allowed"
+    said = "1 try is allowed" if allowed == 1 else f"{allowed:,} tries are allowed"
     alike = _alike(request)
     if len(alike) < 2:
         return said
@@ -167,11 +177,12 @@ def no_such_cut(*, request, task, called, piece, **_):
     length = request.tasks[task].length
     if length == 1:
         return f"{request.place(task)} has 1 tick, which cannot be cut"
-    return f"the first piece of {request.place(task)} can have from 1 to {length - 1} ticks, not {piece}"
+    most = f"from 1 to {length - 1} ticks" if length > 2 else "1 tick"
+    return f"the first piece of {request.place(task)} can have {most}, not {piece}"
 
 
 def table_length(*, table, **_):
-    return f"the table has {len(table)} bytes"
+    return kinds.instead_of_a_table(table) or f"the file has {counted(len(table), 'byte')}"
 
 
 def table_sizes(*, request, table, **_):
@@ -199,7 +210,7 @@ def _entry_breach(request, table, jobs, seen, number, entry):
 
 def _row_breach(request, table, number):
     used = request.used(entry for entry in table.rows[number] if entry.task < len(request.tasks))
-    return f"row {number} needs {used} ticks, and a frame has {table.frame}" if used > table.frame else ""
+    return f"row {number} needs {counted(used, 'tick')}, and a frame has {table.frame}" if used > table.frame else ""
 
 
 def _order_breaches(request, table):
@@ -229,23 +240,22 @@ def plan_breaches(*, request, table, **_):
     return "; ".join(found[:MOST_NAMED]) + more
 
 
-def _badly_asked(table, length, begin, until):
-    end = 2 * table.cycle
+def _badly_asked(length, begin, until):
     if length == 0:
         yield "the length is 0"
     if begin > until:
         yield f"it is asked for from tick {begin}, which is after tick {until}"
-    if until > end:
-        yield f"it is asked for until tick {until}, and two cycles end at tick {end}"
 
 
-def badly_asked(*, table, length, begin, until, **_):
-    return "; ".join(_badly_asked(decode(table), length, begin, until))
+def badly_asked(*, length, begin, until, **_):
+    return "; ".join(_badly_asked(length, begin, until))
 
 
 def most_unused(request, table, begin, until):
-    """Of the frames between two ticks the first that leaves the most time, and that time; None without a frame."""
-    frames = range(-(-begin // table.frame), until // table.frame)
+    """Of the frames between two ticks the first that leaves the most time, and that time; None without a frame. Those
+    behind a whole cycle are like those in it."""
+    first = -(-begin // table.frame)
+    frames = range(first, min(until // table.frame, first + len(table.rows)))
     unused = {k: table.frame - request.used(table.rows[k % len(table.rows)]) for k in frames}
     return max(unused.items(), key=lambda item: item[1]) if unused else None
 
@@ -254,10 +264,10 @@ def no_room(*, request, table, length, begin, until, **_):
     table = decode(table)
     most = most_unused(request, table, begin, until)
     if most is None:
-        return f"no whole frame of {table.frame} ticks lies between tick {begin} and tick {until}"
+        return f"no whole frame of {counted(table.frame, 'tick')} lies between tick {begin} and tick {until}"
     return (
-        f"of the frames between tick {begin} and tick {until}, frame {most[0]} leaves the most time, {most[1]} ticks;"
-        f" the transfer needs {length}{_silent_ones(request)}"
+        f"of the frames between tick {begin} and tick {until}, frame {most[0]} leaves the most time,"
+        f" {counted(most[1], 'tick')}; the transfer needs {length}{_silent_ones(request)}"
     )
 
 
@@ -327,7 +337,7 @@ def _row_over(request, draft, job, frame):
     over = used + needed + request.silent - draft.frame
     if over > 0:
         yield (
-            f"row {row} would be over by {over} {'tick' if over == 1 else 'ticks'}: it uses {used} of {draft.frame},"
+            f"row {row} would be over by {counted(over, 'tick')}: it uses {used} of {draft.frame},"
             f" and {_job(request, job)} needs {needed}{_silent_ones(request)}"
         )
 

@@ -6,6 +6,8 @@ import os
 import stat
 import sys
 
+from .errors import Error
+
 # Far above any list, request or table.
 MOST_BYTES = 1_000_000
 
@@ -20,8 +22,19 @@ ADVICE = {
 }
 
 
-class FileFault(Exception):
+class Content(bytes):
+    """The bytes of a file, with what messages call it."""
+
+    name = ""
+
+
+class FileFault(Error):
     """A file that cannot be read or written; the text names it, with the reason and what to do."""
+
+
+def called(path):
+    """What messages call a file."""
+    return "standard input" if path == "-" else str(path)
 
 
 def _fault(doing, path, reason):
@@ -40,12 +53,15 @@ def read(path):
             with open(path, "rb") as file:
                 data = file.read(MOST_BYTES + 1)
     except OSError as reason:
-        raise _fault("read", path, reason) from reason
+        raise _fault("read", called(os.fspath(path)), reason) from reason
     except ValueError as reason:
         raise FileFault(f"cannot read {path!r}: {reason}: check the name") from reason
+    name = called(os.fspath(path))
     if len(data) > MOST_BYTES:
-        raise FileFault(f"cannot read {path}: it has more than {MOST_BYTES} bytes: name a list, a request or a table")
-    return data
+        raise FileFault(f"cannot read {name}: it has more than {MOST_BYTES} bytes: name a list, a request or a table")
+    content = Content(data)
+    content.name = name
+    return content
 
 
 def _write_all(file, data):
@@ -60,10 +76,13 @@ def _write_all(file, data):
 @contextlib.contextmanager
 def _new_file(path):
     """The name and the open file of a new one beside the path, which is gone if a fault comes up."""
-    name = f"{os.path.realpath(path)}.{os.getpid()}.new"
+    real = os.path.realpath(path)
+    name = f"{real}.{os.getpid()}.new"
     file = open(name, "xb")
     try:
         with file:
+            if os.path.exists(real):
+                os.fchmod(file.fileno(), stat.S_IMODE(os.stat(real).st_mode))
             yield name, file
     except BaseException:
         os.unlink(name)
@@ -98,20 +117,31 @@ def _with_faults(path, plain, other):
 
 def probe(path):
     """Finds out now whether a file can be written later; nothing is left of it."""
-    _with_faults(path, _try, lambda _: None)
+    if path != "-":
+        _with_faults(path, _try, lambda _: None)
 
 
 def write(path, data):
-    """Writes a file, under another name first. A device or a pipe is written to and never replaced."""
-    _with_faults(path, lambda path: _replace(path, data), lambda path: _write_all(open(path, "wb"), data))
+    """Writes a file, under another name first. A device or a pipe is written to and never replaced, and '-' is standard
+    output."""
+    path = os.fspath(path)
+    if path == "-":
+        _put_out(data)
+    else:
+        _with_faults(path, lambda path: _replace(path, data), lambda path: _write_all(open(path, "wb"), data))
+
+
+def _put_out(data):
+    """Bytes to standard output, all of them, or a fault."""
+    if sys.stdout is None:
+        raise FileFault("cannot write to standard output: it is closed: open it, or send it to a file")
+    try:
+        sys.stdout.buffer.write(data)
+        sys.stdout.buffer.flush()
+    except OSError as reason:
+        raise _fault("write to", "standard output", reason) from reason
 
 
 def print_out(text):
     """Text to standard output, as UTF-8 and all of it, or a fault."""
-    if sys.stdout is None:
-        raise FileFault("cannot write to standard output: it is closed: open it, or send it to a file")
-    try:
-        sys.stdout.buffer.write(text.encode("utf-8", "replace"))
-        sys.stdout.buffer.flush()
-    except OSError as reason:
-        raise _fault("write to", "standard output", reason) from reason
+    _put_out(text.encode("utf-8", "replace"))

@@ -3,6 +3,7 @@
 from typing import NamedTuple, Optional
 
 from . import library
+from .accepted import RequestLike, TableLike, TaskLike, kind_of
 from .dispatcher import Frame, frame_of
 from .names import task_number
 from .refusals import Refused
@@ -39,7 +40,7 @@ class Heater:
     Request and table may be given as to `check`, the tasks by name or by number. The heater is off at first.
     """
 
-    def __init__(self, request, table, command, reply):
+    def __init__(self, request: RequestLike, table: TableLike, command: TaskLike, reply: TaskLike):
         data, request = given(request)
         table = content(table)
         self._pair = task_number(request, command), task_number(request, reply)
@@ -55,17 +56,19 @@ class Heater:
         self.answered = 0
 
     @property
-    def on(self):
+    def on(self) -> bool:
         """Whether the heater is on."""
         return self.toggles % 2 == 1
 
     @property
-    def under_way(self):
+    def under_way(self) -> bool:
         """Whether the board has done the current command and the answer is still to come."""
         return self.toggles > self.answered
 
-    def serve(self, lost="."):
+    def serve(self, lost: str = ".") -> Exchange:
         """Serves the next frame, in which nothing is lost (.), the command (c), the reply (r) or both (b)."""
+        if not isinstance(lost, str):
+            raise TypeError(f"what is lost in a frame is one of the letters {LOSSES}, not {kind_of(lost)}")
         if len(lost) != 1 or lost not in LOSSES:
             raise ValueError(f"what is lost in a frame is one of the letters {LOSSES}")
         bits, before = LOSSES.index(lost), self.state

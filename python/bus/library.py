@@ -10,7 +10,7 @@ import functools
 import os
 from typing import Callable, NamedTuple, Optional
 
-from .build import SHARED, NotBuilt, build
+from .build import NotBuilt, build
 
 # As in include/bus.h.
 STATE_BYTES = 64
@@ -127,10 +127,11 @@ class Call:
         return (answer, *(argument.taken(buffer.raw, answer) for argument, buffer in lent)) if lent else answer
 
 
-# The table. search.py makes the call `plan` where it can be stopped, and phases.py the call `phases`.
+# The table. search.py makes the calls `plan` and `decide` where they can be stopped, and phases.py the call `phases`.
 plan = Call(
     "plan", read("request"), number("allowance", 64), written("out", TABLE_BYTES), counted("tries", TRIES_BYTES)
 )
+decide = Call("decide", read("request"), written("out", TABLE_BYTES))
 phases = Call(
     "phases", read("request"), number("task", 8), number("allowance", 64), filled("counts", PHASES_BYTES)
 )
@@ -169,15 +170,15 @@ timeline = Call("timeline", read("request"), read("table"), recorded("records", 
 @functools.lru_cache(maxsize=None)
 def load():
     """The loaded library. BUS_LIBRARY names one that was built elsewhere."""
-    path = os.environ.get("BUS_LIBRARY")
+    path = os.environ.get("BUS_LIBRARY") or str(build())
     try:
-        if not path:
-            build()
-        loaded = ctypes.CDLL(path or str(SHARED))
+        loaded = ctypes.CDLL(path)
         for call in CALLS:
             call.declare(loaded)
-    except (OSError, AttributeError) as reason:
+    except OSError as reason:
         raise NotBuilt(f"the library cannot be loaded: {reason}") from reason
+    except AttributeError as reason:
+        raise NotBuilt(f"the library {path} is too old for this command: {reason}: build it anew") from reason
     return loaded
 
 

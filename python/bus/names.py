@@ -4,6 +4,8 @@ others, which has no names."""
 import itertools
 
 from . import library, request as requests
+from .accepted import TaskLike, index
+from .request import Request
 
 MOST_DIGITS = 3
 
@@ -13,8 +15,11 @@ def _number(text):
     return int(text) if text.isascii() and text.isdigit() and len(text) <= MOST_DIGITS else None
 
 
-def task_number(request, task):
+def task_number(request: Request, task: TaskLike) -> int:
     """The number of a task that is called by its name or its number; one that no request has if there is none."""
+    if not isinstance(task, str):
+        number = index("a task's number", task)
+        return number if 0 <= number < library.NO_TASK else library.NO_TASK
     names = [each.name for each in request.tasks]
     if task in names:
         return names.index(task)

@@ -1,14 +1,15 @@
 """Which phases of a task still fit: the library counts them, and each one is planned to see where they lie.
 
-Both are done at the same time, in two child processes, and compared in the end.
+Both are done at the same time, in two processes, and compared in the end.
 """
 
 import itertools
-import os
 import struct
-from typing import NamedTuple
+import time
+from typing import Any, Callable, Dict, NamedTuple, Optional, Tuple
 
 from . import child, library, search
+from .accepted import RequestLike, TaskLike, whole
 from .names import task_number
 from .refusals import Refused
 from .sources import given
@@ -17,7 +18,7 @@ from .sources import given
 TABLE = 0
 ANSWERS = (TABLE, 9, 10, 23)
 
-COUNTED = struct.Struct("<i4H")
+COUNTED = struct.Struct("<4H")
 
 
 class Run(NamedTuple):
@@ -42,10 +43,10 @@ class Phases(NamedTuple):
     nines: int
     tens: int
     ended: int
-    runs: tuple
+    runs: Tuple[Run, ...]
 
     @property
-    def counts(self):
+    def counts(self) -> Dict[int, int]:
         """The four counts by what they count: 0, 9, 10 and 23."""
         return dict(zip(ANSWERS, (self.tables, self.nines, self.tens, self.ended)))
 
@@ -69,39 +70,43 @@ def runs_of(answers):
     return tuple(runs)
 
 
-def _plan_each(data, task, period, tries, writer):
-    """In a child: a byte into the pipe for each phase, with what planning it comes to."""
+def _each(worker, data, task, period, tries, tell):
+    """What planning each phase comes to, one after the other."""
+    worker.started()
+    begin = told = time.monotonic()
+    answers = []
     for phase in range(period):
-        answer, _, _ = library.plan(with_phase(data, task, phase), tries)
-        os.write(writer, bytes([max(-answer, TABLE)]))
-
-
-def _count(data, task, tries, writer):
-    """In a child: the library's answer and counts into the pipe."""
-    answer, counts = library.phases(data, task, tries)
-    os.write(writer, struct.pack("<i", answer) + counts)
+        waiting = tell and (lambda _: tell(len(answers), period, time.monotonic() - begin))
+        (answer, _, _), _ = worker.call(
+            "plan", with_phase(data, task, phase), tries, pause=search.SECONDS_BETWEEN_SIGNS, tell=waiting
+        )
+        answers.append(max(-answer, TABLE))
+        now = time.monotonic()
+        if tell is not None and now - told >= search.SECONDS_BETWEEN_SIGNS:
+            tell(len(answers), period, now - begin)
+            told = now
+    return answers
 
 
 def _both(data, task, period, tries, tell):
     """The library's counts, and what planning comes to with each phase."""
-    signs = tell and (lambda seconds, done: tell(done, period, seconds))
-    with child.started(lambda writer: _count(data, task, tries, writer)) as counting:
-        with child.started(lambda writer: _plan_each(data, task, period, tries, writer)) as planning:
-            answers = child.wholly(child.received(planning, search.SECONDS_BETWEEN_SIGNS, signs), period)
-        waiting = tell and (lambda seconds, _: tell(period, period, seconds))
-        came = child.received(counting, search.SECONDS_BETWEEN_SIGNS, waiting)
-    _, *counts = COUNTED.unpack(child.wholly(came, COUNTED.size))
-    return counts, answers
+    with child.worker() as counting, child.worker() as planning:
+        counting.ask("phases", data, task, tries)
+        answers = _each(planning, data, task, period, tries, tell)
+        waiting = tell and (lambda seconds: tell(period, period, seconds))
+        (_, counts), _ = counting.answer(search.SECONDS_BETWEEN_SIGNS, waiting)
+    return list(COUNTED.unpack(counts)), answers
 
 
-def phases(request, task, tries=search.TRIES, tell=None):
+def phases(
+    request: RequestLike, task: TaskLike, tries: int = search.TRIES, tell: Optional[Callable[[int, int, float], Any]] = None
+) -> Phases:
     """How the phases of a task, given by its name or its number, end: counts, and runs of neighbours that end alike.
 
     All else is as in the request, and each phase is allowed so many tries. `tell` is called about once a second of long
     work, with how many of the phases are planned, how many there are, and the seconds that it took.
     """
-    if not 0 <= tries <= library.MOST_TRIES:
-        raise ValueError(f"the tries that are allowed are a number from 0 to {library.MOST_TRIES}")
+    tries = whole("the number of tries that are allowed", tries, 0, library.MOST_TRIES)
     data, request = given(request)
     number = task_number(request, task)
     answer, _ = library.phases(data, number, 0)

@@ -29,7 +29,7 @@ ARGUMENTS = {
 class ProgramFaults(ListFaults):
     """All faults of a program, by line."""
 
-    kind = "program"
+    kind, more = "program", "docs/FORMATS.md has the format"
 
 
 class Step(NamedTuple):

@@ -1,15 +1,38 @@
-"""Lines for the person at the screen, and signs of a long search."""
+"""Lines for the person at the screen, and signs of long work."""
 
 import os
 import sys
+import textwrap
+import time
 
 WIDTH = 80
 BAR = 24  # letters of a bar
+INDENT = " " * len("bus: ")
+
+
+def _on_a_screen():
+    return sys.stderr is not None and sys.stderr.isatty()
+
+
+def _columns():
+    """The columns of the screen."""
+    return os.get_terminal_size(sys.stderr.fileno()).columns or WIDTH
+
+
+def put(text):
+    """Lines to the person at the screen, each wrapped to it, the rest of it indented. Elsewhere they stay whole."""
+    if sys.stderr is None:
+        return
+    if _on_a_screen():
+        whole = {"break_long_words": False, "break_on_hyphens": False, "subsequent_indent": INDENT}
+        wide = max(_columns() - 1, 2 * len(INDENT))
+        text = "\n".join("\n".join(textwrap.wrap(line, wide, **whole)) for line in text.split("\n"))
+    print(text, file=sys.stderr, flush=True)
 
 
 def tell(text):
     """A line to the person at the screen."""
-    print(f"bus: {text}", file=sys.stderr, flush=True)
+    put(f"bus: {text}")
 
 
 def about(number):
@@ -31,7 +54,7 @@ class Line:
     it is one line, once."""
 
     def __init__(self):
-        self.terminal = sys.stderr is not None and sys.stderr.isatty()
+        self.terminal = _on_a_screen()
         self.told = False
         self.width = 0
 
@@ -52,7 +75,7 @@ class Line:
 
     def _line(self, text):
         """Writes the text over that of the last time, cut where the terminal ends. No text leaves an empty line."""
-        columns = os.get_terminal_size(sys.stderr.fileno()).columns or WIDTH
+        columns = _columns()
         text = text[: columns - 1]
         gap = " " * (min(self.width, columns - 1) - len(text))
         self.width = len(text)
@@ -60,7 +83,8 @@ class Line:
 
 
 class Progress(Line):
-    """Called about once a second with about how many of the allowed tries are used, or None while that is not known."""
+    """Called about once a second of a search with so many tries allowed, with about how many are used, or None while
+    that is not known."""
 
     def __init__(self, allowance):
         super().__init__()
@@ -69,6 +93,17 @@ class Progress(Line):
     def __call__(self, used):
         far = "" if used is None else f", about {about(used):,} of {self.allowance:,} tries used"
         self.show("searching for a plan", far)
+
+
+class Deciding(Line):
+    """Called about once a second of a decision. How far it is nobody knows, so the line tells how long it has taken."""
+
+    def __init__(self):
+        super().__init__()
+        self.begin = time.monotonic()
+
+    def __call__(self, _):
+        self.show("deciding whether there is a plan", f", {_time(time.monotonic() - self.begin)} so far")
 
 
 class Bar(Line):
@@ -82,3 +117,16 @@ class Bar(Line):
         filled = BAR * done // steps
         left = f", about {_time((steps - done) * seconds / done)} left" if 0 < done < steps else ""
         self.show(self.doing, f" [{'#' * filled}{'.' * (BAR - filled)}] {done:,} of {steps:,}{left}")
+
+
+class Questions(Line):
+    """Called about once a second with how many questions were asked of the library, and the seconds gone by. It is a
+    line on a terminal alone: the time is limited."""
+
+    def __init__(self, limit):
+        super().__init__()
+        self.limit = limit
+
+    def __call__(self, asked, seconds):
+        if self.terminal:
+            self.show("asking the library", f": {asked:,} questions, {seconds:.0f} of {self.limit:g} s")

@@ -6,6 +6,7 @@ A number that is new is a row here and, if there is more to say than the words, 
 from typing import Callable, NamedTuple, Optional
 
 from . import details
+from .errors import Error
 
 # The argument of the command whose file a refusal speaks of. NO_ONE: no file. Where there are two, join.py names them.
 LIST, TABLE, NO_ONE = "list", "table", ""
@@ -34,8 +35,9 @@ ROWS = (
     ),
     Refusal(
         3, LIST, details.first_task_fault,
-        "a task breaks 1 ≤ C ≤ D ≤ T or P < T",
-        "correct that task: a transfer fits its deadline, the deadline its period, and the phase is below the period",
+        "a transfer breaks 1 ≤ length ≤ deadline ≤ period or phase < period",
+        "correct that transfer: its length fits its deadline, the deadline its period, and the phase is below the"
+        " period",
     ),
     Refusal(
         4, LIST, details.said_pairs,
@@ -44,8 +46,10 @@ ROWS = (
     ),
     Refusal(
         5, LIST, details.first_pair_fault,
-        "a pair breaks a < b < n or its tasks have different periods",
-        "number the tasks so that the earlier one has the lower number; give both the same period",
+        "a pair does not name two transfers of the request, the one with the lower number first, or they have"
+        " different periods",
+        "number the tasks so that the earlier one has the lower number, as the command does with a list; give both the"
+        " same period",
     ),
     Refusal(
         6, LIST, details.bytes_too_many,
@@ -54,7 +58,7 @@ ROWS = (
     ),
     Refusal(
         7, LIST, details.periods,
-        "H is above 10,000",
+        "the cycle, the least common multiple of all periods, is above 10,000 ticks",
         "choose periods that share factors: 20 and 40 instead of 20 and 41",
     ),
     Refusal(
@@ -64,16 +68,17 @@ ROWS = (
     ),
     Refusal(
         9, LIST, details.longest_and_shortest,
-        "no frame length is plausible: none divides H into at most 256 rows, holds the longest transfer with its"
-        " silent ticks and lies whole in each window of every task",
-        "the longest transfer is long against the shortest deadline: shorten it or cut it (`bus cut`), relax the"
+        "no frame length is plausible: none divides the cycle into at most 256 rows, holds the longest transfer with"
+        " its silent ticks and lies whole in each window of every transfer",
+        "if the longest transfer is long against the shortest deadline, shorten it or cut it (`bus cut`), relax the"
         " deadline, ask for fewer silent ticks, or move a phase: a window that opens where a frame begins has room for"
-        " the longest one",
+        " the longest one; if 256 rows are too few, choose periods that share factors, so that the cycle gets shorter,"
+        " or longer deadlines",
     ),
     Refusal(
         10, LIST, details.asked_for,
-        "some length is plausible, so each window by itself holds a frame, and yet no placing keeps windows, capacity"
-        " and order: all were searched",
+        "some length is plausible, so each window by itself holds a frame, and yet none of all placings keeps windows,"
+        " capacity and order",
         "less load, fewer silent ticks, later deadlines, other phases or fewer pairs; no other placing would do",
     ),
     Refusal(
@@ -89,8 +94,8 @@ ROWS = (
     ),
     Refusal(
         13, TABLE, details.table_sizes,
-        "the table's H is not the request's, or its f is not plausible: too short for a transfer, or some window holds"
-        " no whole frame of that length",
+        "the table's cycle is not the request's, or its frame length is not plausible: too short for a transfer, or"
+        " some window holds no whole frame of that length",
         "the table belongs to another request, or the request was changed: plan again",
     ),
     Refusal(
@@ -100,19 +105,21 @@ ROWS = (
     ),
     Refusal(
         15, NO_ONE, None,
-        "the state's row is not below F",
+        "the state's row is none of the table",
         "the state belongs to another table: begin with a fresh one",
     ),
     Refusal(
         16, LIST, details.no_such_task,
-        "there is no such task: the number of a report, or of the task whose phases are counted, is not below n",
+        "there is no such task: the number of a report, or of the task whose phases are counted, is none of the"
+        " request",
         "name a task of the list, by its name or its number from 0 on",
     ),
     Refusal(
         17, LIST, details.third_section,
-        "the request's third section has a count above 1, or g is above 15; judged after 5 and before 6",
-        "write `01` and a g from 0 to 15, or leave the section out; what the line needs beyond 15 ticks can be added"
-        " to every C",
+        "the request's third section has a count above 1, or more than 15 silent ticks are asked for; judged after 5"
+        " and before 6",
+        "write `01` and a number from 0 to 15, or leave the section out; what the line needs beyond 15 ticks can be"
+        " added to every length",
     ),
     Refusal(
         18, NO_ONE, details.tasks_in_both,
@@ -126,14 +133,15 @@ ROWS = (
     ),
     Refusal(
         20, NO_ONE, details.silent_in_both,
-        "two requests that are joined have different g",
-        "the boards share one line: give both the g that the line needs, in a list by a line `silent,TICKS`",
+        "two requests that are joined have different silent ticks",
+        "the boards share one line: give both the silent ticks that the line needs, in a list by a line `silent,TICKS`",
     ),
     Refusal(
         21, NO_ONE, details.badly_asked,
-        "a one-off transfer is asked for with length 0, from a tick after its last, or until a tick after 2H",
-        "ask for 1 tick or more, between two ticks of the first two cycles; every later cycle is like these: for a"
-        " later time take whole cycles off both ticks",
+        "a one-off transfer is asked for with length 0, from a tick after its last, or until a tick after the second"
+        " cycle",
+        "ask for 1 tick or more, and until a tick that is not before the first; every later cycle is like the first"
+        " two: from C, take whole cycles off both ticks, as the command does",
     ),
     Refusal(
         22, TABLE, details.no_room,
@@ -144,14 +152,15 @@ ROWS = (
     Refusal(
         23, LIST, details.tries_allowed,
         "the search needs more tries than are allowed; whether there is a plan is not known",
-        "allow more, in the command by `--tries N`; or make the search shorter: put transfers that are alike, with the"
-        " same C, T, D and P and in no other pair, in order by pairs, down the list, which changes no table; or ask for"
-        " less load",
+        "plan without a limit: `bus plan` without `--tries`, `bus.plan(request)` in a notebook, `bus_decide` from C; or"
+        " allow more tries; or make the search shorter: put transfers that are alike, with the same length, period,"
+        " deadline and phase and in no other pair, in order by pairs, down the list, which changes no table",
     ),
     Refusal(
         24, LIST, details.no_such_cut,
-        "the task to be cut is not one of the list, or its first piece is not from 1 to C − 1",
-        "name a task of the list, and give the first piece at least 1 tick and leave at least 1 for the second",
+        "the transfer to be cut is not one of the list, or its first piece has not from 1 tick to one less than its"
+        " length",
+        "name a transfer of the list, and give the first piece at least 1 tick and leave at least 1 for the second",
     ),
     Refusal(
         25, LIST, None,
@@ -191,6 +200,9 @@ ROWS = (
 
 REFUSALS = {row.number: row for row in ROWS}
 
+# A refusal that leaves open whether there is a table; all others are a proved no.
+NOT_KNOWN = {23}
+
 
 def row(number):
     """The row of a number, or one that says that there is none."""
@@ -198,10 +210,11 @@ def row(number):
     return REFUSALS.get(number) or Refusal(number, LIST, None, *unknown)
 
 
-class Refused(Exception):
+class Refused(Error):
     """The library refused: its number, the number's words, what can be done, and what in the list it speaks of.
 
-    `source` names the list or table where there are two. `tries` has the tries that planning made.
+    `source` names the list or table where there are two. `tries` has the tries that planning made. `request` is what
+    was refused, if it could be read.
     """
 
     def __init__(self, number, about="", source="", tries=0):
@@ -210,13 +223,21 @@ class Refused(Exception):
         self.about = about
         self.source = source
         self.tries = tries
+        self.request = None
         super().__init__(number, about, source, tries)
 
     @classmethod
     def of(cls, number, source="", tries=0, **asked):
         """The refusal with the details of its row, from all that was asked, by the names that details.py has."""
         tell = row(number).details
-        return cls(number, tell(**asked) if tell else "", source, tries)
+        refused = cls(number, tell(**asked) if tell else "", source, tries)
+        refused.request = asked.get("request")
+        return refused
+
+    def record(self):
+        """The refusal as plain values."""
+        told = {"number": self.number, "words": self.words, "about": self.about, "advice": self.advice}
+        return {**told, "file": self.source, "tries": self.tries}
 
     def __str__(self):
         source = f"{self.source}: " if self.source else ""

@@ -3,7 +3,13 @@
 import math
 import struct
 from dataclasses import dataclass, field, replace
-from typing import NamedTuple
+from typing import Iterable, List, NamedTuple, Tuple
+
+from .amounts import counted
+
+
+# So many tasks are named where a request is shown in a line.
+MOST_NAMED = 4
 
 
 @dataclass(frozen=True)
@@ -26,19 +32,27 @@ class Job(NamedTuple):
     due: int
 
 
-@dataclass(frozen=True)
+@dataclass(frozen=True, repr=False)
 class Request:
     """Tasks in their order, pairs of task numbers (the earlier one first), and the silent ticks after every transfer.
 
-    `lines` has the line of each task in the list that the request was read from, if it was.
+    `lines` has the line of each task in the list that the request was read from, if it was, and `notes` what was
+    noticed there: columns that were not read, another order of the tasks.
     """
 
-    tasks: tuple
-    pairs: tuple = ()
+    tasks: Tuple[Task, ...]
+    pairs: Tuple[Tuple[int, int], ...] = ()
     silent: int = 0
-    lines: tuple = field(default=(), compare=False, repr=False)
+    lines: Tuple[int, ...] = field(default=(), compare=False, repr=False)
+    notes: Tuple[str, ...] = field(default=(), compare=False, repr=False)
 
-    def __bytes__(self):
+    def __repr__(self) -> str:
+        names = ", ".join(task.name for task in self.tasks[:MOST_NAMED])
+        more = ", …" if len(self.tasks) > MOST_NAMED else ""
+        counts = f"{counted(len(self.tasks), 'task')} ({names}{more}), {counted(len(self.pairs), 'pair')}"
+        return f"<bus.Request: {counts}, {counted(self.silent, 'silent tick')}>"
+
+    def __bytes__(self) -> bytes:
         numbers = [(task.length, task.period, task.deadline, task.phase) for task in self.tasks]
         try:
             records = b"".join(struct.pack("<4H", *four) for four in numbers)
@@ -49,21 +63,21 @@ class Request:
             raise ValueError(f"the request does not fit into a request file: {reason}") from reason
 
     @property
-    def cycle(self):
+    def cycle(self) -> int:
         """The least common multiple of all periods, H in the papers."""
         return math.lcm(*(task.period for task in self.tasks))
 
     @property
-    def load(self):
+    def load(self) -> float:
         """The share of the bus that the transfers ask for, silent ticks included."""
         cycle = self.cycle
         return sum((task.length + self.silent) * (cycle // task.period) for task in self.tasks) / cycle
 
-    def used(self, row):
+    def used(self, row: Iterable) -> int:
         """The ticks that a row's entries use, carried ones too, each with the silent ticks after it."""
         return sum(self.tasks[entry.task].length + self.silent for entry in row)
 
-    def jobs(self):
+    def jobs(self) -> List[Job]:
         """Every job of the cycle in planning order: by release, then by task."""
         cycle = self.cycle
         jobs = []
@@ -73,23 +87,23 @@ class Request:
                 jobs.append(Job(number, j, release, release + task.deadline))
         return sorted(jobs, key=lambda job: (job.release, job.task))
 
-    def place(self, number):
+    def place(self, number: int) -> str:
         """A task's name and, if it is known, its line: 'gyro (line 2)'."""
         line = f" (line {self.lines[number]})" if self.lines else ""
         return f"{self.tasks[number].name}{line}"
 
 
-def numbered(number):
+def numbered(number: int) -> str:
     """The name of a task that has none but its number."""
     return f"task{number}"
 
 
-def named(request, names):
+def named(request: Request, names: Iterable[str]) -> Request:
     """The request with these names for its tasks."""
     return replace(request, tasks=tuple(replace(task, name=name) for task, name in zip(request.tasks, names)))
 
 
-def decode(data):
+def decode(data: bytes) -> Request:
     """The request in bytes that the library can read. Its tasks are named task0, task1 and so on."""
     count = data[0]
     tasks = tuple(Task(numbered(i), *struct.unpack_from("<4H", data, 1 + 8 * i)) for i in range(count))

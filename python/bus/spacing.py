@@ -5,9 +5,10 @@ transfer may end at once and takes C ticks at most, so each entry has an earlies
 task stand in different frames, so either start can be early or late whatever the other is.
 """
 
-from typing import NamedTuple
+from typing import NamedTuple, Tuple
 
 from . import calls, table as tables
+from .accepted import RequestLike, TableLike
 
 # In the first cycle carried entries are left out, and from the second on every cycle is the same. So the starts of
 # three show every kind of two in succession: within the first, from the first to the second, and from then on.
@@ -47,7 +48,7 @@ def _starts(request, table):
     return starts
 
 
-def spacing(request, table):
+def spacing(request: RequestLike, table: TableLike) -> Tuple[Spacing, ...]:
     """A record for each task of the request, once the library has accepted the table."""
     _, request, data = calls.checked(request, table)
     found = []

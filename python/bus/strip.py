@@ -3,8 +3,12 @@
 A long strip goes on in further lines, as text does. Every phase is equally wide.
 """
 
-from .drawing import COLOURS, FAINT, INK, MARGIN, USABLE, WIDTH
-from .drawing import add, coordinate, counted, finished, line, page, shortened, steps, width_of, write
+from .accepted import RequestLike
+from .amounts import counted
+from .drawing import FAINT, INK, MARGIN, PAPER, USABLE, WIDTH
+from .drawing import add, coordinate, finished, fitting, in_two, line, page, shortened, steps, width_of, write
+from .phases import Phases
+from .sources import request_of
 from .text import answer_word, answer_words, phase_range
 
 MOST_IN_LINE = 500  # phases, so that each can be seen
@@ -12,21 +16,9 @@ HEAD, STRIP, SCALE = 22, 34, 18  # the mark of the own phase; the strip; the num
 GAP, MARK_LINE = 12, 18
 SIZES = (11, 9)  # of a word in its run, the first that fits
 
-# Each answer has a colour, and a pattern for those who print without colours.
-FILLS = {0: COLOURS[5], 9: COLOURS[7], 10: COLOURS[1], 23: COLOURS[2]}
-LINES = {9: "M0,8 L8,0 M-1,1 L1,-1 M7,9 L9,7", 10: "M0,4 L8,4", 23: "M2,2 L4,2 M6,6 L8,6"}
-
-
-def _fill(answer):
-    return f"url(#answer{answer})" if answer in LINES else FILLS[answer]
-
-
-def _patterns(svg):
-    defs = add(svg, "defs")
-    for answer, path in LINES.items():
-        tile = add(defs, "pattern", id=f"answer{answer}", width=8, height=8, patternUnits="userSpaceOnUse")
-        add(tile, "rect", width=8, height=8, fill=FILLS[answer])
-        add(tile, "path", d=path, stroke=INK, stroke_opacity=0.3, stroke_width=1.2)
+# The colour of each answer, from light to dark, so that they are told apart in greyscale too; and of the words on it.
+FILLS = {0: "#CDEFE2", 23: "#F0C94A", 9: "#8FA3BC", 10: "#A8402F"}
+WORDS = {10: "#FEFEFE"}
 
 
 class _Lines:
@@ -49,16 +41,18 @@ class _Lines:
 def _heading(svg, request, found, title):
     task = request.tasks[found.task]
     write(svg, MARGIN, 32, shortened(title, 0.8 * USABLE, 18), 18, font_weight="bold")
-    facts = [f"{counted(task.period, 'phase')} of {shortened(task.name, USABLE / 3, 12)}, its own is {task.phase}"]
-    facts.append(f"{found.tries:,} tries allowed for each")
-    write(svg, MARGIN, 54, " · ".join(facts), 12, fill=FAINT)
-    return 80
+    facts = f"its own is {task.phase} · {found.tries:,} tries allowed for each"
+    top = 54
+    for text in in_two(f"{counted(task.period, 'phase')} of {task.name}, {facts}", USABLE, 12):
+        write(svg, MARGIN, top, text, 12, fill=FAINT)
+        top += 16
+    return top + 10
 
 
 def _marks(svg, found, top):
     """What the colours mean, and how often each occurs."""
     for answer, count in found.counts.items():
-        add(svg, "rect", x=MARGIN, y=top - 10, width=18, height=12, fill=_fill(answer), stroke=INK, stroke_width=0.8)
+        add(svg, "rect", x=MARGIN, y=top - 10, width=18, height=12, fill=FILLS[answer], stroke=INK, stroke_width=0.8)
         write(svg, MARGIN + 70, top, str(count), 11, text_anchor="end", font_weight="bold", class_="count")
         write(svg, MARGIN + 80, top, answer_words(answer, found.tries), 11)
         top += MARK_LINE
@@ -72,11 +66,11 @@ def _run(svg, lines, run, begin, end, found, top):
     group = add(svg, "g", class_="run", data_first=first, data_last=last, data_answer=run.answer)
     words = f"{phase_range(run)}: {answer_words(run.answer, found.tries)}"
     add(group, "title", f"{'phase' if run.first == run.last else 'phases'} {words}")
-    add(group, "rect", x=x, y=top, width=width, height=STRIP, fill=_fill(run.answer), shape_rendering="crispEdges")
+    add(group, "rect", x=x, y=top, width=width, height=STRIP, fill=FILLS[run.answer], shape_rendering="crispEdges")
     word = answer_word(run.answer)
     size = next((size for size in SIZES if width_of(word, size) + 6 <= width), 0)
     if size:
-        write(group, x + width / 2, top + 21, word, size, text_anchor="middle")
+        write(group, x + width / 2, top + 21, word, size, text_anchor="middle", fill=WORDS.get(run.answer, INK))
 
 
 def _own(svg, lines, phase, begin, top):
@@ -85,7 +79,7 @@ def _own(svg, lines, phase, begin, top):
     points = [(x - 5, top - 8), (x + 5, top - 8), (x, top - 1)]
     joined = " ".join(f"{coordinate(a)},{coordinate(b)}" for a, b in points)
     group = add(svg, "g", class_="own", data_phase=phase)
-    add(group, "polygon", points=joined, fill=INK)
+    add(group, "polygon", points=joined, class_="mark", fill=INK)
     label = f"its own phase, {phase}"
     behind = x + 9 + width_of(label, 10) <= WIDTH - MARGIN
     place = {"text_anchor": "start"} if behind else {"text_anchor": "end"}
@@ -101,17 +95,17 @@ def _scale(svg, lines, begin, end, top):
         write(svg, x, top + 14, str(phase), 9, text_anchor="middle", fill=FAINT)
 
 
-def strip(request, found, title="Phases"):
+def strip(request: RequestLike, found: Phases, title: str = "Phases") -> str:
     """The text of an SVG file that shows the phases of a task of a request."""
+    request = request_of(request)
     svg = page(title)
-    _patterns(svg)
-    paper = add(svg, "rect", width=WIDTH, fill="#FFFFFF")
+    paper = add(svg, "rect", width=WIDTH, fill=PAPER)
     top = _marks(svg, found, _heading(svg, request, found, title))
     task = request.tasks[found.task]
     lines = _Lines(task.period)
     for number in range(lines.count):
         begin, end = lines.of(number)
-        top += HEAD
+        top = fitting(top, HEAD + STRIP + SCALE) + HEAD
         for run in found.runs:
             if run.first < end and run.last >= begin:
                 _run(svg, lines, run, begin, end, found, top)

@@ -4,8 +4,13 @@ far apart starts can be, which phases fit, the registers of a timer, the frames 
 import csv
 import io
 import re
+import textwrap
+from typing import Optional
 
-from .dispatcher import Dispatcher
+from .accepted import RequestLike, TableLike
+from .amounts import counted, percent
+from .dispatcher import served
+from .sources import both
 
 PLAIN_NAME = re.compile(r"[^\s\"+@]+")
 KEYWORDS = frozenset(
@@ -33,20 +38,65 @@ def sizes(table):
     return f"frame {table.frame} cycle {table.cycle} rows {len(table.rows)}"
 
 
-def listing(request, table):
+def listing(request: RequestLike, table: TableLike) -> str:
     """The lines of the program `plan`, with names: the sizes, then for each row its number, busy ticks and entries."""
+    request, table = both(request, table)
     lines = [sizes(table)]
     for number, row in enumerate(table.rows):
         lines.append(" ".join([str(number), str(busy(request, row)), *(entry_label(request, entry) for entry in row)]))
     return "\n".join(lines) + "\n"
 
 
-def flight(request, table, cycles):
-    """The lines of the program `fly`, with names: what the dispatcher serves in so many cycles."""
-    dispatcher = Dispatcher(table)
+def _closing(request, table):
+    """The sizes, the load, and what + means where it stands."""
+    used = sum(map(request.used, table.rows))
+    sizes = f"frame {table.frame}, cycle {table.cycle}, {counted(len(table.rows), 'row')}"
+    carried = any(entry.carry for row in table.rows for entry in row)
+    mark = "; +: a job of the cycle before" if carried else ""
+    return f"{sizes}, load {percent(used / table.cycle)} ({used} of {counted(table.cycle, 'tick')}){mark}\n"
+
+
+ROW_HEADER = ("row", "first tick", "busy", "silent", "unused", "transfers")
+
+
+def aligned(request: RequestLike, table: TableLike, width: Optional[int] = None) -> str:
+    """The table for people: below the names of the columns a line for each row, then the sizes and the load.
+
+    With a width, transfers that do not fit into it go on in further lines.
+    """
+    request, table = both(request, table)
     lines = []
-    for _ in range(cycles * len(table.rows)):
-        frame = dispatcher.next_frame()
+    for number, row in enumerate(table.rows):
+        used, ticks = request.used(row), busy(request, row)
+        lines.append((number, number * table.frame, ticks, used - ticks, table.frame - used))
+    numbers = [ROW_HEADER[:-1], *(tuple(map(str, line)) for line in lines)]
+    widths = [max(map(len, column)) for column in zip(*numbers)]
+    heads = ["  ".join(map(str.rjust, line, widths)) for line in numbers]
+    names = [[ROW_HEADER[-1]], *([entry_label(request, entry) for entry in row] for row in table.rows)]
+    text = "".join(map(_beside, heads, names, [width] * len(heads)))
+    return text + _closing(request, table)
+
+
+def _beside(head, words, width):
+    """The words behind a head, in as many lines as they need."""
+    if width is None:
+        return "  ".join([head, " ".join(words)]).rstrip() + "\n"
+    room = max(width - len(head) - 2, 20)
+    lines = textwrap.wrap(" ".join(words), room, break_long_words=False, break_on_hyphens=False) or [""]
+    gap = " " * len(head)
+    return "".join(f"{head if at == 0 else gap}  {line}".rstrip() + "\n" for at, line in enumerate(lines))
+
+
+def flight(request: RequestLike, table: TableLike, cycles: int) -> str:
+    """The lines of the program `fly`, with names: what the dispatcher serves in so many cycles."""
+    request, table = both(request, table)
+    return flight_lines(request, served(table, cycles))
+
+
+def flight_lines(request, frames):
+    """A line for each served frame."""
+    lines = []
+    for frame in frames:
         names = (f"{quoted(request.tasks[entry.task].name)}.{entry.job}@{entry.cycle}" for entry in frame.entries)
         lines.append(" ".join([f"frame {frame.number} start {frame.start}", *names]))
     return "\n".join(lines) + "\n"
@@ -56,7 +106,16 @@ def free_frame(request, frame):
     """A frame with its ticks, then its row with its used and unused ticks and its entries."""
     labels = (entry_label(request, entry) for entry in frame.entries)
     row = " ".join([f"row {frame.row} used {frame.used} unused {frame.unused}", *labels])
-    return f"frame {frame.number} start {frame.start} end {frame.end}\n{row}\n"
+    return f"frame {frame.number} start {frame.start} end {frame.end}\n{row}\nsend from tick {frame.send}\n"
+
+
+def free_frame_lines(frames):
+    """A line for each frame below the names of the columns."""
+    lines = [("frame", "start", "end", "row", "used", "unused", "send from")]
+    for one in frames:
+        numbers = (one.number, one.start, one.end, one.row, one.used, one.unused, one.send)
+        lines.append(tuple(map(str, numbers)))
+    return _columns(lines)
 
 
 def _columns(lines):
@@ -133,7 +192,7 @@ def phase_lines(request, found):
     """How many phases of a task come to each answer, and below the names of the columns a line for each run."""
     task = request.tasks[found.task]
     wide = len(str(task.period))
-    lines = [f"{quoted(task.name)}: {task.period} {'phase' if task.period == 1 else 'phases'}, its own is {task.phase}"]
+    lines = [f"{quoted(task.name)}: {counted(task.period, 'phase')}, its own is {task.phase}"]
     lines += [f"{count:{wide}}  {answer_words(answer, found.tries)}" for answer, count in found.counts.items()]
     ranges = ["phases", *map(phase_range, found.runs)]
     answers = ["answer"]
@@ -190,8 +249,9 @@ def _in_hex(data):
     return " ".join(f"0x{byte:02X}," for byte in data)
 
 
-def c_array(request, table, name):
+def c_array(request: RequestLike, table: TableLike, name: str) -> str:
     """The table's bytes as a C array, a line for each row with its entries beside it."""
+    request, table = both(request, table)
     data = bytes(table)
     lines = ["#include <stdint.h>", "", _comment(f"Bus table: {sizes(table)}")]
     lines += [f"const uint8_t {name}[{len(data)}] = {{", f"    {_in_hex(data[:7])}"]

@@ -1,9 +1,10 @@
 """Every job of a cycle with its window and its frame, as the library tells them of a table that it accepts."""
 
 import struct
-from typing import NamedTuple
+from typing import NamedTuple, Tuple
 
 from . import library
+from .accepted import RequestLike, TableLike
 from .refusals import Refused
 from .sources import content, given
 
@@ -21,7 +22,7 @@ class Record(NamedTuple):
     frame: int
 
 
-def timeline(request, table):
+def timeline(request: RequestLike, table: TableLike) -> Tuple[Record, ...]:
     """A record for each job of the cycle, by release and then by task."""
     data, request = given(request)
     table = content(table)

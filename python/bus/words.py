@@ -3,6 +3,12 @@
 MOST_TASKS = 16
 MOST_PAIRS = 16
 MOST_SILENT = 15
+MOST_ROWS = 256
+
+
+def share_of_time(load):
+    """A load in words; one that is above the whole never looks like 100 %."""
+    return f"{100 * load:.0f} %" if load <= 1 or load >= 1.005 else "a little more than 100 %"
 
 
 def task_faults(length, period, deadline, phase, deadline_given=True):

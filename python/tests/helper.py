@@ -12,11 +12,13 @@ import subprocess
 import sys
 import tempfile
 import termios
+import threading
 import unittest
 from pathlib import Path
 from unittest import mock
 
 import bus
+from bus import child
 
 ROOT = Path(__file__).resolve().parents[2]
 EXAMPLES = ROOT / "examples"
@@ -36,6 +38,10 @@ def request(*tasks, pairs=(), silent=0):
 def pigeons(count):
     """So many jobs that fill a frame each, and a frame too few: the search is long from 11 on, without end from 16."""
     return request(*[(13, 13 * (count - 1), 13 * (count - 1), 0)] * count)
+
+
+# What is told of a list that asks for more than all the time, before any search; of 16 pigeons.
+OVERLOAD = "bus: the transfers ask for 107 % of the time: more than there is\n"
 
 
 def seeded_request(draw, silent=False):
@@ -184,10 +190,10 @@ class Terminal(Case):
                 telling(*arguments)
         return screen.seen
 
-    def on_a_terminal(self, *words):
+    def on_a_terminal(self, *words, columns=200):
         """The command with a terminal as its standard error; the process and the terminal's other end."""
         ours, theirs = pty.openpty()
-        fcntl.ioctl(theirs, termios.TIOCSWINSZ, struct.pack("4H", 24, 200, 0, 0))
+        fcntl.ioctl(theirs, termios.TIOCSWINSZ, struct.pack("4H", 24, columns, 0, 0))
         command = [*COMMAND, *map(str, words)]
         pipes = {"stdin": subprocess.DEVNULL, "stdout": subprocess.PIPE, "stderr": theirs}
         started = subprocess.Popen(command, **pipes, start_new_session=True, preexec_fn=with_this_terminal)
@@ -206,3 +212,17 @@ class Terminal(Case):
             except OSError:
                 break
         return received
+
+
+def delayed(seconds_of):
+    """Calls in a process of their own are made late: by the seconds that the function says of name and arguments, and
+    never where it says None."""
+    ask = child.Worker.ask
+
+    def late(worker, *call):
+        worker.waits = True
+        seconds = seconds_of(*call)
+        if seconds is not None:
+            threading.Timer(seconds, ask, (worker, *call)).start()
+
+    return mock.patch.object(child.Worker, "ask", late)

@@ -17,27 +17,47 @@ frame 20 cycle 80 rows 4
 2 17 gyro.2 sun.2 camera.0
 3 15 gyro.3 sun.3 star.1 magnet.1
 """
+TEAM_TABLE = """\
+row  first tick  busy  silent  unused  transfers
+  0           0    14       0       6  gyro.0 sun.0 magnet.0 heater.0
+  1          20    19       0       1  gyro.1 sun.1 star.0 downlink.0+
+  2          40    17       0       3  gyro.2 sun.2 camera.0
+  3          60    15       0       5  gyro.3 sun.3 star.1 magnet.1
+frame 20, cycle 80, 4 rows, load 81 % (65 of 80 ticks); +: a job of the cycle before
+"""
 
 
 class Plan(Case):
     def test_listing(self):
-        self.assertEqual(self.answered("plan", TEAM), TEAM_LISTING)
+        self.assertEqual(self.answered("plan", TEAM), TEAM_TABLE)
+        self.assertEqual(self.answered("plan", TEAM, "--plain"), TEAM_LISTING)
+
+    def printed(self, printed, *words):
+        """The listing of an example without silent ticks, with the names of a request file, or its refusal by number."""
+        if printed.startswith("refused"):
+            status = 3 if printed == "refused 23\n" else 1
+            self.failed(status, "plan", *words, says=[f"{words[0]}: {printed.strip()}: ", "what to do: "])
+        else:
+            self.assertEqual(self.answered("plan", *words, "--plain").replace(" task", " "), printed)
 
     def test_examples(self):
-        """The listings of the examples without silent ticks, with the names of a request file; refusals by number."""
+        """With the limit of the programs they are as those print them; without one only what these leave open differs."""
+        left_open = []
         for path in sorted(EXAMPLES.glob("*.req")):
             if "-g" in path.name:
                 continue
             printed = path.with_suffix(".txt").read_text(encoding="ascii")
-            if printed.startswith("refused"):
-                self.failed(1, "plan", path, says=[f"{path}: {printed.strip()}: ", "what to do: "])
+            self.printed(printed, path, "--tries", bus.TRIES)
+            if printed == "refused 23\n":
+                left_open.append(path.name)
             else:
-                out = self.answered("plan", path)
-                self.assertEqual(out.replace(" task", " "), printed)
+                self.printed(printed, path)
+        self.assertEqual(left_open, ["long-search.req"])
+        self.printed("refused 10\n", EXAMPLES / "long-search.req")
 
     def test_table_and_picture(self):
         table, svg = self.folder / "t.table", self.folder / "t.svg"
-        self.assertEqual(self.answered("plan", TEAM, "-o", table, "--svg", svg), TEAM_LISTING)
+        self.assertEqual(self.answered("plan", TEAM, "-o", table, "--svg", svg), TEAM_TABLE)
         self.assertEqual(table.read_bytes(), bytes(bus.plan(TEAM)))
         drawn = bus.picture(bus.read_request(TEAM), bus.plan(TEAM), "team.csv")
         self.assertEqual(svg.read_text(encoding="utf-8"), drawn)
@@ -65,11 +85,11 @@ class Plan(Case):
 
     def test_names_are_quoted(self):
         text = 'name,length,period,deadline,phase\n"a ""b"", c",1,20,,\nx+,1,20,,\nSüd,1,20,,\n'
-        out = self.answered("plan", self.file("n.csv", text))
+        out = self.answered("plan", self.file("n.csv", text), "--plain")
         self.assertEqual(out, 'frame 20 cycle 20 rows 1\n0 3 "a ""b"", c".0 "x+".0 Süd.0\n')
 
     def test_standard_input(self):
-        self.assertEqual(self.answered("plan", "-", stdin=TEAM.read_bytes()), TEAM_LISTING)
+        self.assertEqual(self.answered("plan", "-", stdin=TEAM.read_bytes()), TEAM_TABLE)
 
     def test_elsewhere(self):
         """Started from another folder, through a link, and with a locale that knows no umlauts."""
@@ -77,7 +97,7 @@ class Plan(Case):
         source = self.file("n.csv", "name,length,period,deadline,phase\nSüd,1,20,,\n")
         environment = {**os.environ, "LC_ALL": "C", "PYTHONIOENCODING": "ascii"}
         done = subprocess.run(
-            [COMMAND[0], "bus", "plan", source], cwd=self.folder, env=environment, capture_output=True, check=True
+            [COMMAND[0], "bus", "plan", source, "--plain"], cwd=self.folder, env=environment, capture_output=True, check=True
         )
         self.assertEqual(done.stdout.decode(), "frame 20 cycle 20 rows 1\n0 1 Süd.0\n")
 
@@ -299,11 +319,11 @@ class Build(Case):
             self.skipTest("no libbus.a to stand in for the built one")
         self.rt(f'[ "$*" = "staticlib bus" ] && /bin/mkdir -p target/staticlib && /bin/cp {archive} target/staticlib')
         status, out, err = self.first("plan", str(TEAM))
-        self.assertEqual((status, out), (0, TEAM_LISTING), err)
+        self.assertEqual((status, out), (0, TEAM_TABLE), err)
         self.assertIn("bus: building the library by `rt staticlib bus`, which proves every function", err)
         self.assertRegex(err, r"done in \d+ seconds")
         self.assertRegex(err, r"linked target/python/libbus.so from target/staticlib/libbus.a in \d+\.\d seconds")
-        self.assertEqual(self.first("plan", str(TEAM)), (0, TEAM_LISTING, ""))
+        self.assertEqual(self.first("plan", str(TEAM)), (0, TEAM_TABLE, ""))
         os.utime(self.folder / "target" / "python" / "libbus.so", (1, 1))
         self.assertIn("linked", self.first("plan", str(TEAM))[2])
         os.utime(self.folder / "target" / "staticlib" / "libbus.a", (1, 1))

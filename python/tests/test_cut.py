@@ -3,7 +3,7 @@
 import os
 
 import bus
-from bus import library, lists, sources
+from bus import files, library, lists, sources
 from bus.names import piece_names
 from tests.helper import EXAMPLES, ROOT, Case, damaged, example, request, seeded_request
 
@@ -223,12 +223,15 @@ class Notebook(Case):
 
     def test_unknown_tasks(self):
         """Whatever no task is called: the library says so, behind the request's own numbers."""
-        unknown = ("Camera", "", " camera", "-1", -1, 3, "3", "255", "256", 256, 10**30, "9" * 5000, "²", "1.0", None)
+        unknown = ("Camera", "", " camera", "-1", -1, 3, "3", "255", "256", 256, 10**30, "9" * 5000, "²", "1.0")
         for task in unknown:
             refused = self.refused(24, bus.cut, P2, task, 4)
             wanted = f"no transfer is called {task}: the names are gyro, sun, camera, and the numbers 0 to 2"
             self.assertEqual(refused.about, wanted)
             self.refused(3, bus.cut, request((0, 20, 20, 0)), task, 4)
+        for task in (None, 2.0, b"camera"):
+            with self.assertRaisesRegex(TypeError, "a task's number is a whole number, not "):
+                bus.cut(P2, task, 4)
 
     def test_numbers_that_do_not_fit(self):
         for first in (-1, 65_536):
@@ -251,7 +254,7 @@ class Command(Case):
     def told(self, *words, names=CHANGED, **more):
         """What the command prints; standard error has just the changed names."""
         status, out, err = self.run_bus("cut", *words, **more)
-        self.assertEqual((status, err), (0, f"bus: {words[0]}: {names}"))
+        self.assertEqual((status, err), (0, f"bus: {files.called(words[0])}: {names}"))
         return out
 
     def test_readme(self):
@@ -314,7 +317,7 @@ class Command(Case):
         self.assertEqual(
             self.told("-", "camera", "--first", 4, stdin=P2.read_bytes()), self.told(P2, "camera", "--first", 4)
         )
-        self.failed(1, "cut", "-", 0, "--first", 4, stdin=b"\x11", says=["bus: -: refused 2: "])
+        self.failed(1, "cut", "-", 0, "--first", 4, stdin=b"\x11", says=["bus: standard input: refused 2: "])
 
     def test_refused(self):
         """With the file that it speaks of, and nothing written."""
@@ -325,7 +328,7 @@ class Command(Case):
         for source, task, first, number, about in (
             (bad, "x", 0, 1, "it ends inside task 0"),
             (many, "t16", 1, 24, "no transfer is called t16: the names are t0, t1, "),
-            (many, "t3", 2, 24, "the first piece of t3 (line 5) can have from 1 to 1 ticks, not 2"),
+            (many, "t3", 2, 24, "the first piece of t3 (line 5) can have 1 tick, not 2"),
             (many, "t3", 1, 25, "a task is to be cut where there are 16 tasks already"),
             (paired, "b", 1, 24, "b (line 3) has 1 tick, which cannot be cut"),
             (paired, "a", 1, 19, "pairs: 16 in the list, and one that keeps the two pieces in order"),

@@ -3,7 +3,7 @@
 import os
 
 import bus
-from bus import library, lists, sources
+from bus import files, library, lists, sources
 from bus.join import second_names
 from tests.helper import EXAMPLES, ROOT, Case, damaged, example, request, seeded_request
 
@@ -203,7 +203,7 @@ class Command(Case):
     def told(self, *words, names=CHANGED, **more):
         """What the command prints; standard error has just the changed names."""
         status, out, err = self.run_bus("join", *words, **more)
-        self.assertEqual((status, err), (0, f"bus: {words[1]}: {names}" if names else ""))
+        self.assertEqual((status, err), (0, f"bus: {files.called(words[1])}: {names}" if names else ""))
         return out
 
     def test_readme(self):
@@ -266,8 +266,8 @@ class Command(Case):
         wanted = self.told(OLD, NEW)
         self.assertEqual(self.told(OLD, "-", stdin=NEW.read_bytes()), wanted)
         self.assertEqual(self.told("-", NEW, stdin=OLD.read_bytes()), wanted)
-        self.failed(2, "join", "-", "-", stdin=NEW.read_bytes(), says=["cannot be both lists: name a file"])
-        self.failed(1, "join", OLD, "-", stdin=b"\x11", says=["bus: -: refused 2: "])
+        self.failed(2, "join", "-", "-", stdin=NEW.read_bytes(), says=["standard input cannot be two files: name the others"])
+        self.failed(1, "join", OLD, "-", stdin=b"\x11", says=["bus: standard input: refused 2: "])
 
     def test_refused_requests(self):
         """A request file that cannot be read, as the first and as the second: its own number, with its name."""
@@ -278,7 +278,7 @@ class Command(Case):
             (p1[:5] + b"\x15" + p1[6:], 3, "task 0: deadline 21 is longer than the period 20"),
             (p1[:25] + b"\x11", 4, "the file says 17 pairs"),
             (p1[:25] + b"\x01\x00\x02", 5, "pair 0: task 0 has the period 20 and task 2 40"),
-            (p1 + b"\x00\x00", 6, "1 bytes too many"),
+            (p1 + b"\x00\x00", 6, "1 byte too many"),
             (p1 + b"\x02", 17, "the count is 2"),
         ):
             bad = self.file("bad.req", data)
@@ -315,7 +315,7 @@ class Command(Case):
 
     def test_wrong_use(self):
         path = self.file("t.csv", OLD.read_bytes())
-        for words in ([], [OLD], [OLD, NEW, NEW], [OLD, NEW, "-o"], [OLD, NEW, "--csv"]):
+        for words in ([], [OLD], [OLD, NEW, "-o"], [OLD, NEW, "--csv"]):
             self.failed(2, "join", *words, says=["usage: bus", "--help` has an example"])
         for first, second in ((path, NEW), (NEW, path)):
             self.failed(2, "join", first, second, "-o", path, says=["one file is named twice", "name another"])

@@ -321,7 +321,7 @@ class Words(Case):
         draft.lift("a.0")
         about = "job 0 of a (line 3) must run before job 0 of b (line 4), which stands in frame 0: frame 2 is too late"
         self.assertEqual(self.refused(28, draft.put, "a.0", 2).about, about)
-        over = "row 1 would be over by 4 ticks: it uses 18 of 20, and job 0 of a (line 3) needs 5 and 1 silent ones"
+        over = "row 1 would be over by 4 ticks: it uses 18 of 20, and job 0 of a (line 3) needs 5 and 1 silent one"
         both = f"{over}; {about.replace('frame 2', 'frame 1')}"
         self.assertEqual(self.refused(28, draft.put, "a.0", 1).about, both)
         draft.lift("b.0")
@@ -427,7 +427,7 @@ class Notebook(Case):
     def test_start(self):
         self.refused(3, bus.Draft, request((0, 20, 20, 0)), b"")
         self.refused(7, bus.Draft, request((1, 101, 101, 0), (1, 103, 103, 0)), b"")
-        self.assertEqual(self.refused(12, bus.Draft, TEAM, b"").about, "the table has 0 bytes")
+        self.assertEqual(self.refused(12, bus.Draft, TEAM, b"").about, "the file is empty")
         self.assertIn("the frame 5 and the cycle 10", self.refused(13, bus.Draft, TEAM, P7_TABLE).about)
 
 
@@ -460,7 +460,8 @@ class Command(Case):
         self.assertEqual(self.move("heater.0", 0), self.answered("plan", TEAM))
         self.assertEqual(self.move("heater.0", 3, "-o", out), "")
         moved = tables.decode(out.read_bytes())
-        self.assertEqual(self.move("heater.0", 3), bus.listing(bus.read_request(TEAM), moved))
+        self.assertEqual(self.move("heater.0", 3), bus.aligned(bus.read_request(TEAM), moved))
+        self.assertEqual(self.move("heater.0", 3, "--plain"), bus.listing(bus.read_request(TEAM), moved))
         self.assertEqual(self.answered("check", TEAM, out), "accepted\n")
         self.assertEqual(moved.frames(), {**self.planned.frames(), (4, 0): 3})
         back = self.folder / "back.table"
@@ -473,21 +474,22 @@ class Command(Case):
         for job in ("4.0", "heater.0+"):
             self.assertEqual(self.move(job, 3), wanted)
         source = self.file("t.req", bytes(bus.read_request(TEAM)))
-        lines = self.move("task4.0", 3, source=source).splitlines()
+        lines = self.move("task4.0", 3, "--plain", source=source).splitlines()
         self.assertEqual(lines[4], "3 20 task0.3 task1.3 task2.1 task3.1 task4.0")
-        self.assertEqual(lines, self.move("4.0", 3, source=source).splitlines())
+        self.assertEqual(lines, self.move("4.0", 3, "--plain", source=source).splitlines())
         odd = self.file("n.csv", f'{HEADER}x,2,20,,\n"a ""b"", c",1,40,,\n')
         path = self.file("n.table", bytes(bus.plan(odd)))
         out = 'frame 20 cycle 40 rows 2\n0 2 x.0\n1 3 x.1 "a ""b"", c".0\n'
         for job in ('a "b", c.0', '"a ""b"", c".0', "1.0"):
-            self.assertEqual(self.move(job, 1, source=odd, table=path), out)
+            self.assertEqual(self.move(job, 1, "--plain", source=odd, table=path), out)
 
     def test_carried(self):
         """A frame is counted from time 0: 4 is row 0, where the job is carried."""
         source = self.file("t.csv", f"{HEADER}gyro,2,20,,\nlink,8,80,,40\n")
         table = self.file("t.table", bytes(bus.plan(source)))
         for frame, entry in ((2, "gyro.2 link.0"), (3, "gyro.3 link.0"), (4, "gyro.0 link.0+"), (5, "gyro.1 link.0+")):
-            self.assertIn(f"\n{frame % 4} 10 {entry}\n", self.move("link.0", frame, source=source, table=table))
+            out = self.move("link.0", frame, "--plain", source=source, table=table)
+            self.assertIn(f"\n{frame % 4} 10 {entry}\n", out)
         window = "the window of job 0 of link (line 3) is from tick 40 to 120 and has frames 2 to 5; frame "
         for frame, about in (
             (1, "1 is from tick 20 to 40; of row 1 it has frame 5\n"),

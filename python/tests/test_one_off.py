@@ -1,7 +1,7 @@
 """Time for a one-off transfer: needs a library that has bus_one_off."""
 
 import bus
-from bus import details, library, lists, table as tables
+from bus import amounts, details, library, lists, table as tables
 from tests.helper import EXAMPLES, ROOT, Case, example, stored, unhex
 from tests.test_stored_answers import number_of
 
@@ -18,6 +18,20 @@ def asked():
             yield unhex(words[1]), unhex(line[1]), *map(int, line[2:])
 
 
+def expected(data, table, length, begin, until):
+    """The answer for any two ticks, from the rows alone: every frame of one cycle is looked at."""
+    read, plan = bus.read_request(data), tables.decode(table)
+    if length == 0 or begin > until:
+        return -21
+    first = -(-begin // plan.frame)
+    for frame in range(first, first + len(plan.rows)):
+        row = plan.rows[frame % len(plan.rows)]
+        room = plan.frame - sum(read.tasks[entry.task].length + read.silent for entry in row)
+        if (frame + 1) * plan.frame <= until and length + read.silent <= room:
+            return frame
+    return -22
+
+
 class Stored(Case):
     """The call beside the stored answers of the second implementation, and its words beside the call."""
 
@@ -28,7 +42,9 @@ class Stored(Case):
             met.add(min(answer, 0))
             if not lists.is_list(data):
                 number, frame = number_of(bus.one_off, data, table, length, begin, until)
-                self.assertEqual(frame.number if frame else number, answer)
+                late = answer == -21 and 0 < length and begin <= until
+                wanted = expected(data, table, length, begin, until) if late else answer
+                self.assertEqual(frame.number if frame else number, wanted)
         self.assertLessEqual({0, -1, -3, -8, -12, -13, -14, -17, -21, -22}, met)
 
     def test_the_check_comes_first(self):
@@ -59,19 +75,18 @@ class Stored(Case):
         self.assertGreater(frames, 300)
 
     def test_what_a_refusal_says(self):
-        """The three faults of 21 and the most unused time of 22 beside the library's answers."""
+        """The faults of 21 that the command leaves and the most unused time of 22, beside the library's answers."""
         met = set()
         for data, table, length, begin, until, answer in asked():
-            if answer == -21:
+            if answer == -21 and (length == 0 or begin > until):
                 about = self.refused(21, bus.one_off, data, table, length, begin, until).about
-                cycle = tables.decode(table).cycle
-                faults = [length == 0, begin > until, until > 2 * cycle]
+                faults = [length == 0, begin > until]
                 self.assertEqual(len(about.split("; ")), sum(faults))
                 met.add(("asked", tuple(faults)))
             elif answer == -22:
                 self.compare_most(data, table, length, begin, until, met)
         self.assertEqual({kind for kind, _ in met}, {"asked", "none", "some"})
-        self.assertGreater(len(met), 8)
+        self.assertGreater(len(met), 6)
 
     def compare_most(self, data, table, length, begin, until, met):
         read, plan = bus.read_request(data), tables.decode(table)
@@ -81,7 +96,8 @@ class Stored(Case):
             self.assertIn("no whole frame of", about)
             self.assertEqual(library.one_off(data, table, 1, begin, until), -22)
         else:
-            self.assertIn(f"frame {most[0]} leaves the most time, {most[1]} ticks; the transfer needs {length}", about)
+            ticks = amounts.counted(most[1], "tick")
+            self.assertIn(f"frame {most[0]} leaves the most time, {ticks}; the transfer needs {length}", about)
             longest = most[1] - read.silent
             self.assertEqual(library.one_off(data, table, max(longest, 0) + 1, begin, until), -22)
             if longest > 0:
@@ -98,17 +114,17 @@ class Notebook(Case):
         for source in (TEAM, str(TEAM), TEAM.read_bytes(), bus.read_request(TEAM), bytes(bus.read_request(TEAM))):
             for rows in (table, bytes(table), path):
                 self.assertEqual(bus.one_off(source, rows, 5, begin=30), wanted)
-        self.assertEqual(wanted.unused, 5)
+        self.assertEqual((wanted.unused, wanted.send), (5, 75))
 
     def test_without_ticks(self):
-        """From tick 0 until the end of the second cycle, the latest there is."""
+        """From tick 0 on, until any tick."""
         table = bus.plan(TEAM)
         for length in range(1, 8):
             self.assertEqual(
                 number_of(bus.one_off, TEAM, table, length), number_of(bus.one_off, TEAM, table, length, 0, 160)
             )
         self.assertEqual(bus.one_off(TEAM, table, 5, begin=140).number, 7)
-        self.refused(21, bus.one_off, TEAM, table, 5, 140, 161)
+        self.refused(21, bus.one_off, TEAM, table, 5, 161, 160)
         self.refused(22, bus.one_off, TEAM, table, 5, 0, 0)
 
     def test_edges(self):
@@ -118,7 +134,8 @@ class Notebook(Case):
             (p1, P1_TABLE, 11, 0, 80, -22),
             (p1, P1_TABLE, 1, 21, 80, 3),
             (p1, P1_TABLE, 1, 40, 40, -22),
-            (p1, P1_TABLE, 1, 60, 81, -21),
+            (p1, P1_TABLE, 1, 60, 81, 3),
+            (p1, P1_TABLE, 1, 61, 81, -22),
             (p1, P1_TABLE, 0xFFFFFFFF, 0, 80, -22),
             (p7, P7_TABLE, 3, 0, 20, 0),
             (p7, P7_TABLE, 4, 0, 5, -22),
@@ -131,9 +148,46 @@ class Notebook(Case):
             self.assertEqual(frame.number if frame else number, answer)
 
     def test_numbers_that_do_not_fit(self):
-        for numbers in ((-1,), (1 << 32,), (1, -1), (1, 1 << 32), (1, 0, -1), (1, 0, 1 << 32)):
-            with self.assertRaises(ValueError):
-                bus.one_off(TEAM, bus.plan(TEAM), *numbers)
+        for numbers in ((-1,), (1 << 32,), (1, -1), (1, 0, -1)):
+            for call in (bus.one_off, bus.free_frames):
+                with self.assertRaises(ValueError):
+                    call(TEAM, bus.plan(TEAM), *numbers)
+
+    def test_any_tick(self):
+        """Seeded ticks, also far beyond what the library is asked for, beside the rows alone."""
+        met = set()
+        tables_ = {(data, table) for data, table, *_ in asked() if library.check(data, table) == 0}
+        for data, table in sorted(tables_):
+            frame = tables.decode(table).frame
+            for _ in range(8):
+                begin = self.draw.randint(0, 10 ** self.draw.randint(1, 25))
+                until = self.draw.choice((begin, begin - 1, begin + 3 * frame, 10**26, self.draw.randint(0, 10**25)))
+                length = self.draw.randint(0, frame)
+                wanted = expected(data, table, length, begin, max(until, 0))
+                number, free = number_of(bus.one_off, data, table, length, begin, max(until, 0))
+                self.assertEqual(free.number if free else number, wanted)
+                met.add(min(wanted, 0))
+        self.assertEqual(met, {0, -21, -22})
+
+    def test_every_frame_of_a_cycle(self):
+        """As many as the rows alone say, each the answer to the question for just that frame."""
+        frames = 0
+        for data, table in sorted({(data, table) for data, table, *_ in asked() if library.check(data, table) == 0}):
+            plan = tables.decode(table)
+            begin = self.draw.randint(0, 5 * plan.cycle)
+            first = -(-begin // plan.frame)
+            for until in (None, begin + plan.cycle // 2):
+                last = 10**9 if until is None else until
+                wanted = [
+                    k for k in range(first, first + len(plan.rows))
+                    if (k + 1) * plan.frame <= last
+                    and expected(data, table, 1, k * plan.frame, (k + 1) * plan.frame) == k
+                ]
+                number, found = number_of(bus.free_frames, data, table, 1, begin, until)
+                self.assertEqual([one.number for one in found or ()], wanted)
+                self.assertEqual(number == -22, not wanted)
+                frames += len(wanted)
+        self.assertGreater(frames, 100)
 
     def test_in_flight(self):
         """The frame that is answered is the one that the dispatcher serves with that number and start."""
@@ -168,21 +222,42 @@ class Command(Case):
 
     def test_frames(self):
         """Of the first cycle and of the second; a carried entry counts in both."""
-        first = "frame 1 start 20 end 40\nrow 1 used 19 unused 1 gyro.1 sun.1 star.0 downlink.0+\n"
+        row = "row 1 used 19 unused 1 gyro.1 sun.1 star.0 downlink.0+"
+        first = f"frame 1 start 20 end 40\n{row}\nsend from tick 39\n"
         self.assertEqual(self.ask("--length", 1, "--from", 20), first)
-        second = "frame 5 start 100 end 120\nrow 1 used 19 unused 1 gyro.1 sun.1 star.0 downlink.0+\n"
+        second = f"frame 5 start 100 end 120\n{row}\nsend from tick 119\n"
         self.assertEqual(self.ask("--length", 1, "--from", 81), second)
         self.assertEqual(self.ask("--length", 1, "--from", 81, "--until", 120), second)
         empty = self.file("p7.table", P7_TABLE)
         out = self.ask("--length", 4, source=EXAMPLES / "p7.req", table=empty)
-        self.assertEqual(out, "frame 1 start 5 end 10\nrow 1 used 0 unused 5\n")
+        self.assertEqual(out, "frame 1 start 5 end 10\nrow 1 used 0 unused 5\nsend from tick 5\n")
         text = (ROOT / "docs" / "FORMATS.md").read_text(encoding="utf-8")
         self.assertIn("".join(f"    {line}\n" for line in out.splitlines()), text)
 
     def test_ticks_that_are_not_given(self):
-        for more in ([], ["--from", 0], ["--until", 160], ["--until", 160, "--from", 0]):
+        for more in ([], ["--from", 0], ["--until", 160], ["--until", 161], ["--until", 160, "--from", 0]):
             self.assertEqual(self.ask("--length", 6, *more), self.ask("--length", 6))
         self.assertEqual(self.ask("--length", 5, "--from", 140).splitlines()[0], "frame 7 start 140 end 160")
+
+    def test_late_ticks(self):
+        """Of any cycle: the frame of the first one, so many cycles later."""
+        off = 80 * 10**12
+        late = self.ask("--length", 5, "--from", off + 30).splitlines()
+        self.assertEqual(late[0], f"frame {4 * 10**12 + 3} start {off + 60} end {off + 80}")
+        self.assertEqual(late[2], f"send from tick {off + 75}")
+
+    def test_all(self):
+        """A line for each frame of a cycle with time for it; with --until no frame that ends later."""
+        wanted = "frame  start  end  row  used  unused  send from\n"
+        wanted += "3      60     80   3    15    5       75\n4      80     100  0    14    6       94\n"
+        self.assertEqual(self.ask("--length", 5, "--from", 30, "--all"), wanted)
+        until = self.ask("--length", 5, "--from", 30, "--until", 90, "--all")
+        self.assertEqual(until.splitlines(), wanted.splitlines()[:2])
+        says = ["refused 22: ", "frame 4 leaves the most time, 6 ticks; the transfer needs 7\n"]
+        self.failed(1, "one-off", TEAM, self.table, "--length", 7, "--from", 30, "--all", says=says)
+        text = (ROOT / "README.md").read_text(encoding="utf-8")
+        shown = "".join(f"    {line}\n" for line in self.ask("--length", 5, "--all").splitlines())
+        self.assertIn(f"    $ ./bus one-off examples/team.csv team.table --length 5 --all\n{shown}", text)
 
     def test_silent_ticks(self):
         """Each transfer of the row counts with its silent tick, and the extra one needs one too."""
@@ -193,7 +268,7 @@ class Command(Case):
         lines = self.ask("--length", unused - 1, "--until", table.frame, source=HARNESS, table=path).splitlines()
         self.assertEqual(lines[0], f"frame 0 start 0 end {table.frame}")
         self.assertTrue(lines[1].startswith(f"row 0 used {used} unused {unused} gyro.0 "))
-        about = f"frame 0 leaves the most time, {unused} ticks; the transfer needs {unused} and 1 silent ones"
+        about = f"frame 0 leaves the most time, {unused} ticks; the transfer needs {unused} and 1 silent one"
         words = ["one-off", HARNESS, path, "--length", unused, "--until", table.frame]
         self.failed(1, *words, says=[f"{path}: refused 22: ", about])
 
@@ -201,7 +276,8 @@ class Command(Case):
         source = self.file("n.csv", f'{HEADER}"a ""b"", c",1,20,,\nx+,1,20,,\n')
         path = self.file("n.table", bytes(bus.plan(source)))
         out = self.ask("--length", 1, source=source, table=path)
-        self.assertEqual(out, 'frame 0 start 0 end 20\nrow 0 used 2 unused 18 "a ""b"", c".0 "x+".0\n')
+        row = 'row 0 used 2 unused 18 "a ""b"", c".0 "x+".0'
+        self.assertEqual(out, f"frame 0 start 0 end 20\n{row}\nsend from tick 2\n")
 
     def test_standard_input(self):
         """The list or the table."""
@@ -215,12 +291,11 @@ class Command(Case):
         self.assertEqual(out.splitlines()[1], "row 3 used 15 unused 5 task0.3 task1.3 task2.1 task3.1")
 
     def test_badly_asked(self):
-        """21 with which of the three; it speaks of no file."""
+        """21 with what was asked badly; it speaks of no file."""
         for words, about in (
             ((0,), "the length is 0\n"),
             ((5, "--from", 41, "--until", 40), "it is asked for from tick 41, which is after tick 40\n"),
-            ((5, "--until", 161), "it is asked for until tick 161, and two cycles end at tick 160\n"),
-            ((5, "--from", 161), "it is asked for from tick 161, which is after tick 160\n"),
+            ((5, "--from", 10**15, "--until", 40), f"it is asked for from tick {10**15}, which is after tick 40\n"),
             ((0, "--from", 9, "--until", 8), "the length is 0; it is asked for from tick 9, which is after tick 8\n"),
         ):
             says = ["bus: refused 21: a one-off transfer is asked for with ", about, "what to do: ask for 1 tick "]
@@ -267,6 +342,7 @@ class Command(Case):
             [TEAM, self.table, "--length", "0" * 20 + "4294967297"],
             [TEAM, self.table, "--length", 5, "--from", "-1"],
             [TEAM, self.table, "--length", 5, "--until", ""],
+            [TEAM, self.table, "--length", 5, "--from", "9" * 21],
             [TEAM, self.table, "--length", 5, "more"],
             [TEAM, self.table, "--length", 5, "--to", 80],
         ):

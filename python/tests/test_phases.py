@@ -2,16 +2,16 @@
 
 import os
 import signal
-import struct
 import subprocess
+import sys
 import time
 import xml.etree.ElementTree as xml
 from unittest import mock
 
 import bus
-from bus import command, library, progress, search
+from bus import child, command, library, progress, search
 from bus.phases import CountsDiffer, runs_of, with_phase
-from tests.helper import COMMAND, EXAMPLES, ROOT, Case, Terminal
+from tests.helper import COMMAND, EXAMPLES, OVERLOAD, ROOT, Case, Terminal
 from tests.helper import as_from_a_terminal, children, pigeons, request, running
 from tests.test_picture import SVG, numbers, of_class, place
 
@@ -98,7 +98,7 @@ class Calls(Case):
     def test_refused(self):
         """The request's own numbers first, those of its cycle too; then an unknown task."""
         names = "the names are gyro, sun, star, magnet, heater, camera, downlink, and the numbers 0 to 6"
-        for task in ("Star", "", "-1", -1, 7, "7", 255, 256, 10**30, None):
+        for task in ("Star", "", "-1", -1, 7, "7", 255, 256, 10**30):
             refused = self.refused(16, bus.phases, TEAM, task)
             self.assertEqual(refused.about, f"no transfer is called {task}: {names}")
             self.refused(3, bus.phases, request((0, 20, 20, 0)), task)
@@ -117,19 +117,19 @@ class Calls(Case):
 
     def test_counts_that_differ(self):
         """Each of the four, one more or one less, is seen; and the command says that it is its own fault."""
-        true = library.phases
+        module = sys.modules["bus.phases"]
+        true = module._both
         for place_of in range(4):
             for step in (1, -1):
 
                 def wrong(*given):
-                    answer, counts = true(*given)
-                    four = list(struct.unpack("<4H", counts))
+                    four, answers = true(*given)
                     four[place_of] = abs(four[place_of] + step)
-                    return answer, struct.pack("<4H", *four)
+                    return four, answers
 
-                with mock.patch.object(library, "phases", wrong), self.assertRaises(CountsDiffer):
+                with mock.patch.object(module, "_both", wrong), self.assertRaises(CountsDiffer):
                     bus.phases(TEAM, "star")
-                with mock.patch.object(library, "phases", wrong), mock.patch.object(command, "say") as said:
+                with mock.patch.object(module, "_both", wrong), mock.patch.object(command, "say") as said:
                     with mock.patch("traceback.print_exc") as printed:
                         self.assertEqual(command.main(["phases", str(TEAM), "star"]), command.FAILED)
                     printed.assert_called_once_with()
@@ -202,7 +202,7 @@ class Command(Case):
     def test_refused(self):
         says = [f"bus: {TEAM}: refused 16: there is no such task", "no transfer is called 7: the names are gyro, "]
         self.failed(1, "phases", TEAM, 7, says=[*says, "what to do: name a task of the list"])
-        self.failed(1, "phases", "-", 0, stdin=b"\x11", says=["bus: -: refused 2: "])
+        self.failed(1, "phases", "-", 0, stdin=b"\x11", says=["bus: standard input: refused 2: "])
         self.failed(1, "phases", EXAMPLES / "p11.req", 9, says=["p11.req: refused 8: ", "129 jobs"])
         bad = self.file("bad.csv", "name,length,period\na,30,20\n")
         self.failed(1, "phases", bad, "a", says=[f"{bad}: line 2: length 30 is longer than the period 20"])
@@ -316,6 +316,7 @@ class Stopped(Case):
         pipes = {"stdout": subprocess.PIPE, "stderr": subprocess.PIPE}
         started = subprocess.Popen([*COMMAND, *words], **pipes, preexec_fn=as_from_a_terminal)
         self.addCleanup(started.kill)
+        self.assertEqual(started.stderr.readline().decode(), OVERLOAD)
         line = started.stderr.readline().decode()
         self.assertEqual(line, "bus: planning each phase; Ctrl-C stops it, and nothing is written before it ends\n")
         work = children(started.pid)
@@ -355,4 +356,5 @@ class Stopped(Case):
         signal.setitimer(signal.ITIMER_REAL, 0.3)
         with self.assertRaises(KeyboardInterrupt):
             bus.phases(pigeons(16), 0, tries=WITHOUT_END)
+        child.kept.end()
         self.assertEqual(children(os.getpid()), [])

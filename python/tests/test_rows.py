@@ -118,13 +118,13 @@ class Refusals(Case):
             self.assertTrue(self.refused(number, case).about, number)
 
     def test_files_that_are_spoken_of(self):
-        """The argument that a row names is one that subcommands have; each has a list."""
+        """The argument that a row names is one that subcommands have; each has a list, but `new`, which makes one."""
         arguments = set()
         for module in commands.COMMANDS:
             parser = argparse.ArgumentParser()
             module.arguments(parser)
             own = {action.dest for action in parser._actions}
-            self.assertIn(refusals.LIST, own, module.NAME)
+            self.assertEqual(refusals.LIST in own, module.NAME != "new", module.NAME)
             arguments |= own
         self.assertLessEqual({row.speaks_of for row in refusals.ROWS}, {*arguments, refusals.NO_ONE})
         self.assertEqual(refusals.row(14).speaks_of, refusals.TABLE)
@@ -145,6 +145,7 @@ class Registry(Case):
             out = self.answered(module.NAME, "--help")
             self.assertIn(f"\n\n{module.HELP}\n\n", out)
             self.assertIn(f"\n\nexample:\n{module.EXAMPLE}\n\nexit status: 0 answered; 1 refused; 2 wrong use", out)
+            self.assertIn("--json", out)
             for line in module.EXAMPLE.splitlines():
                 self.assertTrue(line.startswith(f"  bus {module.NAME} "), line)
             self.assertRegex(overview, rf"\n    {module.NAME} +{' '.join(module.HELP.split()[:4])}")

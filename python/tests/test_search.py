@@ -6,8 +6,9 @@ import subprocess
 import time
 
 import bus
+from bus import child
 from bus.library import MOST_TRIES
-from tests.helper import COMMAND, Case, as_from_a_terminal, children, pigeons, running
+from tests.helper import COMMAND, OVERLOAD, Case, as_from_a_terminal, children, pigeons, running
 
 
 class Searches(Case):
@@ -20,6 +21,7 @@ class Searches(Case):
             [*COMMAND, *words], stdout=subprocess.PIPE, stderr=subprocess.PIPE, preexec_fn=as_from_a_terminal
         )
         self.addCleanup(started.kill)
+        self.assertEqual(started.stderr.readline().decode(), OVERLOAD)
         line = started.stderr.readline().decode()
         self.assertEqual(line, "bus: searching for a plan; Ctrl-C stops it, and nothing is written before it ends\n")
         (child,) = children(started.pid)
@@ -56,6 +58,7 @@ class Searches(Case):
 
     def test_in_a_notebook(self):
         """The call raises KeyboardInterrupt, and no process is left."""
+        child.kept.end()
         old = signal.signal(signal.SIGALRM, lambda *_: (_ for _ in ()).throw(KeyboardInterrupt))
         self.addCleanup(signal.signal, signal.SIGALRM, old)
         signal.setitimer(signal.ITIMER_REAL, 0.3)

@@ -68,7 +68,7 @@ class Command(Case):
         begins = [heading.index(word) for word in COLUMNS]
         for line in lines:
             self.assertTrue(all(line[at] != " " and (at == 0 or line[at - 1] == " ") for at in begins), line)
-        listed = self.answered("plan", TEAM).splitlines()[1:]
+        listed = self.answered("plan", TEAM, "--plain").splitlines()[1:]
         self.assertEqual(last, f"busy {sum(int(line.split()[1]) for line in listed)}")
 
     def test_another_table(self):
@@ -102,7 +102,8 @@ class Command(Case):
             end = max(table.cycle, *(one.due for one in records))
             scale = (1000 - 2 * 24 - 150) / end
             for group, one in zip(groups, records):
-                window, frame = group.findall(f"{SVG}rect")
+                kinds = {box.get("class"): box for box in group.findall(f"{SVG}rect")}
+                window, frame = kinds["window"], kinds["frame"]
                 edges = [one.release, one.due, one.frame * table.frame, (one.frame + 1) * table.frame]
                 drawn = []
                 for box in (window, frame):
@@ -123,7 +124,7 @@ class Command(Case):
             told = self.failed(1, "check", source, table)
             self.assertEqual(self.failed(1, "timeline", source, table), told)
         self.assertEqual(self.failed(1, "timeline", EXAMPLES / "p2.req"), self.failed(1, "plan", EXAMPLES / "p2.req"))
-        self.failed(1, "timeline", TEAM, "--tries", 0, says=["refused 23"])
+        self.failed(3, "timeline", TEAM, "--tries", 0, says=["refused 23"])
 
     def test_wrong_use(self):
         for words in ([], [TEAM, self.table, "more"], [TEAM, "--tries", "-1"]):

@@ -261,8 +261,8 @@ class Programs(Case):
                 "0x01",
                 "task0.0 task1.0 task2.0",
                 "",
-                "refused 16: there is no such task: the number of a report, or of the task whose phases are counted, is not"
-                " below n",
+                "refused 16: there is no such task: the number of a report, or of the task whose phases are counted, is"
+                " none of the request",
                 "0x01",
                 "refused 29: the timer has no register at the address, which is above 7",
                 "refused 29: the timer has no register at the address, which is above 7",

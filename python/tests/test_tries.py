@@ -9,7 +9,8 @@ from unittest import mock
 
 import bus
 from bus import details, library, progress, search
-from tests.helper import COMMAND, EXAMPLES, Case, Terminal, as_from_a_terminal, pigeons, request, stored, unhex
+from tests.helper import COMMAND, EXAMPLES, OVERLOAD, Case, Terminal
+from tests.helper import as_from_a_terminal, pigeons, request, stored, unhex
 
 LONG, LAST = EXAMPLES / "long-search.req", EXAMPLES / "last-try.req"
 WITHOUT_END = 10**15
@@ -41,12 +42,12 @@ class Stored(Case):
 
 class Calls(Case):
     def test_as_many_as_the_programs(self):
-        """Without a number so many tries are allowed as the proved programs allow; the example needs just these."""
+        """The tries that the proved programs allow; the example needs just these."""
         self.assertEqual(bus.TRIES, 10_000_000)
-        self.assertEqual(bus.plan(LAST).tries, bus.TRIES)
+        self.assertEqual(bus.plan(LAST, tries=bus.TRIES).tries, bus.TRIES)
         refused = self.refused(23, lambda: bus.plan(LAST, tries=bus.TRIES - 1))
         self.assertEqual(refused.tries, bus.TRIES - 1)
-        self.assertEqual(self.refused(23, bus.plan, LONG).tries, bus.TRIES)
+        self.assertEqual(self.refused(23, lambda: bus.plan(LONG, tries=bus.TRIES)).tries, bus.TRIES)
 
     def test_more_are_allowed(self):
         """A search that goes on behind the first call, to its end or to its own limit."""
@@ -56,7 +57,7 @@ class Calls(Case):
         self.assertEqual(refused.tries, 30_000_000)
 
     def test_a_table_is_the_same_however_it_was_found(self):
-        table = bus.plan(EXAMPLES / "p1.req")
+        table = bus.plan(EXAMPLES / "p1.req", tries=bus.TRIES)
         self.assertEqual(table.tries, 5)
         read = bus.check(EXAMPLES / "p1.req", table)
         self.assertEqual((read, read.tries), (table, 0))
@@ -83,11 +84,11 @@ class Words(Case):
         says = [
             f"{LONG}: refused 23: the search needs more tries than are allowed",
             "10,000,000 tries are allowed; alike are task0, task1, task2 and 8 more",
-            "what to do: allow more, in the command by `--tries N`",
+            "what to do: plan without a limit: `bus plan` without `--tries`",
         ]
-        self.failed(1, "plan", LONG, says=says)
-        self.failed(1, "fly", LONG, says=says)
-        self.failed(1, "plan", LAST, "--tries", "9999999", says=["refused 23: ", "9,999,999 tries are allowed\n"])
+        self.failed(3, "plan", LONG, "--tries", bus.TRIES, says=says)
+        self.failed(3, "fly", LONG, "--tries", bus.TRIES, says=says)
+        self.failed(3, "plan", LAST, "--tries", "9999999", says=["refused 23: ", "9,999,999 tries are allowed\n"])
         self.failed(1, "plan", LONG, "--tries", "200000000", says=["refused 10: "])
 
     def test_transfers_that_are_alike(self):
@@ -104,12 +105,13 @@ class Words(Case):
             self.assertEqual(said, f"1,000 tries are allowed{alike}")
 
     def test_what_the_command_allows(self):
-        """Without --tries the example is planned, as it needs just as many."""
-        self.assertEqual(self.answered("plan", LAST).replace(" task", " "), LAST.with_suffix(".txt").read_text("ascii"))
+        """Without --tries every search is long enough."""
+        listed = self.answered("plan", LAST, "--plain").replace(" task", " ")
+        self.assertEqual(listed, LAST.with_suffix(".txt").read_text("ascii"))
         self.assertEqual(self.answered("plan", LAST, "--tries", library.MOST_TRIES), self.answered("plan", LAST))
         self.assertEqual(self.answered("fly", LAST, "--tries", bus.TRIES), self.answered("fly", LAST))
         self.failed(1, "plan", EXAMPLES / "p2.req", "--tries", "0", says=["refused 9: "])
-        self.failed(1, "plan", EXAMPLES / "p1.req", "--tries", "0", says=["refused 23: ", "0 tries are allowed"])
+        self.failed(3, "plan", EXAMPLES / "p1.req", "--tries", "0", says=["refused 23: ", "0 tries are allowed"])
 
     def test_wrong_use(self):
         says = ["argument --tries: ", " is no number from 0 to 18446744073709551615", "--help` has an example"]
@@ -174,7 +176,7 @@ class Signs(Terminal):
         started, terminal = self.on_a_terminal("plan", source, "--tries", tries)
         received = self.read(terminal)
         out, _ = started.communicate(timeout=10)
-        self.assertEqual((started.returncode, out), (1, b""))
+        self.assertEqual((started.returncode, out), (3, b""))
         used = self.numbers(received)
         self.assertGreater(len(used), 0)
         self.assertTrue(all(0 < number <= allowed == tries for number, allowed in used), used)
@@ -192,10 +194,10 @@ class Signs(Terminal):
         started.send_signal(signal.SIGINT)
         _, err = started.communicate(timeout=10)
         line = "bus: searching for a plan; Ctrl-C stops it, and nothing is written before it ends\n"
-        self.assertEqual(err.decode(), f"{line}bus: stopped\n")
+        self.assertEqual(err.decode(), f"{OVERLOAD}{line}bus: stopped\n")
 
     def test_short_searches_say_nothing(self):
         started, terminal = self.on_a_terminal("plan", EXAMPLES / "p1.req")
         self.assertEqual(self.read(terminal), "")
         out, _ = started.communicate(timeout=10)
-        self.assertEqual((started.returncode, out[:8]), (0, b"frame 20"))
+        self.assertEqual((started.returncode, out[:8]), (0, b"row  fir"))

@@ -1,6 +1,7 @@
 //! Answers of the reference as text, stored for the tests of other languages: for each request what
 //! is read from it, its plan, the check of some tables, and a flight with reports; or the frames for
-//! one-off transfers; or its plan with several numbers of tries allowed.
+//! one-off transfers; or its plan with several numbers of tries allowed; or its plan however long the
+//! search would be.
 //!
 //! A line is a question with its answer behind it, words apart by single blanks, bytes in
 //! hexadecimal, no bytes as `-`. Stored text can be answered anew, whatever its answers were.
@@ -9,10 +10,12 @@ use crate::bus::{Bus, ENTRIES_LEN, STATE_LEN, TRIES_LEN};
 use crate::comparison::MOST_TRIES;
 use crate::generate;
 use crate::given_tries;
+use crate::left_open;
 use crate::random::Random;
 use crate::reference::one_off::Asked;
 use crate::reference::request::{self, Request};
-use crate::reference::{planned, tries_within, Reference};
+use crate::reference::table::encode;
+use crate::reference::{decided, planned, tries_within, Reference};
 use crate::rounds::one_off;
 use crate::rounds::planning::allowances;
 use crate::sheet;
@@ -29,7 +32,7 @@ fn in_hex(bytes: &[u8]) -> String {
     bytes.iter().map(|byte| format!("{byte:02x}")).collect()
 }
 
-fn from_hex(word: &str) -> Vec<u8> {
+pub fn from_hex(word: &str) -> Vec<u8> {
     if word == "-" {
         return Vec::new();
     }
@@ -61,6 +64,15 @@ fn within(request: &[u8], allowance: u64) -> String {
     table.truncate(answer.max(0) as usize);
     let count = u64::from_le_bytes(tries);
     format!("{answer} {count} {}", in_hex(&table))
+}
+
+/// The answer and the table, however long the search would be.
+fn decision(request: &[u8]) -> String {
+    let table = decided(request).map(|table| encode(&table));
+    match table {
+        Ok(bytes) => format!("{} {}", bytes.len(), in_hex(&bytes)),
+        Err(number) => format!("-{number} -"),
+    }
 }
 
 /// The answers about one request, and the flight that its lines make.
@@ -133,6 +145,7 @@ pub fn answered(text: &str) -> String {
                 fields(&request::read(&about.request))
             }
             "plan" => about.plan(),
+            "decide" => decision(&from_hex(words[1])),
             "within" => within(&about.request, number(words[1])),
             "check" => Reference
                 .check(&about.request, &from_hex(words[1]))
@@ -143,7 +156,7 @@ pub fn answered(text: &str) -> String {
             other => panic!("no question is called {other}"),
         };
         let asked = match words[0] {
-            "request" | "check" | "within" => 2,
+            "request" | "check" | "within" | "decide" => 2,
             "report" => 3,
             "one-off" => 5,
             _ => 1,
@@ -240,6 +253,16 @@ pub fn drawn(seed: u64, requests: usize, with_third_section: bool) -> String {
             }
         }
     }
+    answered(&text)
+}
+
+/// So many requests that the programs' tries leave open.
+pub fn drawn_left_open(requests: usize) -> String {
+    let asked = |bytes: Vec<u8>| format!("decide {}\n", in_hex(&bytes));
+    let text: String = left_open::requests(requests)
+        .into_iter()
+        .map(asked)
+        .collect();
     answered(&text)
 }
 

@@ -11,6 +11,7 @@ pub mod fuzzer;
 pub mod generate;
 pub mod given_tries;
 pub mod hard;
+pub mod left_open;
 pub mod lending;
 #[cfg(feature = "linked")]
 pub mod library;

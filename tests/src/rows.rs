@@ -21,6 +21,12 @@ macro_rules! every_call {
                 tries: write(|fuzzer| fuzzer.about(TRIES_LEN), Change::Always(TRIES_LEN)),
             ) refuses [99, 1, 2, 3, 4, 5, 17, 6, 7, 8, 9, 23, 10, 11];
 
+            /// The length of the table written to the front of `out`, however long the search for it is.
+            decide(
+                request: read(Fuzzer::request),
+                out: write(Fuzzer::room, Change::Answered),
+            ) refuses [1, 2, 3, 4, 5, 17, 6, 7, 8, 9, 10, 11];
+
             /// 0, with four counts of phases of the task in the first 8 bytes: how many lead, with so many
             /// tries allowed for each, to a table, to 9, to 10 and to 23.
             phases(

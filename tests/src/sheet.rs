@@ -102,3 +102,18 @@ pub fn long_periods(deadline: i64) -> Vec<u8> {
 pub fn p12_long() -> Vec<u8> {
     request(&[(1, 10_001, 10_000, 0)], &[])
 }
+
+/// The longest table that there is: 128 jobs in 256 rows.
+pub fn longest_table() -> Vec<u8> {
+    let tasks = [
+        (1, 4, 1, 0),
+        (1, 8, 1, 1),
+        (1, 16, 1, 2),
+        (1, 32, 1, 3),
+        (1, 64, 1, 5),
+        (1, 128, 1, 6),
+        (1, 256, 1, 7),
+        (1, 256, 1, 10),
+    ];
+    request(&tasks, &[])
+}

@@ -326,3 +326,47 @@ fn files_that_are_not_there() {
         );
     }
 }
+
+/// A folder can be opened and not read: each program says so, and refuses nothing.
+#[test]
+fn a_folder_in_place_of_a_file() {
+    let folder = Path::new(env!("CARGO_TARGET_TMPDIR"));
+    let unread = |what: &str| Printed {
+        out: Vec::new(),
+        err: format!("{what}: Is a directory\n").into_bytes(),
+    };
+    for (program, _) in by_planning(&sheet::p1()) {
+        let expected = unread("cannot read standard input");
+        same(program, &fed(program, folder), &expected, "a folder");
+    }
+    let there = file("beside-a-folder.req", &sheet::p1());
+    let expected = unread(&folder.display().to_string());
+    for files in [[folder, &there], [&there, folder]] {
+        same("check_table", &given("check_table", &files), &expected, "a folder");
+    }
+}
+
+/// What a full disk does not take is told on standard error.
+#[test]
+fn a_full_disk() {
+    let request = file("full.req", &sheet::p1());
+    let told = "cannot write to standard output: No space left on device\n";
+    let mut programs: Vec<_> = by_planning(&sheet::p1())
+        .into_iter()
+        .map(|(program, _)| command(program))
+        .collect();
+    let mut check = command("check_table");
+    check.args([&request, &request]);
+    programs.push(check);
+    for mut program in programs {
+        let input = fs::File::open(&request).expect("it was written");
+        let full = fs::File::create("/dev/full").expect("Linux has it");
+        let done = program
+            .stdin(Stdio::from(input))
+            .stdout(Stdio::from(full))
+            .stderr(Stdio::piped())
+            .output()
+            .unwrap_or_else(|reason| panic!("{program:?}: {reason}"));
+        assert_eq!(text(&done.stderr), told, "{program:?}");
+    }
+}

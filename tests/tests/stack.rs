@@ -1,4 +1,5 @@
-//! Every call in a thread with a stack of 256 KiB; an overflow ends the whole run.
+//! Every call in a thread with a stack of 256 KiB, a decision in one of 512 KiB; an overflow ends the
+//! whole run.
 #![cfg(feature = "linked")]
 
 use bus_tests::bus::{
@@ -8,6 +9,7 @@ use bus_tests::call::{Call, Outcome};
 use bus_tests::compare::expected;
 use bus_tests::comparison::Comparison;
 use bus_tests::fuzzer::Fuzzer;
+use bus_tests::left_open::{stored, Stored};
 use bus_tests::lending::run;
 use bus_tests::library::Library;
 use bus_tests::reference::planned_within;
@@ -17,6 +19,7 @@ use bus_tests::rounds;
 use bus_tests::sheet::{self, request, silent_request};
 
 const STACK: usize = 256 * 1024;
+const STACK_OF_DECISIONS: usize = 512 * 1024;
 
 fn deep_requests() -> Vec<Vec<u8>> {
     let chain: Vec<(usize, usize)> = (0..14).map(|a| (a, a + 1)).collect();
@@ -63,6 +66,7 @@ impl Calls {
         let room = vec![0; table.len()];
         self.add(&Call::plan(request, u64::MAX, &room, &[0; TRIES_LEN]))?;
         self.add(&Call::plan(request, full - 1, &room, &[0; TRIES_LEN]))?;
+        self.add(&Call::decide(request, &room))?;
         self.add(&Call::phases(request, 0, full, &[0; COUNTS_LEN]))?;
         self.add(&Call::check(request, &table))?;
         self.add(&Call::rewrite(request, &table, &room))?;
@@ -115,6 +119,23 @@ impl Calls {
         Ok(())
     }
 
+    /// Decisions that take long.
+    fn add_open(&mut self) {
+        for open in stored() {
+            let Stored {
+                request,
+                answer,
+                table,
+            } = open;
+            let outcome = Outcome {
+                answer,
+                buffers: vec![table.clone()],
+            };
+            let call = Call::decide(&request, &vec![0; table.len()]);
+            self.0.push((call, outcome));
+        }
+    }
+
     /// The calls of some rounds of each kind, and some that the fuzzer draws.
     fn add_any(&mut self) -> Result<(), String> {
         for round in rounds::ALL {
@@ -126,20 +147,29 @@ impl Calls {
     }
 }
 
+/// Makes the calls in a thread with so many bytes of stack.
+fn run_all(calls: Vec<(Call, Outcome)>, stack: usize) {
+    let work = move || {
+        for (call, outcome) in calls {
+            let actual = run(&Library, &call);
+            assert_eq!(actual, Ok(outcome), "{}", call.describe());
+        }
+    };
+    let thread = std::thread::Builder::new().stack_size(stack);
+    thread.spawn(work).unwrap().join().unwrap();
+}
+
 #[test]
 fn a_small_stack_is_enough() -> Result<(), String> {
     let mut calls = Calls::default();
     for request in deep_requests() {
         calls.add_deep(&request)?;
     }
+    calls.add_open();
     calls.add_any()?;
-    let work = move || {
-        for (call, outcome) in calls.0 {
-            let actual = run(&Library, &call);
-            assert_eq!(actual, Ok(outcome), "{}", call.describe());
-        }
-    };
-    let thread = std::thread::Builder::new().stack_size(STACK);
-    thread.spawn(work).unwrap().join().unwrap();
+    let is_decision = |(call, _): &(Call, Outcome)| call.row.name == "decide";
+    let (decisions, others) = calls.0.into_iter().partition(is_decision);
+    run_all(others, STACK);
+    run_all(decisions, STACK_OF_DECISIONS);
     Ok(())
 }

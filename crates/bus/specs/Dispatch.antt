@@ -11,8 +11,10 @@ use Rattle.table.specs.Table.{decode}
 use Rattle.dispatcher.specs.Dispatch.{freshState, nextFrame, reported}
 use Rattle.dispatcher.specs.declared.Frame.{Frame}
 use Rattle.dispatcher.specs.declared.Reported.{Reported}
+use Rattle.lent.specs.Words.{zeros}
+use Rattle.lent.specs.State.{isState, stateOf, stateBytes}
+use Rattle.lent.specs.Entries.{pairBytes}
 use Rattle.bus.specs.Reply.{refused, reply, after}
-use Rattle.bus.specs.State.{isState, stateOf, stateBytes, pairBytes, zeros}
 
 -- bus_fresh
 

@@ -9,9 +9,10 @@ use borrow.Author.Tests.{lt-ltb, le-ltb}
 use Rattle.dispatcher.specs.Dispatch.{freshState}
 use Rattle.dispatcher.specs.declared.Frame.{Frame}
 use Rattle.dispatcher.specs.declared.Reported.{Reported}
+use Rattle.lent.specs.Words.{zeros}
+use Rattle.lent.specs.State.{isState, stateBytes}
 use Rattle.bus.specs.Reply.{refused}
 use Rattle.bus.specs.ReplyLaws.{reply-refused, reply-value, after-refusal, after-value}
-use Rattle.bus.specs.State.{isState, stateBytes, zeros}
 use Rattle.bus.specs.Dispatch.{freshReply, freshBytes, frameOf, canServe, frameReply, frameState, shownBytes, frameEntries, reportOf, reportReply, reportState}
 
 -- bus_fresh

@@ -8,8 +8,8 @@ use Rattle.cursor.specs.Choice.{pick}
 use Rattle.planned_table.specs.Outcome.{outcomeAnswer, outcomeBuffer}
 use Rattle.draft.specs.Draft.{start, lift, put, write}
 use Rattle.draft.specs.declared.Drafted.{Drafted}
+use Rattle.lent.specs.DraftBytes.{draftOf, draftBytes}
 use Rattle.bus.specs.Reply.{refused, reply, writtenReply, after}
-use Rattle.bus.specs.DraftBytes.{draftOf, draftBytes}
 
 -- a call that gives a draft: 0, or its number; 99 for a buffer below 770 bytes, before every other number
 unfoldable pub draftedReply : Drafted → List ℕ → ℤ

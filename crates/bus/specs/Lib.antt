@@ -1,16 +1,13 @@
--- replies, words and states
+-- replies
 pub mod Reply
 pub mod ReplyLaws
-pub mod Words
-pub mod State
-pub mod WordLaws
-pub mod StateLaws
 -- requests
 pub mod Join
 pub mod Cut
 pub mod Phases
 -- tables
 pub mod Plan
+pub mod Decide
 pub mod Check
 pub mod Rewrite
 pub mod OneOff
@@ -21,7 +18,6 @@ pub mod TimelineLaws
 pub mod Dispatch
 pub mod DispatchLaws
 -- drafts
-pub mod DraftBytes
 pub mod Drafts
 pub mod DraftLaws
 -- registers

@@ -2,22 +2,16 @@
 use Prim.Native.Nat.{ℕ, _≤_, _<_}
 use mathlib.Core.Path.{_≡_}
 use mathlib.Core.List.{List, _++_}
-use native.Mathlib.Omega.{arith}
 use lib.IntN.{ℤ, pos}
 use lib.ListN.{length, drop}
-use lib.Seq.{sets, sets-eq}
 use lib.Dec.{ltb}
 use borrow.Author.Tests.{lt-ltb, le-ltb}
 use Rattle.cursor.specs.Choice.{pick}
-use Rattle.cursor.specs.Fields.{wordBytes}
 use Rattle.phases.specs.Phases.{phases}
 use Rattle.phases.specs.declared.PhaseCounts.{PhaseCounts}
+use Rattle.lent.specs.Numbers.{countsBytes}
 use Rattle.bus.specs.Reply.{refused, reply, after}
 use Rattle.bus.specs.ReplyLaws.{reply-refused, reply-value, after-refusal, after-value}
-
--- the phases that lead to a table, to 9, to 10 and to 23
-unfoldable pub countsBytes : PhaseCounts → List ℕ
-countsBytes found = wordBytes (found .tables) ++ wordBytes (found .nines) ++ wordBytes (found .tens) ++ wordBytes (found .ended)
 
 -- 0, or the number negated; 99 with fewer than 8 bytes for the counts
 unfoldable pub phasesReply : ℕ → List ℕ → ℕ → List ℕ → ℤ
@@ -27,13 +21,6 @@ unfoldable pub phasesCounts : ℕ → List ℕ → ℕ → List ℕ → List ℕ
 phasesCounts allowance request task counts =
     pick (ltb (length counts) 8) counts
     (after (phases allowance request task .refusal) (countsBytes (phases allowance request task) ++ drop 8 counts) counts)
-
--- four words, one behind the other
-pub counts-stored : (found : PhaseCounts) (bytes : List ℕ) → 8 ≤ length bytes
-    → sets (sets (sets (sets bytes 0 (wordBytes (found .tables))) 2 (wordBytes (found .nines))) 4 (wordBytes (found .tens))) 6 (wordBytes (found .ended))
-    ≡ countsBytes found ++ drop 8 bytes
-unfolding countsBytes wordBytes
-counts-stored found bytes h = sets-eq (countsBytes found) bytes 0 (omega arith)
 
 -- the ways out
 

@@ -1,17 +1,12 @@
--- bus_timeline: what it answers and leaves in the list. A record is 8 bytes: task, job, and release, due and frame as u16. The list has as many places as
--- whole records fit.
+-- bus_timeline: what it answers and leaves in the list. The list has as many places as whole records of 8 bytes fit.
 use Prim.Native.Nat.{ℕ, _*_, _/_}
-use mathlib.Core.List.{List, _∷_, _++_, flatMap}
+use mathlib.Core.List.{List, _++_, flatMap}
 use lib.IntN.{ℤ}
 use lib.ListN.{length, drop}
-use Rattle.cursor.specs.Fields.{wordBytes}
 use Rattle.job_records.specs.Timeline.{Timeline, filling, recordsIn, filledAnswer}
-use Rattle.job_records.specs.declared.JobRecord.{JobRecord}
 use Rattle.job_records.specs.declared.RecordsFilled.{RecordsFilled}
+use Rattle.lent.specs.Records.{recordBytes}
 use Rattle.bus.specs.Reply.{reply}
-
-unfoldable pub recordBytes : JobRecord → List ℕ
-recordBytes r = r .task ∷ r .job ∷ wordBytes (r .release) ++ wordBytes (r .due) ++ wordBytes (r .frame)
 
 abbrev pub filledReply : RecordsFilled → ℤ
 filledReply r = reply (r .refusal) (r .count)

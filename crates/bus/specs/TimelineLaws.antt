@@ -1,79 +1,19 @@
--- The list from C: what five stores come to, records written one behind the other, and the two ways out of bus_timeline.
-use Prim.Native.Nat.{ℕ, zero, suc, _+_, _*_, _-_, _/_, _≤_, _<_}
-use mathlib.Core.Path.{_≡_, refl, sym, ap, _∙_}
-use mathlib.Core.List.{List, [], _∷_, _++_, flatMap, append-assoc}
-use native.Mathlib.Nat.{sub-zero}
+-- The two ways out of bus_timeline.
+use Prim.Native.Nat.{ℕ, _*_, _/_, _≤_}
+use mathlib.Core.Path.{_≡_, refl, ap, _∙_}
+use mathlib.Core.List.{List, [], _++_, flatMap}
 use native.Mathlib.Omega.{arith}
 use lib.IntN.{pos}
-use lib.ListN.{length, set, take, drop, length-append}
-use lib.Seq.{sets, sets-eq, drop-drop}
-use Rattle.cursor.specs.Fields.{wordBytes}
-use Rattle.cursor.specs.Pieces.{PartWay, part-start, part-more, part-end}
+use lib.ListN.{length, drop}
 use Rattle.job_records.specs.Timeline.{Timeline, timeline, refusal, filling, filledAnswer}
-use Rattle.job_records.specs.Known.{recordHere, KnownFor, recordsFrom, recordsKnown, records-more, records-none, known-are}
+use Rattle.job_records.specs.Known.{KnownFor, recordsKnown, known-are}
 use Rattle.job_records.specs.FillLaws.{filling-few, fill-answer}
-use Rattle.job_records.specs.declared.JobRecord.{JobRecord}
 use Rattle.job_records.specs.declared.JobsKnown.{JobsKnown}
+use Rattle.lent.specs.Records.{recordBytes}
 use Rattle.bus.specs.Reply.{refused}
 use Rattle.bus.specs.ReplyLaws.{reply-refused, reply-value}
-use Rattle.bus.specs.Timeline.{recordBytes, filledReply, filledBytes, fillingInC, timelineReply, timelineRecords}
+use Rattle.bus.specs.Timeline.{filledReply, filledBytes, fillingInC, timelineReply, timelineRecords}
 
--- two bytes and three words one behind the other are the eight bytes
-pub record-stored : (out : List ℕ) (r : JobRecord) → 8 ≤ length out
-    → sets (sets (sets (set (set out 0 (r .task)) 1 (r .job)) 2 (wordBytes (r .release))) 4 (wordBytes (r .due))) 6 (wordBytes (r .frame)) ≡ recordBytes r ++ drop 8 out
-unfolding recordBytes wordBytes
-record-stored out r h = sets-eq (recordBytes r) out 0 h
-
-record-wide : (r : JobRecord) → length (recordBytes r) ≡ 8
-unfolding recordBytes wordBytes
-record-wide r = refl
-
-records-wide : (rs : List JobRecord) → length (flatMap recordBytes rs) ≡ 8 * length rs
-unfolding flatMap
-records-wide [] = omega arith
-records-wide (r ∷ rs) = simp length-append (omega (arith, record-wide r, records-wide rs))
-
-from-length : (k : JobsKnown) (n y : ℕ) → length (recordsFrom k n y) ≡ n
-unfolding recordsFrom
-from-length k zero y = refl
-from-length k (suc n) y = ap suc (from-length k n (y + 1))
-
--- the records before place y are written
-module _ (k : JobsKnown) where
-  abbrev pub RecordsPart : List ℕ → List ℕ → ℕ → ℕ → Type 0
-  RecordsPart old out at y = PartWay (flatMap recordBytes (recordsKnown k)) old out (flatMap recordBytes (recordsFrom k (k .count - y) y)) at
-
-  pub records-start : (old : List ℕ) → 8 * k .count ≤ length old → RecordsPart old old 0 0
-  records-start old h =
-      rw (sub-zero (k .count))
-      (part-start [] (flatMap recordBytes (recordsKnown k)) old 0 refl (omega (arith, records-wide (recordsKnown k), from-length k (k .count) 0)))
-
-  module _ (old out : List ℕ) (at y : ℕ) (so : RecordsPart old out at y) where
-    module _ (more : y < k .count) where
-      records-next : flatMap recordBytes (recordsFrom k (k .count - y) y)
-          ≡ recordBytes (recordHere k y) ++ flatMap recordBytes (recordsFrom k (k .count - (y + 1)) (y + 1))
-      unfolding flatMap
-      records-next = rw (records-more k (k .count) y more)
-
-      pub record-room : at + 8 ≤ length out
-      record-room = omega (arith, so .room, so .long, simp length-append at (ap length records-next), record-wide (recordHere k y))
-
-      -- the record was written into the part behind
-      pub record-placed : (part : List ℕ) → part ≡ recordBytes (recordHere k y) ++ drop 8 (drop at out) → RecordsPart old (take at out ++ part) (at + 8) (y + 1)
-      record-placed part e =
-          let piece = recordBytes (recordHere k y) in
-          let one : length piece ≡ 8 = record-wide (recordHere k y) in
-          let whole : take at out ++ part ≡ take at out ++ piece ++ drop (at + 8) out = rw (e, drop-drop) (sym (append-assoc (take at out) piece (drop (at + 8) out))) in
-          rw (← one) (part-more _ _ _ _ _ so piece _ (take at out ++ part) records-next (rw one whole))
-
-    pub records-end : k .count ≤ y → out ≡ flatMap recordBytes (recordsKnown k) ++ drop (8 * k .count) old
-    unfolding flatMap
-    records-end last =
-        let done = part-end _ _ _ _ _ so (rw (records-none k (k .count) y last)) in
-        let size : length (flatMap recordBytes (recordsKnown k)) ≡ 8 * k .count = omega (arith, records-wide (recordsKnown k), from-length k (k .count) 0) in
-        done .whole ∙ ap (λ (n : ℕ). flatMap recordBytes (recordsKnown k) ++ drop n old) size
-
--- the two ways
 module _ (request table records : List ℕ) (k : JobsKnown) (known : KnownFor (filling request table (length records / 8)) k) where
   abbrev tl : Timeline
   tl = fillingInC request table records

@@ -1,32 +1,21 @@
--- The timer in the bytes that the caller lends: 72, of which 0 to 63 are the dispatcher's state, 64 is control, 65 is status and 66 to 71 are free. What each
--- of its calls answers and leaves.
+-- What each call of the timer answers and what it leaves in the buffers that it was lent. Bytes that are no timer give 99, before every other number.
 use Prim.Native.Nat.{ℕ}
-use mathlib.Core.Bool.{Bool, false, not}
+use mathlib.Core.Bool.{Bool, not}
 use mathlib.Core.List.{List, _++_}
 use lib.IntN.{ℤ, pos}
-use lib.ListN.{length, getD, set, drop}
+use lib.ListN.{length, drop}
 use lib.Dec.{ltb}
 use Rattle.cursor.specs.Choice.{pick, both, bit}
 use Rattle.request.specs.Request.{reading}
 use Rattle.table.specs.Table.{decode}
-use Rattle.timer.specs.Registers.{freshTimer, controlByte, statusByte, controlOf, statusOf, registerRead, written, afterEvent, serving, reporting, lineOn}
-use Rattle.timer.specs.declared.Timer.{Timer}
+use Rattle.timer.specs.Registers.{freshTimer, registerRead, written, afterEvent, serving, reporting, lineOn}
 use Rattle.timer.specs.declared.Changed.{Changed}
 use Rattle.timer.specs.declared.RegisterRead.{RegisterRead}
 use Rattle.timer.specs.declared.FrameServed.{FrameServed}
+use Rattle.lent.specs.Words.{zeros}
+use Rattle.lent.specs.Entries.{pairBytes}
+use Rattle.lent.specs.TimerBytes.{isTimer, timerOf, timerBytes}
 use Rattle.bus.specs.Reply.{refused, reply, after}
-use Rattle.bus.specs.State.{stateOf, stateBytes, pairBytes, zeros}
-
--- 72 bytes or more, a mark that is 0 or 1, control of at most 3 and status of at most 7; otherwise 99, before every other number
-unfoldable pub isTimer : List ℕ → Bool
-isTimer bytes = pick (ltb (length bytes) 72) false (both (ltb (getD bytes 2 0) 2) (both (ltb (getD bytes 64 0) 4) (ltb (getD bytes 65 0) 8)))
-
-unfoldable pub timerOf : List ℕ → Timer
-timerOf bytes = record { state = stateOf bytes; control = controlOf (getD bytes 64 0); status = statusOf (getD bytes 65 0) }
-
--- the dispatcher's state, control and status in their bytes; the free bytes, and those behind the timer, are what was there
-unfoldable pub timerBytes : Timer → List ℕ → List ℕ
-timerBytes t bytes = set (set (stateBytes (t .state) bytes) 64 (controlByte (t .control))) 65 (statusByte (t .status))
 
 -- bus_timer_fresh sets all 72 bytes
 

@@ -1,57 +1,25 @@
 -- Each way out of a call of the timer, as its definition has it.
 use Prim.Native.Nat.{ℕ, _≤_, _<_}
-use mathlib.Core.Path.{_≡_, refl}
-use mathlib.Core.Bool.{Bool, true, false, false≢true}
+use mathlib.Core.Path.{_≡_}
+use mathlib.Core.Bool.{true, false}
 use mathlib.Core.List.{List, _++_}
 use lib.IntN.{ℤ, pos}
-use lib.ListN.{length, getD, drop}
-use lib.Dec.{ltb}
-use borrow.Author.Tests.{ltb-false, lt-ltb, le-ltb}
-use Rattle.cursor.specs.Choice.{pick, both}
+use lib.ListN.{length, drop}
+use borrow.Author.Tests.{lt-ltb, le-ltb}
 use Rattle.table.specs.Table.{decode}
 use Rattle.timer.specs.Registers.{freshTimer, afterEvent, registerRead, lineOn}
 use Rattle.timer.specs.RegisterLaws.{serve-none}
 use Rattle.timer.specs.declared.RegisterRead.{RegisterRead}
 use Rattle.timer.specs.declared.Changed.{Changed}
 use Rattle.timer.specs.declared.FrameServed.{FrameServed}
+use Rattle.lent.specs.Words.{zeros}
+use Rattle.lent.specs.Entries.{pairBytes}
+use Rattle.lent.specs.TimerBytes.{isTimer, timerOf, timerBytes}
 use Rattle.bus.specs.Reply.{refused, reply}
 use Rattle.bus.specs.ReplyLaws.{reply-refused, reply-value, after-refusal, after-value}
-use Rattle.bus.specs.State.{pairBytes, zeros}
-use Rattle.bus.specs.Timer.{isTimer, timerOf, timerBytes, timerFreshReply, timerFreshBytes, timerReadReply, changedReply, changedBytes}
+use Rattle.bus.specs.Timer.{timerFreshReply, timerFreshBytes, timerReadReply, changedReply, changedBytes}
 use Rattle.bus.specs.Timer.{timerEventReply, timerEventBytes, timerFrame, canServeTimer, frameAsked, timerServeReply, timerServeBytes}
 use Rattle.bus.specs.Timer.{timerServeEntries, timerLineReply}
-
--- whether the bytes are a timer
-
-module _ (bytes : List ℕ) where
-  abbrev judgedLong : Bool
-  judgedLong = both (ltb (getD bytes 2 0) 2) (both (ltb (getD bytes 64 0) 4) (ltb (getD bytes 65 0) 8))
-
-  pub timer-short : length bytes < 72 → false ≡ isTimer bytes
-  unfolding isTimer
-  timer-short h = rw (lt-ltb (length bytes) 72 h)
-
-  pub timer-long : isTimer bytes ≡ true → 72 ≤ length bytes
-  unfolding isTimer
-  timer-long e = go (ltb (length bytes) 72) refl e
-    where
-      go : (b : Bool) → ltb (length bytes) 72 ≡ b → pick b false judgedLong ≡ true → 72 ≤ length bytes
-      go true w q = absurd (false≢true q)
-      go false w q = ltb-false (length bytes) 72 w
-
-  module _ (long : 72 ≤ length bytes) where
-    pub bad-mark : 2 ≤ getD bytes 2 0 → false ≡ isTimer bytes
-    unfolding isTimer
-    bad-mark h = rw (le-ltb (length bytes) 72 long, le-ltb (getD bytes 2 0) 2 h)
-
-    module _ (mark : getD bytes 2 0 < 2) where
-      pub bad-control : 4 ≤ getD bytes 64 0 → false ≡ isTimer bytes
-      unfolding isTimer
-      bad-control h = rw (le-ltb (length bytes) 72 long, lt-ltb (getD bytes 2 0) 2 mark, le-ltb (getD bytes 64 0) 4 h)
-
-      pub status-decides : getD bytes 64 0 < 4 → ltb (getD bytes 65 0) 8 ≡ isTimer bytes
-      unfolding isTimer
-      status-decides h = rw (le-ltb (length bytes) 72 long, lt-ltb (getD bytes 2 0) 2 mark, lt-ltb (getD bytes 64 0) 4 h)
 
 -- bus_timer_fresh
 

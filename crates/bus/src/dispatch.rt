@@ -1,15 +1,12 @@
 // The calls of the dispatcher. Its state stands in bytes that the caller lends.
 use crate::reply::refusal;
 use crate::reply::value;
-use crate::state::clear;
-use crate::state::is_state;
-use crate::state::read_state;
-use crate::state::write_state;
+use lent::entries::write_pairs;
+use lent::state::is_state;
+use lent::state::read_state;
+use lent::state::write_state;
+use lent::words::clear;
 ghost use mathlib.Core.Path.{_≡_};
-ghost use Prim.Native.Nat.{_≤_};
-ghost use mathlib.Core.List.{_++_};
-ghost use lib.ListN.{length, drop};
-ghost use Rattle.bus.specs.State.{pairBytes};
 ghost use Rattle.bus.specs.Dispatch.{freshReply, freshBytes, frameReply, frameState, frameEntries, reportReply, reportState};
 
 // The fresh state, and 0 in the 29 bytes behind it: 0, or 99 negated.
@@ -23,21 +20,6 @@ pub extern "C" fn bus_fresh(state: &mut [u8]) -> i32
     clear(state, 64);
     write_state(state, dispatcher::fresh());
     0
-}
-
-// 16 pairs of a task byte and a job byte; the bytes behind them are left alone.
-pub(super) fn write_pairs(entries: &mut [u8], tasks: [u8; 16], jobs: [u8; 16])
-    requires { ⌜ 32 ≤ length (now entries) ⌝ }
-    ensures { λ r. ⌜ now (entries .exit) ≡ pairBytes tasks jobs 16 0 ++ drop 32 (now (entries .entry)) ⌝ }
-{
-    let mut at: usize = 0;
-    let mut i: usize = 0;
-    while i < 16 {
-        entries[at] = tasks[i];
-        entries[at + 1] = jobs[i];
-        at += 2;
-        i += 1;
-    }
 }
 
 // The entries to serve in the next frame, and the state after it: their number, or 99, 12 or 15 negated and nothing changed.

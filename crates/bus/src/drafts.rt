@@ -1,10 +1,10 @@
 // The calls on a draft: a job is moved by hand. The draft stands in bytes that the caller lends, and a call that is refused leaves them as they were. A draft
 // buffer below 770 bytes gives 99, before every other number; any 770 bytes are a draft.
-use crate::draft_bytes::read_draft;
-use crate::draft_bytes::write_draft;
 use crate::reply::refusal;
 use crate::reply::value;
 use draft::Drafted;
+use lent::draft_bytes::read_draft;
+use lent::draft_bytes::write_draft;
 ghost use mathlib.Core.Path.{_≡_};
 ghost use Prim.Native.Nat.{_≤_};
 ghost use lib.ListN.{length};

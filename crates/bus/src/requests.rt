@@ -1,14 +1,11 @@
 // The calls on requests.
 use crate::reply::refusal;
 use crate::reply::value;
-use phases::PhaseCounts;
+use lent::numbers::write_phases;
 ghost use mathlib.Core.Path.{_≡_};
-ghost use Prim.Native.Nat.{_≤_};
-ghost use mathlib.Core.List.{_++_};
-ghost use lib.ListN.{length, drop};
 ghost use Rattle.bus.specs.Join.{joinReply, joinBuffer};
 ghost use Rattle.bus.specs.Cut.{cutReply, cutBuffer};
-ghost use Rattle.bus.specs.Phases.{countsBytes, phasesReply, phasesCounts};
+ghost use Rattle.bus.specs.Phases.{phasesReply, phasesCounts};
 
 // The request of the two joined, written into `out`: its length, or 1 to 6, 17 to 20 or 11 negated.
 #[no_mangle]
@@ -34,17 +31,6 @@ pub extern "C" fn bus_cut(request: &[u8], task: u8, first: u16, out: &mut [u8]) 
         return refusal(written.refusal);
     }
     value(written.length)
-}
-
-// The first 8 bytes get the four counts; those behind them are left alone.
-fn write_phases(counts: &mut [u8], found: PhaseCounts)
-    requires { ⌜ 8 ≤ length (now counts) ⌝ }
-    ensures { λ r. ⌜ now (counts .exit) ≡ countsBytes found ++ drop 8 (now (counts .entry)) ⌝ }
-{
-    cursor::put_word(counts, 0, found.tables);
-    cursor::put_word(counts, 2, found.nines);
-    cursor::put_word(counts, 4, found.tens);
-    cursor::put_word(counts, 6, found.ended);
 }
 
 // How many phases of a task lead to a table, to 9, to 10 and to 23, as four u16 in the first 8 bytes of `counts`: 0, or 99, 1 to 8, 17 or 16 negated and

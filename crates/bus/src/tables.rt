@@ -1,28 +1,13 @@
 // The calls on a request and its table.
 use crate::reply::refusal;
 use crate::reply::value;
+use lent::numbers::write_number;
 ghost use mathlib.Core.Path.{_≡_};
-ghost use Prim.Native.Nat.{_≤_};
-ghost use mathlib.Core.List.{_++_};
-ghost use lib.ListN.{length, drop};
-ghost use Rattle.bus.specs.Plan.{lowFirst, planReply, planBuffer, planTries};
+ghost use Rattle.bus.specs.Plan.{planReply, planBuffer, planTries};
+ghost use Rattle.bus.specs.Decide.{decideReply, decideBuffer};
 ghost use Rattle.bus.specs.Rewrite.{rewriteReply, rewriteBuffer};
 ghost use Rattle.bus.specs.OneOff.{oneOffReply};
 ghost use Rattle.bus.specs.Check.{checkReply};
-
-// The first 8 bytes get the number, low byte first; those behind them are left alone.
-fn write_number(out: &mut [u8], number: u64)
-    requires { ⌜ 8 ≤ length (now out) ⌝ }
-    ensures { λ r. ⌜ now (out .exit) ≡ lowFirst 8 number ++ drop 8 (now (out .entry)) ⌝ }
-{
-    let mut rest = number;
-    let mut i: usize = 0;
-    while i < 8 {
-        out[i] = (rest % 256) as u8;
-        rest = rest / 256;
-        i += 1;
-    }
-}
 
 // The table of the request's chosen plan, written into `out`, if the search needs no more tries than allowed: its length, or 1 to 11, 17 or 23 negated. The
 // tries made stand in the first 8 bytes of `tries`, whatever the answer is; but for 99 negated, which comes first and leaves all as it was.
@@ -41,6 +26,19 @@ pub extern "C" fn bus_plan(request: &[u8], allowance: u64, out: &mut [u8], tries
         return refusal(searched.refusal);
     }
     value(searched.length)
+}
+
+// The table of the request's chosen plan, written into `out`, however long the search takes: its length, or 1 to 11 or 17 negated.
+#[no_mangle]
+pub extern "C" fn bus_decide(request: &[u8], out: &mut [u8]) -> i32
+    ensures { λ r. ⌜ (r ≡ decideReply (now (request .entry)) (now (out .entry)))
+        × (now (out .exit) ≡ decideBuffer (now (request .entry)) (now (out .entry))) ⌝ }
+{
+    let written = decider::decide(request, out);
+    if written.refusal != 0 {
+        return refusal(written.refusal);
+    }
+    value(written.length)
 }
 
 // Whether the table describes a plan of the request: 0, or 1 to 8, 17 or 12 to 14 negated.

@@ -18,10 +18,10 @@ use Rattle.dispatcher.specs.Dispatch.{exceeds, raisedAt, nextFrame, reported}
 use Rattle.dispatcher.specs.FrameLaws.{frame-counts}
 use Rattle.dispatcher.specs.ReportLaws.{report-counted, report-unknown, report-unreadable, raised-only}
 use Rattle.dispatcher.specs.declared.State.{State}
+use Rattle.lent.specs.Words.{wordsBytes}
+use Rattle.lent.specs.State.{isState, stateOf, stateBytes}
+use Rattle.lent.specs.StateLaws.{state-long}
 use Rattle.bus.specs.Reply.{after}
-use Rattle.bus.specs.Words.{wordsBytes}
-use Rattle.bus.specs.State.{isState, stateOf, stateBytes}
-use Rattle.bus.specs.StateLaws.{state-long}
 use Rattle.bus.specs.ReplyLaws.{after-refusal, after-value}
 use Rattle.bus_laws.specs.RoundTrip.{counts-read, count-read, state-length, bytes-back}
 use Rattle.bus.specs.Dispatch.{canServe, frameState, reportState}

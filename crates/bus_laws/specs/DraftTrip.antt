@@ -6,7 +6,7 @@ use mathlib.Core.Bool.{Bool, true, false}
 use mathlib.Core.Logic.{inl, inr}
 use mathlib.Core.List.{List, _++_, append-assoc}
 use native.Mathlib.Omega.{arith}
-use lib.ListN.{length, getD, drop, length-append, length-drop}
+use lib.ListN.{length, getD, drop}
 use lib.Seq.{drop-cons}
 use lib.Dec.{eqb}
 use borrow.Author.Tests.{eqb-true, eqb-false}
@@ -17,9 +17,9 @@ use Rattle.draft.specs.Kept.{Sized}
 use Rattle.draft.specs.SizeLaws.{CameTo, lift-came, put-came, came-sized, start-sized}
 use Rattle.draft.specs.declared.Draft.{Draft}
 use Rattle.draft.specs.declared.Drafted.{Drafted}
-use Rattle.bus.specs.Words.{wordIn, wordsFrom, wordsBytes}
-use Rattle.bus.specs.WordLaws.{bytes-count, words-count}
-use Rattle.bus.specs.DraftBytes.{draftOf, draftBytes}
+use Rattle.lent.specs.Words.{wordIn, wordsFrom, wordsBytes}
+use Rattle.lent.specs.WordLaws.{bytes-count, words-count}
+use Rattle.lent.specs.DraftBytes.{draftOf, draftBytes}
 use Rattle.bus.specs.Drafts.{draftedBytes, startBytes, liftBytes, putBytes}
 use Rattle.bus.specs.DraftLaws.{draft-refused, draft-made}
 use Rattle.bus_laws.specs.WordsBack.{word-back, low-back, high-back, words-read, words-back}
@@ -42,18 +42,6 @@ module _ (d : Draft) (bytes : List ℕ) where
 
   frames-behind : draftBytes d bytes ≡ front ++ (loads ++ drop 770 bytes)
   frames-behind = loads-behind ∙ append-assoc front loads (drop 770 bytes)
-
-  pub draft-long : 770 ≤ length bytes → length (draftBytes d bytes) ≡ length bytes
-  draft-long h =
-      ap length loads-behind
-      ∙ omega (
-        arith,
-        length-append (front ++ loads) (drop 770 bytes),
-        length-append front loads,
-        front-long,
-        bytes-count (d .loads) 256 0,
-        length-drop 770 bytes,
-      )
 
   pub draft-read : Sized d → draftOf (draftBytes d bytes) ≡ d
   unfolding draftOf wordBytes

@@ -1,11 +1,11 @@
 -- The bytes of a heater, both ways: a link that was written is read again, with what the call said, and the bytes of a heater are those that it is written as.
-use Prim.Native.Nat.{ℕ, zero, suc, _+_, _≤_, _<_}
-use mathlib.Core.Path.{_≡_, refl}
+use Prim.Native.Nat.{ℕ, zero, suc, _+_, _-_, _≤_, _<_}
+use mathlib.Core.Path.{_≡_, refl, ap, _∙_}
 use mathlib.Core.Bool.{Bool, true, false}
-use mathlib.Core.List.{List, _∷_}
+use mathlib.Core.List.{List, [], _∷_}
 use native.Mathlib.Omega.{arith}
 use lib.ListN.{length, getD, take, drop, length-append, length-drop, take-append-drop}
-use lib.Seq.{length-take-le, drop-cons, getD-append-add}
+use lib.Seq.{length-take-le, drop-cons, getD-append-add, getD-drop}
 use lib.Dec.{ltb, eqb}
 use borrow.Author.Tests.{le-ltb, ltb-true}
 use Rattle.cursor.specs.Choice.{both, bit}
@@ -13,10 +13,10 @@ use Rattle.cursor.specs.ParsedLaws.{both-true}
 use Rattle.cursor.specs.Fields.{wordBytes}
 use Rattle.cursor.specs.Front.{Bytes}
 use Rattle.heater_link.specs.declared.Link.{Link}
-use Rattle.bus.specs.Words.{wordsFrom, wordsBytes}
-use Rattle.bus.specs.State.{isState, stateOf, stateBytes}
-use Rattle.bus.specs.Heater.{isBit, isHeater, linkOf, heaterBytes}
-use Rattle.bus.specs.HeaterLaws.{heater-long}
+use Rattle.lent.specs.Words.{wordsFrom, wordsBytes}
+use Rattle.lent.specs.State.{isState, stateOf, stateBytes}
+use Rattle.lent.specs.HeaterBytes.{isBit, isHeater, linkOf, heaterBytes}
+use Rattle.lent.specs.HeaterByteLaws.{heater-long}
 use Rattle.bus_laws.specs.RoundTrip.{state-length, state-read, bytes-back}
 
 pub record HeaterBack (s : Link) (toggled answered : Bool) (bytes : List ℕ) : Type 0 where
@@ -25,6 +25,7 @@ pub record HeaterBack (s : Link) (toggled answered : Bool) (bytes : List ℕ) : 
   pub link-read : linkOf (heaterBytes s toggled answered bytes) ≡ s
   pub toggled-there : getD (heaterBytes s toggled answered bytes) 66 0 ≡ bit toggled
   pub answered-there : getD (heaterBytes s toggled answered bytes) 67 0 ≡ bit answered
+  pub rest-kept : (i : ℕ) → 68 ≤ i → getD (heaterBytes s toggled answered bytes) i 0 ≡ getD bytes i 0
 
 abbrev pub HeaterRoundTrip : Type 0
 HeaterRoundTrip = ((s : Link) (toggled answered : Bool) (bytes : List ℕ) → 72 ≤ length bytes → length (s .state .counts) ≡ 16 → HeaterBack s toggled answered bytes)
@@ -92,8 +93,28 @@ module _ (s : Link) (toggled answered : Bool) (bytes : List ℕ) (long : 72 ≤ 
   unfolding linkOf
   read all = rw (same-state, state-read (s .state) bytes all, at 0, at 1, bit-read (s .master), bit-read (s .obeyed))
 
+  -- the bytes behind are those that were there
+  kept-from : (k : ℕ) → getD (heaterBytes s toggled answered bytes) (64 + (4 + k)) 0 ≡ getD bytes (68 + k) 0
+  kept-from k =
+      let four = bit (s .master) ∷ bit (s .obeyed) ∷ bit toggled ∷ bit answered ∷ [] in
+      at (4 + k) ∙ getD-append-add four (drop 68 bytes) k 0 ∙ getD-drop 68 bytes k 0
+
+  kept : (i : ℕ) → 68 ≤ i → getD (heaterBytes s toggled answered bytes) i 0 ≡ getD bytes i 0
+  kept i h =
+      let there : i ≡ 64 + (4 + (i - 68)) = omega (arith, h) in
+      let here : 68 + (i - 68) ≡ i = omega (arith, h) in
+      ap (λ (j : ℕ). getD (heaterBytes s toggled answered bytes) j 0) there ∙ kept-from (i - 68) ∙ ap (λ (j : ℕ). getD bytes j 0) here
+
   written : length (s .state .counts) ≡ 16 → HeaterBack s toggled answered bytes
-  written all = record { heater-length = whole-length; heater-is = is-heater; link-read = read all; toggled-there = at 2; answered-there = at 3 }
+  written all =
+      record {
+        heater-length = whole-length;
+        heater-is = is-heater;
+        link-read = read all;
+        toggled-there = at 2;
+        answered-there = at 3;
+        rest-kept = kept;
+      }
 
 module _ (bytes : List ℕ) (are : Bytes bytes) (is : isHeater bytes ≡ true) where
   long : 72 ≤ length bytes

@@ -16,3 +16,5 @@ pub mod Answered
 pub mod PhaseCounts
 -- the bytes of the records of a timeline give them back
 pub mod Records
+-- deciding beside planning; what is decided passes the check
+pub mod Decides

@@ -10,9 +10,10 @@ use Rattle.cursor.specs.ChoiceLaws.{lt-or-ge}
 use Rattle.cursor.specs.Fields.{wordBytes}
 use Rattle.phases.specs.Phases.{phases}
 use Rattle.phases.specs.declared.PhaseCounts.{PhaseCounts}
-use Rattle.bus.specs.Words.{wordOf}
+use Rattle.lent.specs.Words.{wordOf}
+use Rattle.lent.specs.Numbers.{countsBytes}
 use Rattle.bus.specs.ReplyLaws.{after-value}
-use Rattle.bus.specs.Phases.{countsBytes, phasesReply, phasesCounts, no-room}
+use Rattle.bus.specs.Phases.{phasesReply, phasesCounts, no-room}
 use Rattle.bus_laws.specs.Answered.{not-refused, reply-told}
 use Rattle.bus_laws.specs.WordsBack.{word-back}
 

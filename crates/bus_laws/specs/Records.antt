@@ -8,8 +8,9 @@ use lib.Seq.{drop-append-add}
 use Rattle.cursor.specs.Fields.{wordBytes}
 use Rattle.job_records.specs.Timeline.{noRecord, recordsIn}
 use Rattle.job_records.specs.declared.JobRecord.{JobRecord}
-use Rattle.bus.specs.Words.{wordOf}
-use Rattle.bus.specs.Timeline.{recordBytes, fillingInC, timelineRecords}
+use Rattle.lent.specs.Words.{wordOf}
+use Rattle.lent.specs.Records.{recordBytes}
+use Rattle.bus.specs.Timeline.{fillingInC, timelineRecords}
 use Rattle.bus_laws.specs.WordsBack.{word-back}
 
 -- what the first 8 bytes say: task, job, and release, due and frame, low byte first

@@ -12,10 +12,11 @@ use borrow.Author.Tests.{le-ltb, ltb-true}
 use Rattle.cursor.specs.Fields.{wordBytes}
 use Rattle.cursor.specs.Front.{Bytes}
 use Rattle.dispatcher.specs.declared.State.{State}
-use Rattle.bus.specs.Words.{wordsBytes}
-use Rattle.bus.specs.WordLaws.{words-count}
-use Rattle.bus.specs.State.{isState, countIn, stateOf, stateBytes, markByte, pairBytes}
-use Rattle.bus.specs.StateLaws.{long, state-long}
+use Rattle.lent.specs.Words.{wordsBytes}
+use Rattle.lent.specs.WordLaws.{words-count}
+use Rattle.lent.specs.State.{isState, countIn, stateOf, stateBytes, markByte}
+use Rattle.lent.specs.StateLaws.{long, state-long}
+use Rattle.lent.specs.Entries.{pairBytes}
 use Rattle.bus_laws.specs.WordsBack.{word-back, low-back, high-back, word-read, word-there, words-read, words-back}
 
 -- the counts of a state that is read are those in its bytes

@@ -16,11 +16,11 @@ use Rattle.timer.specs.Registers.{controlByte, statusByte, controlOf, statusOf}
 use Rattle.timer.specs.RegisterLaws.{control-back, status-back, control-few, status-few}
 use Rattle.timer.specs.declared.Timer.{Timer}
 use Rattle.dispatcher.specs.declared.State.{State}
-use Rattle.bus.specs.Words.{wordsFrom, wordsBytes}
-use Rattle.bus.specs.State.{isState, markByte, stateOf, stateBytes}
-use Rattle.bus.specs.StateLaws.{long}
-use Rattle.bus.specs.Timer.{isTimer, timerOf, timerBytes}
-use Rattle.bus.specs.TimerLaws.{timer-long, status-decides}
+use Rattle.lent.specs.Words.{wordsFrom, wordsBytes}
+use Rattle.lent.specs.State.{isState, markByte, stateOf, stateBytes}
+use Rattle.lent.specs.StateLaws.{long}
+use Rattle.lent.specs.TimerBytes.{isTimer, timerOf, timerBytes}
+use Rattle.lent.specs.TimerByteLaws.{timer-long, status-decides}
 use Rattle.bus_laws.specs.RoundTrip.{state-length, state-is, state-read, bytes-back}
 
 -- The statement

@@ -7,7 +7,8 @@ use native.Mathlib.Omega.{arith}
 use lib.ListN.{length, drop}
 use borrow.Author.Tests.{le-ltb}
 use Rattle.planner.specs.Outcome.{searchedAnswer}
-use Rattle.bus.specs.Plan.{lowFirst, planTries}
+use Rattle.lent.specs.Numbers.{lowFirst}
+use Rattle.bus.specs.Plan.{planTries}
 
 -- the number that the first n bytes say, low byte first
 unfoldable pub numberIn : ℕ → List ℕ → ℕ

@@ -8,8 +8,8 @@ use lib.ListN.{length, getD, drop}
 use lib.Seq.{ext-getD, drop-cons, getD-append-add}
 use Rattle.cursor.specs.Fields.{wordBytes}
 use Rattle.cursor.specs.Front.{Bytes}
-use Rattle.bus.specs.Words.{wordOf, wordIn, wordsFrom, wordsBytes}
-use Rattle.bus.specs.WordLaws.{words-count}
+use Rattle.lent.specs.Words.{wordOf, wordIn, wordsFrom, wordsBytes}
+use Rattle.lent.specs.WordLaws.{words-count}
 
 pub word-back : (w : ℕ) → wordOf (w % 256) (w / 256) ≡ w
 word-back w = omega arith

@@ -1,7 +1,5 @@
 // Checks the table in a file against the request in another: `check_table REQUEST TABLE` prints `accepted` or `refused N`. A file that
 // cannot be read is named on standard error.
-use libc::STDOUT_FILENO;
-
 enum FileRead {
     FileBytes(usize),
     Unread,
@@ -21,18 +19,22 @@ fn read_file(i: usize, buf: &mut [u8]) -> FileRead {
         return FileRead::Unread;
     }
     let n = io::read_full(fd, buf);
+    let read = streams::was_read(fd, &path[..length]);
     libc::close(fd);
+    if !read {
+        return FileRead::Unread;
+    }
     FileRead::FileBytes(n)
 }
 
 fn print(refusal: u8) {
     if refusal == 0 {
-        io::write_all(STDOUT_FILENO, b"accepted\n");
+        streams::print(b"accepted\n");
         return;
     }
     let mut line = io::buffer();
     let end = listing::refused(refusal, &mut line);
-    io::write_all(STDOUT_FILENO, &line[..end]);
+    streams::print(&line[..end]);
 }
 
 fn main() {

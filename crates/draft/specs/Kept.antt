@@ -16,7 +16,7 @@ pub record Sized (d : Draft) : Type 0 where
   pub loads-are : length (d .loads) ≡ 256
 
 -- job y of the request is lifted; it is placed
-pub record IsUp (x : Instance) (d : Draft) (y : ℕ) : Type 0 where
+pub record IsLifted (x : Instance) (d : Draft) (y : ℕ) : Type 0 where
   pub known : y < length (x .jobs)
   pub up : frameOf x d y ≡ lifted
 

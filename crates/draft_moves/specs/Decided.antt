@@ -12,7 +12,7 @@ use borrow.Author.Tests.{eqb-true, eqb-false}
 use Rattle.cursor.specs.ChoiceLaws.{lt-or-ge}
 use Rattle.model.specs.Plan.{Instance, jobAt, pairAt}
 use Rattle.draft.specs.Draft.{lifted, frameOf}
-use Rattle.draft.specs.Kept.{IsUp, IsPlaced, LinkedBy}
+use Rattle.draft.specs.Kept.{IsLifted, IsPlaced, LinkedBy}
 use Rattle.draft.specs.declared.Draft.{Draft}
 use Rattle.draft_moves.specs.Exactly.{AllPlaced, OutOfOrder}
 
@@ -68,21 +68,21 @@ module _ (x : Instance) (d : Draft) where
       go (inl (k, (a, (b, n)))) = inl (record { pair-known = k; first = a; second = b; same-number = n })
       go (inr none) = inr (λ l. none (l .pair-known, (l .first, (l .second, l .same-number))))
 
-  up-or-placed : (y : ℕ) → y < length (x .jobs) → IsUp x d y ⊎ IsPlaced x d y
+  up-or-placed : (y : ℕ) → y < length (x .jobs) → IsLifted x d y ⊎ IsPlaced x d y
   up-or-placed y known =
       ⊎-elim (λ e. inl (record { known = known; up = e })) (λ n. inr (record { known = known; down = n })) (equal (frameOf x d y) lifted)
 
-  not-both : (y : ℕ) → IsUp x d y → IsPlaced x d y → ⊥
+  not-both : (y : ℕ) → IsLifted x d y → IsPlaced x d y → ⊥
   not-both y u p = p .down (u .up)
 
   placed : (z : ℕ) → z < length (x .jobs) → Decided (IsPlaced x d z)
   placed z known = ⊎-elim (λ u. inr (λ p. not-both z u p)) inl (up-or-placed z known)
 
   -- some job is lifted, or none
-  pub some-up : ((y : ℕ) × IsUp x d y) ⊎ AllPlaced x d
+  pub some-up : ((y : ℕ) × IsLifted x d y) ⊎ AllPlaced x d
   some-up =
       ⊎-elim (λ w. inl (w .0, w .2)) (λ none. inr (λ y low. ⊎-elim (λ u. absurd (none y low u)) (λ p. p) (up-or-placed y low)))
-      (search (IsUp x d) (length (x .jobs)) (λ y low. ⊎-elim inl (λ p. inr (λ u. not-both y u p)) (up-or-placed y low)))
+      (search (IsLifted x d) (length (x .jobs)) (λ y low. ⊎-elim inl (λ p. inr (λ u. not-both y u p)) (up-or-placed y low)))
 
   module _ (y k : ℕ) where
     abbrev Against : ℕ → ℕ → Type 0

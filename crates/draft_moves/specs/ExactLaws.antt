@@ -11,7 +11,7 @@ use Rattle.model.specs.Plan.{Instance}
 use Rattle.model.specs.Good.{Good}
 use Rattle.model.specs.Within.{Within, within-good, within-or-not}
 use Rattle.draft.specs.Draft.{lifted, afterPut, lift, put}
-use Rattle.draft.specs.Kept.{Sized, IsUp, IsPlaced, Sound}
+use Rattle.draft.specs.Kept.{Sized, IsLifted, IsPlaced, Sound}
 use Rattle.draft.specs.declared.Draft.{Draft}
 use Rattle.draft.specs.declared.Drafted.{Drafted}
 use Rattle.draft_moves.specs.Exactly.{OfRequest, Unknown, InWindow, RowOver, OutOfOrder, Lifted, Put, LiftTheorem, PutTheorem}
@@ -50,7 +50,7 @@ not-zero n = omega (arith, request-number-pos n)
 -- A lift
 
 module _ (x : Instance) (d : Draft) (y : ℕ) (a : Drafted) where
-  pub lift-twenty-six : LiftWay x d y a → (a .refusal ≡ 26) ↔ ((Sound x d → ⊥) ⊎ (Unknown x y ⊎ IsUp x d y))
+  pub lift-twenty-six : LiftWay x d y a → (a .refusal ≡ 26) ↔ ((Sound x d → ⊥) ⊎ (Unknown x y ⊎ IsLifted x d y))
   lift-twenty-six (unsound-lift n e) = (λ q. inl n, λ c. refusal-is e)
   lift-twenty-six (unknown-lift u e) = (λ q. inr (inl u), λ c. refusal-is e)
   lift-twenty-six (lifted-lift u e) = (λ q. inr (inr u), λ c. refusal-is e)
@@ -93,7 +93,7 @@ lift-theorem request d sized y =
     let goes : (x : Instance) → Within request x → LiftWay x d y (lift request d y) = λ x w. lift-way request x w d y in
     record {
       own-number = own;
-      twenty-six = of-request request (a .refusal) 26 (λ x. (Sound x d → ⊥) ⊎ (Unknown x y ⊎ IsUp x d y)) (above-numbers 26 (omega arith)) own
+      twenty-six = of-request request (a .refusal) 26 (λ x. (Sound x d → ⊥) ⊎ (Unknown x y ⊎ IsLifted x d y)) (above-numbers 26 (omega arith)) own
           (λ x w. lift-twenty-six x d y a (goes x w));
       lifts = of-request request (a .refusal) 0 (λ x. Sound x d × IsPlaced x d y) not-zero own (λ x w. lift-zero x d y a (goes x w));
       after = for-request request (a .refusal) 0 (λ x. Lifted x d y (a .draft)) not-zero own
@@ -104,7 +104,7 @@ lift-theorem request d sized y =
 -- A put
 
 module _ (x : Instance) (d : Draft) (y k : ℕ) (a : Drafted) where
-  not-twenty-six : Sound x d → IsUp x d y → (Sound x d → ⊥) ⊎ (Unknown x y ⊎ IsPlaced x d y) → ⊥
+  not-twenty-six : Sound x d → IsLifted x d y → (Sound x d → ⊥) ⊎ (Unknown x y ⊎ IsPlaced x d y) → ⊥
   not-twenty-six s u c = ⊎-elim (λ n. n s) (⊎-elim (λ o. omega (arith, o, u .known)) (λ p. p .down (u .up))) c
 
   pub put-twenty-six : PutWay x d y k a → (a .refusal ≡ 26) ↔ ((Sound x d → ⊥) ⊎ (Unknown x y ⊎ IsPlaced x d y))
@@ -115,7 +115,7 @@ module _ (x : Instance) (d : Draft) (y k : ℕ) (a : Drafted) where
   put-twenty-six (no-place s u w o e) = (λ q. absurd (clash (refusal-is e) q (λ z. omega (arith, z))), λ c. absurd (not-twenty-six s u c))
   put-twenty-six (puts s u w t e) = (λ q. absurd (clash (refusal-is e) q (λ z. omega (arith, z))), λ c. absurd (not-twenty-six s u c))
 
-  pub put-twenty-seven : PutWay x d y k a → (a .refusal ≡ 27) ↔ (Sound x d × IsUp x d y × (InWindow x d y k → ⊥))
+  pub put-twenty-seven : PutWay x d y k a → (a .refusal ≡ 27) ↔ (Sound x d × IsLifted x d y × (InWindow x d y k → ⊥))
   put-twenty-seven (unsound-put n e) = (λ q. absurd (clash (refusal-is e) q (λ z. omega (arith, z))), λ c. absurd (n (c .0)))
   put-twenty-seven (unknown-put o e) = (λ q. absurd (clash (refusal-is e) q (λ z. omega (arith, z))), λ c. absurd (omega (arith, o, c .1 .known)))
   put-twenty-seven (placed-put p e) = (λ q. absurd (clash (refusal-is e) q (λ z. omega (arith, z))), λ c. absurd (p .down (c .1 .up)))
@@ -136,13 +136,13 @@ module _ (x : Instance) (d : Draft) (y k : ℕ) (a : Drafted) where
     abbrev g : Good x
     g = within-good request x within
 
-    frame : Sound x d → IsUp x d y → InWindow x d y k → k ≡ lifted → ⊥
+    frame : Sound x d → IsLifted x d y → InWindow x d y k → k ≡ lifted → ⊥
     frame s u w = frame-real request x within (d .f) y k (some-length x g d s) (u .known) (w .not-late)
 
-    never : IsUp x d y → InWindow x d y k → Sound x d → RowOver x d y k ⊎ OutOfOrder x d y k → Sound x (afterPut x d y k) → ⊥
+    never : IsLifted x d y → InWindow x d y k → Sound x d → RowOver x d y k ⊎ OutOfOrder x d y k → Sound x (afterPut x d y k) → ⊥
     never u w s o t = ⊎-elim (had-room x g d sized y k u (frame s u w) s t) (had-order x g d sized y k u (frame s u w) s t) o
 
-    pub put-twenty-eight : PutWay x d y k a → (a .refusal ≡ 28) ↔ (Sound x d × IsUp x d y × InWindow x d y k × (RowOver x d y k ⊎ OutOfOrder x d y k))
+    pub put-twenty-eight : PutWay x d y k a → (a .refusal ≡ 28) ↔ (Sound x d × IsLifted x d y × InWindow x d y k × (RowOver x d y k ⊎ OutOfOrder x d y k))
     put-twenty-eight (unsound-put n e) = (λ q. absurd (clash (refusal-is e) q (λ z. omega (arith, z))), λ c. absurd (n (c .0)))
     put-twenty-eight (unknown-put o e) = (λ q. absurd (clash (refusal-is e) q (λ z. omega (arith, z))), λ c. absurd (omega (arith, o, c .1 .known)))
     put-twenty-eight (placed-put p e) = (λ q. absurd (clash (refusal-is e) q (λ z. omega (arith, z))), λ c. absurd (p .down (c .1 .up)))
@@ -150,7 +150,7 @@ module _ (x : Instance) (d : Draft) (y k : ℕ) (a : Drafted) where
     put-twenty-eight (no-place s u w o e) = (λ q. (s, u, w, o), λ c. refusal-is e)
     put-twenty-eight (puts s u w t e) = (λ q. absurd (clash (refusal-is e) q (λ z. omega (arith, z))), λ c. absurd (never u w s (c .3) t))
 
-    pub put-zero : PutWay x d y k a → (a .refusal ≡ 0) ↔ (Sound x d × IsUp x d y × InWindow x d y k × (RowOver x d y k → ⊥) × (OutOfOrder x d y k → ⊥))
+    pub put-zero : PutWay x d y k a → (a .refusal ≡ 0) ↔ (Sound x d × IsLifted x d y × InWindow x d y k × (RowOver x d y k → ⊥) × (OutOfOrder x d y k → ⊥))
     put-zero (unsound-put n e) = (λ q. absurd (clash (refusal-is e) q (λ z. omega (arith, z))), λ c. absurd (n (c .0)))
     put-zero (unknown-put o e) = (λ q. absurd (clash (refusal-is e) q (λ z. omega (arith, z))), λ c. absurd (omega (arith, o, c .1 .known)))
     put-zero (placed-put p e) = (λ q. absurd (clash (refusal-is e) q (λ z. omega (arith, z))), λ c. absurd (p .down (c .1 .up)))
@@ -184,11 +184,11 @@ put-theorem request d sized y k =
       own-number = own;
       twenty-six = of-request request (a .refusal) 26 (λ x. (Sound x d → ⊥) ⊎ (Unknown x y ⊎ IsPlaced x d y)) (above-numbers 26 (omega arith)) own
           (λ x w. put-twenty-six x d y k a (goes x w));
-      twenty-seven = of-request request (a .refusal) 27 (λ x. Sound x d × IsUp x d y × (InWindow x d y k → ⊥)) (above-numbers 27 (omega arith)) own
+      twenty-seven = of-request request (a .refusal) 27 (λ x. Sound x d × IsLifted x d y × (InWindow x d y k → ⊥)) (above-numbers 27 (omega arith)) own
           (λ x w. put-twenty-seven x d y k a (goes x w));
-      twenty-eight = of-request request (a .refusal) 28 (λ x. Sound x d × IsUp x d y × InWindow x d y k × (RowOver x d y k ⊎ OutOfOrder x d y k))
+      twenty-eight = of-request request (a .refusal) 28 (λ x. Sound x d × IsLifted x d y × InWindow x d y k × (RowOver x d y k ⊎ OutOfOrder x d y k))
           (above-numbers 28 (omega arith)) own (λ x w. put-twenty-eight x d y k a request w sized (goes x w));
-      puts = of-request request (a .refusal) 0 (λ x. Sound x d × IsUp x d y × InWindow x d y k × (RowOver x d y k → ⊥) × (OutOfOrder x d y k → ⊥)) not-zero own
+      puts = of-request request (a .refusal) 0 (λ x. Sound x d × IsLifted x d y × InWindow x d y k × (RowOver x d y k → ⊥) × (OutOfOrder x d y k → ⊥)) not-zero own
           (λ x w. put-zero x d y k a request w sized (goes x w));
       after = for-request request (a .refusal) 0 (λ x. Put x d y k (a .draft)) not-zero own (λ x w. put-after x d y k a request w sized (goes x w));
       unchanged = λ ne. ⊎-elim (λ w. put-kept (w .0) d y k a (goes (w .0) (w .1)) ne) (λ w. put-none request d y k (w .0) (w .1)) (within-or-not request);

@@ -19,7 +19,7 @@ use Rattle.model.specs.Described.{Describes}
 use Rattle.checker.specs.Checked.{accepted, checked, checkNumber}
 use Rattle.planned_table.specs.Outcome.{outcomeAnswer, outcomeBuffer}
 use Rattle.draft.specs.Draft.{lifted, frameOf, loadAt, framesHeld, rowCount, sumOf, rowIn, costAt, noDraft, start, lift, put, write}
-use Rattle.draft.specs.Kept.{Sized, IsUp, IsPlaced, LinkedBy, Sound}
+use Rattle.draft.specs.Kept.{Sized, IsLifted, IsPlaced, LinkedBy, Sound}
 use Rattle.draft.specs.declared.Draft.{Draft}
 
 -- What a row's sum is
@@ -31,9 +31,9 @@ AllPlaced x d = (y : ℕ) → y < length (x .jobs) → IsPlaced x d y
 -- It is 0 where all jobs are lifted, the plan's where none is; and one job put from nowhere into frame k adds its C + g to the row of k alone. So by every way
 -- from the one to the other it is the sum over the jobs placed in the row, each once.
 pub record SumMeans (x : Instance) (d : Draft) : Type 0 where
-  pub none : ((y : ℕ) → y < length (x .jobs) → IsUp x d y) → (r : ℕ) → sumOf x d r ≡ 0
+  pub none : ((y : ℕ) → y < length (x .jobs) → IsLifted x d y) → (r : ℕ) → sumOf x d r ≡ 0
   pub all : AllPlaced x d → (r : ℕ) → sumOf x d r ≡ row-sum (rowCount x d) (costs x) (framesHeld x d) r
-  pub one-more : (e : Draft) (y k r : ℕ) → IsUp x d y → (k ≡ lifted → ⊥) → e .f ≡ d .f → e .frames ≡ set (d .frames) y k
+  pub one-more : (e : Draft) (y k r : ℕ) → IsLifted x d y → (k ≡ lifted → ⊥) → e .f ≡ d .f → e .frames ≡ set (d .frames) y k
       → sumOf x e r ≡ sumOf x d r + pick (eqb (rowIn x d k) r) (costAt x d y) 0
 
 abbrev pub SumTheorem : Type 0
@@ -112,7 +112,7 @@ pub record LiftExact (request : List ℕ) (d : Draft) (y : ℕ) : Type 0 where
   -- "first refuses it by its own numbers, 7 and 8 included"
   pub own-number : (number : ℕ) → cycleOf request ≡ noCycle number → lift request d y .refusal ≡ number
   -- 26: a draft that is not sound, "an unknown job, a lift of a lifted job"
-  pub twenty-six : (lift request d y .refusal ≡ 26) ↔ OfRequest request (λ x. (Sound x d → ⊥) ⊎ (Unknown x y ⊎ IsUp x d y))
+  pub twenty-six : (lift request d y .refusal ≡ 26) ↔ OfRequest request (λ x. (Sound x d → ⊥) ⊎ (Unknown x y ⊎ IsLifted x d y))
   pub lifts : (lift request d y .refusal ≡ 0) ↔ OfRequest request (λ x. Sound x d × IsPlaced x d y)
   pub after : lift request d y .refusal ≡ 0 → OfRequest request (λ x. Lifted x d y (lift request d y .draft))
   -- 01: "A refusal returns its number, .. the state unchanged"
@@ -147,12 +147,12 @@ pub record PutExact (request : List ℕ) (d : Draft) (y k : ℕ) : Type 0 where
   -- 26: a draft that is not sound, "an unknown job, .. a put of a placed one"
   pub twenty-six : (put request d y k .refusal ≡ 26) ↔ OfRequest request (λ x. (Sound x d → ⊥) ⊎ (Unknown x y ⊎ IsPlaced x d y))
   -- "then with 27 a frame outside the window"
-  pub twenty-seven : (put request d y k .refusal ≡ 27) ↔ OfRequest request (λ x. Sound x d × IsUp x d y × (InWindow x d y k → ⊥))
+  pub twenty-seven : (put request d y k .refusal ≡ 27) ↔ OfRequest request (λ x. Sound x d × IsLifted x d y × (InWindow x d y k → ⊥))
   -- "then with 28 a row over f or a pair out of order with a placed job"
   pub twenty-eight : (put request d y k .refusal ≡ 28)
-      ↔ OfRequest request (λ x. Sound x d × IsUp x d y × InWindow x d y k × (RowOver x d y k ⊎ OutOfOrder x d y k))
+      ↔ OfRequest request (λ x. Sound x d × IsLifted x d y × InWindow x d y k × (RowOver x d y k ⊎ OutOfOrder x d y k))
   pub puts : (put request d y k .refusal ≡ 0)
-      ↔ OfRequest request (λ x. Sound x d × IsUp x d y × InWindow x d y k × (RowOver x d y k → ⊥) × (OutOfOrder x d y k → ⊥))
+      ↔ OfRequest request (λ x. Sound x d × IsLifted x d y × InWindow x d y k × (RowOver x d y k → ⊥) × (OutOfOrder x d y k → ⊥))
   pub after : put request d y k .refusal ≡ 0 → OfRequest request (λ x. Put x d y k (put request d y k .draft))
   pub unchanged : (put request d y k .refusal ≡ 0 → ⊥) → put request d y k .draft ≡ d
 
@@ -184,7 +184,7 @@ module _ (request : List ℕ) (d : Draft) (out : List ℕ) where
   pub record WriteExact : Type 0 where
     pub own-number : (number : ℕ) → cycleOf request ≡ noCycle number → writeAnswer .refusal ≡ number
     -- 26: a draft that is not sound, "or writing while a job is lifted"
-    pub twenty-six : (writeAnswer .refusal ≡ 26) ↔ OfRequest request (λ x. (Sound x d → ⊥) ⊎ ((y : ℕ) × IsUp x d y))
+    pub twenty-six : (writeAnswer .refusal ≡ 26) ↔ OfRequest request (λ x. (Sound x d → ⊥) ⊎ ((y : ℕ) × IsLifted x d y))
     -- "a short buffer gives 11 last"
     pub eleven : (writeAnswer .refusal ≡ 11) ↔ OfRequest request (λ x. Sound x d × AllPlaced x d × (length out < sizeOf x d))
     pub writes : (writeAnswer .refusal ≡ 0) ↔ OfRequest request (λ x. Sound x d × AllPlaced x d × (sizeOf x d ≤ length out))

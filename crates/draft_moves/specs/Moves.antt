@@ -12,7 +12,7 @@ use Rattle.model.specs.Plan.{Instance}
 use Rattle.model.specs.Within.{Within}
 use Rattle.model.specs.Described.{Accepted}
 use Rattle.draft.specs.Draft.{frameOf, loadAt, rowCount, sumOf, start, lift, put}
-use Rattle.draft.specs.Kept.{Sized, IsUp, IsPlaced, Sound}
+use Rattle.draft.specs.Kept.{Sized, IsLifted, IsPlaced, Sound}
 use Rattle.draft.specs.declared.Draft.{Draft}
 use Rattle.draft.specs.declared.Drafted.{Drafted}
 use Rattle.draft_moves.specs.Exactly.{AllPlaced, Unknown, InWindow, RowOver, OutOfOrder, Touched, Lifted, Put}
@@ -34,16 +34,16 @@ draftAfter request d (m ∷ ms) = draftAfter request (moved request d m .draft) 
 
 -- What a move answers on a draft that is sound: 26 is given only for an unknown job, a lift of a lifted one or a put of a placed one
 pub record LiftSays (x : Instance) (d : Draft) (y : ℕ) (a : Drafted) : Type 0 where
-  pub twenty-six : (a .refusal ≡ 26) ↔ (Unknown x y ⊎ IsUp x d y)
+  pub twenty-six : (a .refusal ≡ 26) ↔ (Unknown x y ⊎ IsLifted x d y)
   pub lifted : (a .refusal ≡ 0) ↔ IsPlaced x d y
   pub after : a .refusal ≡ 0 → Lifted x d y (a .draft)
   pub unchanged : (a .refusal ≡ 0 → ⊥) → a .draft ≡ d
 
 pub record PutSays (x : Instance) (d : Draft) (y k : ℕ) (a : Drafted) : Type 0 where
   pub twenty-six : (a .refusal ≡ 26) ↔ (Unknown x y ⊎ IsPlaced x d y)
-  pub twenty-seven : (a .refusal ≡ 27) ↔ (IsUp x d y × (InWindow x d y k → ⊥))
-  pub twenty-eight : (a .refusal ≡ 28) ↔ (IsUp x d y × InWindow x d y k × (RowOver x d y k ⊎ OutOfOrder x d y k))
-  pub placed : (a .refusal ≡ 0) ↔ (IsUp x d y × InWindow x d y k × (RowOver x d y k → ⊥) × (OutOfOrder x d y k → ⊥))
+  pub twenty-seven : (a .refusal ≡ 27) ↔ (IsLifted x d y × (InWindow x d y k → ⊥))
+  pub twenty-eight : (a .refusal ≡ 28) ↔ (IsLifted x d y × InWindow x d y k × (RowOver x d y k ⊎ OutOfOrder x d y k))
+  pub placed : (a .refusal ≡ 0) ↔ (IsLifted x d y × InWindow x d y k × (RowOver x d y k → ⊥) × (OutOfOrder x d y k → ⊥))
   pub after : a .refusal ≡ 0 → Put x d y k (a .draft)
   pub unchanged : (a .refusal ≡ 0 → ⊥) → a .draft ≡ d
 
@@ -65,7 +65,7 @@ pub record Holds (request : List ℕ) (x : Instance) (t : Table) (d : Draft) : T
   pub next-put : (y k : ℕ) → PutSays x d y k (put request d y k)
   pub next-write : (out : List ℕ) → sizeOf x d ≤ length out → (writeAnswer request d out .refusal ≡ 0) ↔ AllPlaced x d
   pub short-write : (out : List ℕ) → length out < sizeOf x d → (writeAnswer request d out .refusal ≡ 11) ↔ AllPlaced x d
-  pub lifted-write : (out : List ℕ) → (writeAnswer request d out .refusal ≡ 26) ↔ ((y : ℕ) × IsUp x d y)
+  pub lifted-write : (out : List ℕ) → (writeAnswer request d out .refusal ≡ 26) ↔ ((y : ℕ) × IsLifted x d y)
   pub written : (out : List ℕ) → writeAnswer request d out .refusal ≡ 0 → WrittenOut request d out x
 
 pub record Draftable (request bytes : List ℕ) : Type 0 where

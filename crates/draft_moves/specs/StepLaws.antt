@@ -18,7 +18,7 @@ use Rattle.model.specs.Plan.{Instance}
 use Rattle.model.specs.Good.{Good}
 use Rattle.model.specs.PlausibleLaws.{IsPlausible, plausible-says}
 use Rattle.draft.specs.Draft.{lifted, frameOf, loadAt, rowCount, sumOf, rowIn, costAt, afterLift, afterPut}
-use Rattle.draft.specs.Kept.{Sized, IsUp, IsPlaced, LinkedBy, Sound}
+use Rattle.draft.specs.Kept.{Sized, IsLifted, IsPlaced, LinkedBy, Sound}
 use Rattle.draft.specs.SumLaws.{placed-cost}
 use Rattle.draft.specs.declared.Draft.{Draft}
 use Rattle.draft_moves.specs.Exactly.{InWindow, RowOver, OutOfOrder, Touched, Lifted, Put}
@@ -38,7 +38,7 @@ module _ (x : Instance) (g : Good x) (d : Draft) (s : Sound x d) where
   pub row-low : (k : ℕ) → rowIn x d k < rowCount x d
   row-low k = mod-lt k (quotient-pos (x .h) (d .f) (g .some-time) (can .divides))
 
-module _ (x : Instance) (g : Good x) (d : Draft) (sized : Sized d) (y k : ℕ) (up : IsUp x d y) (frame : k ≡ lifted → ⊥) where
+module _ (x : Instance) (g : Good x) (d : Draft) (sized : Sized d) (y k : ℕ) (up : IsLifted x d y) (frame : k ≡ lifted → ⊥) where
   abbrev e : Draft
   e = afterPut x d y k
 
@@ -225,7 +225,7 @@ module _ (x : Instance) (g : Good x) (d : Draft) (sized : Sized d) (s : Sound x 
     other-rows = λ r ne. getD-set-other (d .loads) row r (loadAt x d row - costAt x d y) 0 ne;
   }
 
-  is-up : IsUp x lower y
+  is-up : IsLifted x lower y
   unfolding afterLift
   is-up = record { known = p .known; up = getD-set-same (d .frames) y lifted 0 job-low }
 

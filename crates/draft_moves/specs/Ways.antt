@@ -20,7 +20,7 @@ use Rattle.rules.specs.Rules.{inWindow}
 use Rattle.planned_table.specs.Outcome.{Outcome, handed, refusal}
 use Rattle.draft.specs.Draft.{lifted, isLifted, isDown, frameOf, loadAt, framesHeld, sumOf, rowIn, costAt, soundDraft}
 use Rattle.draft.specs.Draft.{kept, afterLift, afterPut, liftIn, putThere, putIn, noneLifted, writeIn, lift, put, write}
-use Rattle.draft.specs.Kept.{Sized, IsUp, IsPlaced, Sound}
+use Rattle.draft.specs.Kept.{Sized, IsLifted, IsPlaced, Sound}
 use Rattle.draft.specs.SoundLaws.{sound-theorem}
 use Rattle.draft.specs.declared.Draft.{Draft}
 use Rattle.draft.specs.declared.Drafted.{Drafted}
@@ -37,7 +37,7 @@ IfSo false A = A → ⊥
 pub data LiftWay (x : Instance) (d : Draft) (y : ℕ) (a : Drafted) : Type 0 where
   unsound-lift : (Sound x d → ⊥) → a ≡ kept 26 d → LiftWay x d y a
   unknown-lift : Unknown x y → a ≡ kept 26 d → LiftWay x d y a
-  lifted-lift : IsUp x d y → a ≡ kept 26 d → LiftWay x d y a
+  lifted-lift : IsLifted x d y → a ≡ kept 26 d → LiftWay x d y a
   lifts : Sound x d → IsPlaced x d y → a ≡ kept 0 (afterLift x d y) → LiftWay x d y a
 
 -- a put of job y into frame k
@@ -45,14 +45,14 @@ pub data PutWay (x : Instance) (d : Draft) (y k : ℕ) (a : Drafted) : Type 0 wh
   unsound-put : (Sound x d → ⊥) → a ≡ kept 26 d → PutWay x d y k a
   unknown-put : Unknown x y → a ≡ kept 26 d → PutWay x d y k a
   placed-put : IsPlaced x d y → a ≡ kept 26 d → PutWay x d y k a
-  outside-put : Sound x d → IsUp x d y → (InWindow x d y k → ⊥) → a ≡ kept 27 d → PutWay x d y k a
-  no-place : Sound x d → IsUp x d y → InWindow x d y k → RowOver x d y k ⊎ OutOfOrder x d y k → a ≡ kept 28 d → PutWay x d y k a
-  puts : Sound x d → IsUp x d y → InWindow x d y k → Sound x (afterPut x d y k) → a ≡ kept 0 (afterPut x d y k) → PutWay x d y k a
+  outside-put : Sound x d → IsLifted x d y → (InWindow x d y k → ⊥) → a ≡ kept 27 d → PutWay x d y k a
+  no-place : Sound x d → IsLifted x d y → InWindow x d y k → RowOver x d y k ⊎ OutOfOrder x d y k → a ≡ kept 28 d → PutWay x d y k a
+  puts : Sound x d → IsLifted x d y → InWindow x d y k → Sound x (afterPut x d y k) → a ≡ kept 0 (afterPut x d y k) → PutWay x d y k a
 
 -- a write
 pub data WriteWay (x : Instance) (d : Draft) (o : Outcome) : Type 0 where
   unsound-write : (Sound x d → ⊥) → o ≡ refusal 26 → WriteWay x d o
-  lifted-write : (y : ℕ) → IsUp x d y → o ≡ refusal 26 → WriteWay x d o
+  lifted-write : (y : ℕ) → IsLifted x d y → o ≡ refusal 26 → WriteWay x d o
   hands : Sound x d → AllPlaced x d → o ≡ handed (planTable x (d .f) (framesHeld x d)) → WriteWay x d o
 
 module _ (request : List ℕ) (x : Instance) (within : Within request x) where
@@ -99,7 +99,7 @@ module _ (request : List ℕ) (x : Instance) (within : Within request x) where
             go false p q r true e = absurd (false≢true e)
             go false p q r false e = λ w. omega (arith, leb-false (jobAt x y .release) (k * d .f) p, w .not-early)
 
-        there-way : Sound x d → IsUp x d y → PutWay x d y k (putThere x d y k)
+        there-way : Sound x d → IsLifted x d y → PutWay x d y k (putThere x d y k)
         unfolding putThere
         there-way s up =
             go (inWindow (d .f) (jobAt x y) k) refl (hasRoom (loadAt x d (rowIn x d k)) (d .f) (costAt x d y)) refl (soundDraft x (afterPut x d y k)) refl
@@ -144,7 +144,7 @@ module _ (request : List ℕ) (x : Instance) (within : Within request x) where
         says-every (isDown (d .frames)) (length (x .jobs))
         (λ y low. let down : isLifted (frameOf x d y) ≡ false = ne-eqb (frameOf x d y) lifted (all y low .down) in rw down)
 
-    one-up : (y : ℕ) → IsUp x d y → noneLifted x d ≡ false
+    one-up : (y : ℕ) → IsLifted x d y → noneLifted x d ≡ false
     unfolding noneLifted isDown
     one-up y u =
         every-fails (isDown (d .frames)) (length (x .jobs)) y (u .known)
@@ -154,7 +154,7 @@ module _ (request : List ℕ) (x : Instance) (within : Within request x) where
     unfolding write writeIn
     write-way = rw within (⊎-elim some none (some-up x d))
       where
-        some : ((y : ℕ) × IsUp x d y) → WriteWay x d (pick (both (noneLifted x d) (soundDraft x d)) (handed (planTable x (d .f) (framesHeld x d))) (refusal 26))
+        some : ((y : ℕ) × IsLifted x d y) → WriteWay x d (pick (both (noneLifted x d) (soundDraft x d)) (handed (planTable x (d .f) (framesHeld x d))) (refusal 26))
         some (y, u) = lifted-write y u (rw (one-up y u))
 
         none : AllPlaced x d → WriteWay x d (pick (both (noneLifted x d) (soundDraft x d)) (handed (planTable x (d .f) (framesHeld x d))) (refusal 26))

@@ -28,7 +28,7 @@ use Rattle.checker.specs.Accepts.{accepts-described}
 use Rattle.planned_table.specs.Outcome.{Outcome, handed, refusal, outcomeAnswer, outcomeBuffer}
 use Rattle.planner.specs.TableLaws.{handed-answer, handed-buffer}
 use Rattle.draft.specs.Draft.{lifted, frameOf, framesHeld, rowCount, sumOf, write}
-use Rattle.draft.specs.Kept.{Sized, IsUp, Sound}
+use Rattle.draft.specs.Kept.{Sized, IsLifted, Sound}
 use Rattle.draft.specs.MoveLaws.{write-none}
 use Rattle.draft.specs.SoundLaws.{sound-theorem}
 use Rattle.draft.specs.WriteLaws.{draft-is-plan}
@@ -147,10 +147,10 @@ module _ (request : List ℕ) (x : Instance) (within : Within request x) (d : Dr
   hand-number s all e =
       ⊎-elim (λ h. inl (number-of (short s all e h .0))) (λ h. inr (number-of (answer-is s all e h))) (lt-or-ge (length out) (sizeOf x d))
 
-  pub write-twenty-six : (answer .refusal ≡ 26) ↔ ((Sound x d → ⊥) ⊎ ((y : ℕ) × IsUp x d y))
+  pub write-twenty-six : (answer .refusal ≡ 26) ↔ ((Sound x d → ⊥) ⊎ ((y : ℕ) × IsLifted x d y))
   write-twenty-six = go goes
     where
-      go : WriteWay x d (write request d) → (answer .refusal ≡ 26) ↔ ((Sound x d → ⊥) ⊎ ((y : ℕ) × IsUp x d y))
+      go : WriteWay x d (write request d) → (answer .refusal ≡ 26) ↔ ((Sound x d → ⊥) ⊎ ((y : ℕ) × IsLifted x d y))
       go (unsound-write n e) = (λ q. inl n, λ c. number-of (refused-number (write request d) 26 out e .0))
       go (lifted-write y u e) = (λ q. inr (y, u), λ c. number-of (refused-number (write request d) 26 out e .0))
       go (hands s all e) = (
@@ -220,7 +220,7 @@ write-theorem request d sized out =
     let own : (number : ℕ) → cycleOf request ≡ noCycle number → a .refusal ≡ number = λ number e. number-of (none number e .0) in
     record {
       own-number = own;
-      twenty-six = of-request request (a .refusal) 26 (λ x. (Sound x d → ⊥) ⊎ ((y : ℕ) × IsUp x d y)) (above-numbers 26 (omega arith)) own
+      twenty-six = of-request request (a .refusal) 26 (λ x. (Sound x d → ⊥) ⊎ ((y : ℕ) × IsLifted x d y)) (above-numbers 26 (omega arith)) own
           (λ x w. write-twenty-six request x w d sized out);
       eleven = of-request request (a .refusal) 11 (λ x. Sound x d × AllPlaced x d × (length out < sizeOf x d)) not-eleven own
           (λ x w. write-eleven request x w d sized out);

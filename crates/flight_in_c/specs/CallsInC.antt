@@ -18,8 +18,10 @@ use Rattle.flight.specs.Calls as plain
 use Rattle.flight.specs.Timing.{KeepToC}
 use Rattle.flight.specs.Overruns.{overruns}
 use Rattle.flight.specs.Flight.{framesFlown, plainAnswered, plainAfter, Flight}
+use Rattle.lent.specs.Words.{zeros}
+use Rattle.lent.specs.State.{countIn, stateBytes}
+use Rattle.lent.specs.Entries.{pairBytes}
 use Rattle.bus.specs.Reply.{refused, reply, after}
-use Rattle.bus.specs.State.{countIn, stateBytes, pairBytes, zeros}
 use Rattle.bus.specs.Dispatch.{freshReply, freshBytes, frameReply, frameState, frameEntries, reportReply, reportState}
 
 -- a call of bus_next_frame, with the entries' buffer as it was lent, or of bus_report, with any bytes as its request, any task number and any ticks

@@ -26,8 +26,10 @@ use Rattle.flight.specs.Timing.{KeepToC}
 use Rattle.flight.specs.Counted.{as-many}
 use Rattle.flight.specs.Flight.{framesFlown, Flight}
 use Rattle.flight.specs.Joined.{Flies, checked-flight, planned-flight}
+use Rattle.lent.specs.Words.{zeros}
+use Rattle.lent.specs.State.{stateBytes}
+use Rattle.lent.specs.Entries.{pairBytes}
 use Rattle.bus.specs.Reply.{after}
-use Rattle.bus.specs.State.{stateBytes, pairBytes, zeros}
 use Rattle.bus.specs.Check.{checkReply}
 use Rattle.bus.specs.Dispatch.{freshReply, freshBytes, canServe, frameReply, frameState, frameEntries, reportReply, reportState}
 use Rattle.bus.specs.Plan.{planReply, planBuffer}

@@ -124,7 +124,7 @@ rows-padded size tasks k [] = refl
 rows-padded size tasks k (es ∷ rows) = rw (busy-padded size tasks es, rows-padded size tasks (k + 1) rows)
 
 module _ (bytes : List ℕ) (r : Request) (e : r ≡ answered (reading bytes)) where
-  tasks-are : r .tasks ≡ padded 16 noTask (tasksIn (reading bytes))
+  pub tasks-are : r .tasks ≡ padded 16 noTask (tasksIn (reading bytes))
   unfolding padded
   tasks-are = go (reading bytes) e
     where

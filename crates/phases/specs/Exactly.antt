@@ -91,7 +91,7 @@ pub record HowManyMeans (test : ℕ → Bool) (n : ℕ) : Type 0 where
   pub passes : test n ≡ true → howMany (n + 1) test ≡ howMany n test + 1
   pub fails : test n ≡ false → howMany (n + 1) test ≡ howMany n test
 
--- What more tries change: "A larger allowance never turns a table, 9 or 10 into another answer", so phases leave the last count alone, and not for 9.
+-- What more tries change: "A larger allowance never turns a table, 9 or 10 into another answer", so only phases that ended with 23 change, to a table or to 10.
 pub record MoreTries (was becomes : PhaseCounts) : Type 0 where
   pub same-refusal : becomes .refusal ≡ was .refusal
   pub tables : was .tables ≤ becomes .tables

@@ -24,7 +24,7 @@ zeros k = replicate k 0
 zeros-length : (k : ℕ) → length (zeros k) ≡ k
 zeros-length k = length-replicate k _
 
-drop-zeros : (k n : ℕ) → drop n (zeros k) ≡ zeros (k - n)
+pub drop-zeros : (k n : ℕ) → drop n (zeros k) ≡ zeros (k - n)
 drop-zeros k zero = let z : k - 0 ≡ k = omega arith in rw z
 drop-zeros zero (suc n) = let z : 0 - suc n ≡ 0 = omega arith in rw z
 drop-zeros (suc k) (suc n) = let z : suc k - suc n ≡ k - n = omega arith in rw z (drop-zeros k n)

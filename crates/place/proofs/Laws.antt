@@ -66,7 +66,7 @@ module _ (counts links : List ℕ) (n i : ℕ) (more : i < n) (g : Linked (take 
   few : getD counts i 0 ≤ 16
   few = rw (getD-take n counts i 0 more) at (g .few i)
 
-  same-links : linksAt (take n counts) (take (16 * n) links) i ≡ linksAt counts links i
+  pub same-links : linksAt (take n counts) (take (16 * n) links) i ≡ linksAt counts links i
   same-links =
       let c : ℕ = getD counts i 0 in
       let from : ℕ = 16 * i in

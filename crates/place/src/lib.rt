@@ -53,7 +53,7 @@ fn narrow(xs: [u32; 128], n: usize) -> [u16; 128]
 }
 
 // What is given, in one array: the problem is the same.
-fn pack(given: Given) -> [[u16; 128]; 5]
+pub fn pack(given: Given) -> [[u16; 128]; 5]
     requires { ⌜ Placeable given ⌝ }
     ensures { λ r. ⌜ (problemIn r (given .links) ≡ problemOf given) × (jobsIn r ≡ given .n) ⌝ }
 {
@@ -70,7 +70,7 @@ fn pack(given: Given) -> [[u16; 128]; 5]
 }
 
 // Entry i of part j. A function, because the prover knows the range of a returned u16 but not of one read from the array.
-fn entry(given: &[[u16; 128]; 5], j: usize, i: usize) -> u16
+pub fn entry(given: &[[u16; 128]; 5], j: usize, i: usize) -> u16
     requires { ⌜ (j < 5) × (i < 128) ⌝ }
     ensures { λ r. ⌜ r ≡ getD (getD (now (given .entry)) j []) i 0 ⌝ }
 {
@@ -102,7 +102,7 @@ fn lowered(place: &[u16; 128], l: u8, high: u16) -> u16
 }
 
 // The earliest frame that the links of job i leave it.
-fn lower_bound(given: &[[u16; 128]; 5], links: &[u8; 2048], place: &[u16; 128], i: usize) -> u16
+pub fn lower_bound(given: &[[u16; 128]; 5], links: &[u8; 2048], place: &[u16; 128], i: usize) -> u16
     requires { ⌜ LinksBack (countsIn (now given)) (now links) i ⌝ }
     ensures { λ r. ⌜ r ≡ earliest (take i (now (place .entry))) (linksAt (countsIn (now (given .entry))) (now (links .entry)) i) ⌝ }
 {
@@ -117,7 +117,7 @@ fn lower_bound(given: &[[u16; 128]; 5], links: &[u8; 2048], place: &[u16; 128], 
 }
 
 // The latest frame that the links of job i leave it.
-fn upper_bound(given: &[[u16; 128]; 5], links: &[u8; 2048], place: &[u16; 128], i: usize) -> u16
+pub fn upper_bound(given: &[[u16; 128]; 5], links: &[u8; 2048], place: &[u16; 128], i: usize) -> u16
     requires { ⌜ LinksBack (countsIn (now given)) (now links) i ⌝ }
     ensures { λ r. ⌜ r ≡ latest (take i (now (place .entry))) (linksAt (countsIn (now (given .entry))) (now (links .entry)) i) ⌝ }
 {
@@ -139,7 +139,7 @@ fn has_room(load: u16, f: u16, cost: u16) -> bool
 }
 
 // The test of job i in frame k: its row has room for it by the row's kept load, and its links leave it the frames from `low` to `high`.
-fn may_stand(
+pub fn may_stand(
     given: &[[u16; 128]; 5],
     links: &[u8; 2048],
     place: &[u16; 128],
@@ -163,7 +163,7 @@ fn may_stand(
 }
 
 // The row of the frame after one in this row.
-fn next_row(row: usize, rows: u16) -> usize
+pub fn next_row(row: usize, rows: u16) -> usize
     requires { ⌜ row < rows ⌝ }
     ensures { λ r. ⌜ r ≡ (row + 1) % rows ⌝ }
 {

@@ -2,7 +2,6 @@
 // standard error and nothing on standard output.
 use libc::STDERR_FILENO;
 use libc::STDIN_FILENO;
-use libc::STDOUT_FILENO;
 use planner::Searched;
 ghost use mathlib.Core.Path.{_≡_};
 ghost use Rattle.io.specs.Counts.{Counts};
@@ -22,6 +21,9 @@ fn plan(request: &[u8], out: &mut [u8]) -> Searched
 fn main() {
     let mut input = io::buffer();
     let n = io::read_full(STDIN_FILENO, &mut input);
+    if !streams::was_read(STDIN_FILENO, b"cannot read standard input") {
+        return;
+    }
     let mut out = io::buffer();
     let planned = plan(&input[..n], &mut out);
     if planned.refusal != 0 {
@@ -30,5 +32,5 @@ fn main() {
         return;
     }
     let length = planned.length;
-    io::write_all(STDOUT_FILENO, &out[..length]);
+    streams::print(&out[..length]);
 }

@@ -11,7 +11,7 @@ ghost use Rattle.model.specs.Within.{InLimits};
 ghost use Rattle.model.specs.Chosen.{problemAt, isTried};
 ghost use Rattle.model.specs.ChosenTries.{chooseWalk};
 ghost use Rattle.search.specs.Counting.{planWalk};
-ghost use Rattle.place.specs.Arrays.{placedWithin};
+ghost use Rattle.place.specs.Arrays.{Placeable, problemOf, placedWithin};
 ghost use Rattle.planner.specs.Choices.{Searchable, choiceWithin, noneChosen};
 
 // The frame length and the frame of each job of the chosen plan; or 9, 10 or 23. And the tries that were made.
@@ -22,16 +22,16 @@ pub struct ChosenPlan {
     pub tries: u64,
 }
 
-// The first plan with frames of length f, if it is found within the tries allowed.
-fn plan_with(cycle: Cycle, cost: [u32; 128], links: JobLinks, f: u16, allowed: u64) -> Placed
+// What the search for a plan with frames of length f is given.
+pub fn given_at(cycle: Cycle, cost: [u32; 128], links: JobLinks, f: u16) -> Given
     requires { ⌜ Searchable cycle cost links f ⌝ }
-    ensures { λ r. ⌜ r ≡ placedWithin allowed (planWalk (problemAt (instanceOf cycle) f) []) ⌝ }
+    ensures { λ r. ⌜ Placeable r × (problemOf r ≡ problemAt (instanceOf cycle) f) ⌝ }
 {
     let first = problem::first_frames(cycle, f);
     let end = problem::end_frames(cycle, f);
     let counts = links.counts;
     let places = links.places;
-    let given = Given {
+    Given {
         cost,
         first,
         end,
@@ -40,12 +40,20 @@ fn plan_with(cycle: Cycle, cost: [u32; 128], links: JobLinks, f: u16, allowed: u
         n: cycle.count,
         rows: cycle.h / f,
         f,
-    };
+    }
+}
+
+// The first plan with frames of length f, if it is found within the tries allowed.
+fn plan_with(cycle: Cycle, cost: [u32; 128], links: JobLinks, f: u16, allowed: u64) -> Placed
+    requires { ⌜ Searchable cycle cost links f ⌝ }
+    ensures { λ r. ⌜ r ≡ placedWithin allowed (planWalk (problemAt (instanceOf cycle) f) []) ⌝ }
+{
+    let given = given_at(cycle, cost, links, f);
     place::place_all(given, allowed)
 }
 
 // Whether H/rows is a plausible length.
-fn is_tried(cycle: Cycle, rows: u16) -> bool
+pub fn is_tried(cycle: Cycle, rows: u16) -> bool
     ensures { λ r. ⌜ r ≡ isTried (instanceOf cycle) rows ⌝ }
 {
     if rows == 0 {

@@ -7,7 +7,7 @@ fn show(name: &[u8], request: &[u8]) {
     io::print_decimal(STDOUT_FILENO, cycle.refusal as u64);
     io::write_all(STDOUT_FILENO, b" ");
     io::write_all(STDOUT_FILENO, name);
-    io::write_all(STDOUT_FILENO, b"\n");
+    streams::print(b"\n");
 }
 
 // 1 and 2: the count of tasks, and bytes that end too early.

@@ -7,10 +7,10 @@ fn print(name: &[u8], refusal: u8, same: bool) {
     io::write_all(STDOUT_FILENO, b" ");
     io::print_decimal(STDOUT_FILENO, refusal as u64);
     if same {
-        io::write_all(STDOUT_FILENO, b" same\n");
+        streams::print(b" same\n");
         return;
     }
-    io::write_all(STDOUT_FILENO, b" other\n");
+    streams::print(b" other\n");
 }
 
 fn show(name: &[u8], request: &[u8]) {

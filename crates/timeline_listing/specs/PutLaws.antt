@@ -1,16 +1,17 @@
 -- The laws by which a timeline is put: a turn of each loop and its end, and what the reader of the request gives.
 use Prim.Native.Nat.{ℕ, _+_, _-_, _≤_, _<_}
-use mathlib.Core.Path.{_≡_, refl, sym, ap}
+use mathlib.Core.Path.{_≡_, refl, sym}
 use mathlib.Core.List.{List, [], _∷_, _++_}
 use lib.ListN.{getD}
 use Rattle.cursor.specs.Padded.{padded, getD-padded-any}
-use Rattle.request.specs.Request.{Reading, readable, unreadable, reading, noTask}
+use Rattle.request.specs.Request.{reading, noTask}
 use Rattle.request.specs.Answers.{answered}
 use Rattle.request.specs.declared.Task.{Task}
 use Rattle.request.specs.declared.Request.{Request}
 use Rattle.text.specs.Text.{Filled, putAllOf}
 use Rattle.text.specs.TextLaws.{put-none, put-append}
 use Rattle.listing.specs.Listing.{tasksIn}
+use Rattle.listing.specs.ListingLaws.{tasks-are}
 use Rattle.job_records.specs.Timeline.{Timeline, recordsIn, busyOf}
 use Rattle.job_records.specs.Known.{recordHere, KnownFor, recordsFrom, recordsKnown, records-more, records-none, known-are}
 use Rattle.job_records.specs.declared.JobRecord.{JobRecord}
@@ -44,15 +45,7 @@ busy-padded size tasks [] = refl
 busy-padded size tasks (r ∷ rs) = rw (getD-padded-any size noTask tasks (r .task), busy-padded size tasks rs)
 
 module _ (bytes : List ℕ) (r : Request) (e : r ≡ answered (reading bytes)) where
-  tasks-are : r .tasks ≡ padded 16 noTask (tasksIn (reading bytes))
-  unfolding padded
-  tasks-are = go (reading bytes) e
-    where
-      go : (x : Reading) → r ≡ answered x → r .tasks ≡ padded 16 noTask (tasksIn x)
-      go (readable tasks pairs g) q = ap (λ (y : Request). y .tasks) q
-      go (unreadable number) q = ap (λ (y : Request). y .tasks) q
-
   -- the lines that are put are those of the timeline
   pub lines-are : (tl : Timeline) (k : JobsKnown) → KnownFor tl k
       → recordLines (recordsKnown k) ++ busyLine (busyOf (r .tasks) (recordsKnown k)) ≡ timelineLines (tasksIn (reading bytes)) (recordsIn tl)
-  lines-are tl k known = rw (known-are tl k known, tasks-are, busy-padded 16 (tasksIn (reading bytes)) (recordsIn tl))
+  lines-are tl k known = rw (known-are tl k known, tasks-are bytes r e, busy-padded 16 (tasksIn (reading bytes)) (recordsIn tl))

@@ -3,7 +3,7 @@
 from .. import library
 from ..cut import cut
 from .arguments import add_list, add_output, add_task, whole_number
-from .steps import is_list, look_ahead, say, write_request
+from .steps import is_list, look_ahead, say, request_answer
 
 NAME = "cut"
 HELP = "cuts a long transfer of a list in two; without -o, prints the list"
@@ -23,4 +23,4 @@ def arguments(parser):
 def run(asked):
     look_ahead([asked.list], asked.output)
     pieces = cut(asked.list, asked.task, asked.first, tell=say if is_list(asked.output) else None)
-    write_request(pieces, asked.output)
+    return request_answer(pieces, asked.output)

@@ -1,8 +1,13 @@
 """`bus fly`: what the dispatcher serves of a table, or of a list's own one, frame by frame."""
 
-from .. import calls, files, search
+from functools import partial
+
+from .. import calls, files
+from ..answer import Answer
+from ..dispatcher import served
+from ..rows import of_entry
 from ..sources import given
-from ..text import flight
+from ..text import flight_lines
 from .arguments import add_list, add_tries, whole_number
 from .steps import WrongUse, planned
 
@@ -23,6 +28,11 @@ def arguments(parser):
     add_tries(parser)
 
 
+def _record(request, frame):
+    """A served frame with the names of its entries."""
+    return {**frame._asdict(), "entries": [of_entry(request, entry) for entry in frame.entries]}
+
+
 def run(asked):
     if None not in (asked.table, asked.tries):
         raise WrongUse("with a table nothing is searched: leave out the table or --tries")
@@ -30,7 +40,8 @@ def run(asked):
     content = None if asked.table is None else files.read(asked.table)
     read = given(source)
     if content is None:
-        table = planned(read, search.TRIES if asked.tries is None else asked.tries)
+        table = planned(read, asked.tries)
     else:
         table = calls.check(read, content)
-    files.print_out(flight(read.request, table, asked.cycles))
+    frames = list(served(table, asked.cycles))
+    return Answer({"frames": list(map(partial(_record, read.request), frames))}, flight_lines(read.request, frames))

@@ -3,6 +3,7 @@
 import argparse
 
 from .. import files, table as tables
+from ..answer import Answer
 from ..heater import LOSSES, Heater
 from ..text import exchanges
 from .arguments import add_list, add_table, whole_number
@@ -39,6 +40,11 @@ def arguments(parser):
     parser.add_argument("--frames", metavar="N", type=whole_number(1, MOST_FRAMES), help=frames)
 
 
+def _record(one):
+    """A frame of the link, without its other entries."""
+    return {**one._asdict(), "frame": one.frame.number, "start": one.frame.start}
+
+
 def run(asked):
     if asked.frames is not None and asked.frames < len(asked.lose):
         raise WrongUse(f"the pattern is for {len(asked.lose)} frames, and --frames for {asked.frames}: make them fit")
@@ -46,4 +52,6 @@ def run(asked):
     table = files.read(asked.table)
     heater = Heater(source, table, asked.command, asked.reply)
     frames = asked.frames or len(asked.lose) or CYCLES * len(tables.decode(table).rows)
-    files.print_out(exchanges([heater.serve(lost) for lost in asked.lose.ljust(frames, ".")], heater))
+    records = [heater.serve(lost) for lost in asked.lose.ljust(frames, ".")]
+    told = {"toggles": heater.toggles, "answered": heater.answered, "on": heater.on, "under_way": heater.under_way}
+    return Answer({"frames": list(map(_record, records)), **told}, exchanges(records, heater))

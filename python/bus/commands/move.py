@@ -1,11 +1,12 @@
 """`bus move`: a table with one of its jobs moved to another frame by hand."""
 
 from .. import files, library
+from ..answer import Answer
 from ..draft import Draft
+from ..rows import of_table
 from ..sources import given
-from ..text import listing
 from .arguments import add_list, add_output, add_table, whole_number
-from .steps import look_ahead
+from .steps import look_ahead, one_input, table_words
 
 NAME = "move"
 HELP = "moves a job of a table to another frame; without -o, prints the new table"
@@ -22,9 +23,11 @@ def arguments(parser):
     frame = "the frame, counted from time 0: that of a carried job is its row plus the number of rows"
     parser.add_argument("frame", metavar="FRAME", type=number, help=frame)
     add_output(parser, "OUT", "write the table file")
+    parser.add_argument("--plain", action="store_true", help="print the lines of the program `plan`, with names")
 
 
 def run(asked):
+    one_input(asked.list, asked.table)
     source = files.read(asked.list)
     table = files.read(asked.table)
     look_ahead([asked.list, asked.table], asked.output)
@@ -33,7 +36,7 @@ def run(asked):
     draft.lift(asked.job)
     draft.put(asked.job, asked.frame)
     moved = draft.write()
-    if asked.output is None:
-        files.print_out(listing(read.request, moved))
-    else:
+    if asked.output is not None:
         files.write(asked.output, bytes(moved))
+    words = "" if asked.output else table_words(read.request, moved, asked.plain)
+    return Answer(of_table(read.request, moved), words)

@@ -2,12 +2,14 @@
 
 import os
 
-from .. import files, search, table as tables
+from .. import files, table as tables
+from ..answer import Answer
 from ..chart import chart
+from ..rows import of_entry
 from ..sources import given
-from ..text import timeline_csv, timeline_lines
+from ..text import busy, timeline_csv, timeline_lines
 from ..timeline import timeline
-from .arguments import add_list, add_tries
+from .arguments import add_list, add_svg, add_tries
 from .steps import WrongUse, look_ahead, planned
 
 NAME = "timeline"
@@ -22,7 +24,7 @@ def arguments(parser):
     given_table = "a table file of the list; without one the list is planned"
     parser.add_argument("table", metavar="TABLE", nargs="?", help=given_table)
     parser.add_argument("--csv", action="store_true", help="print the records as CSV, and no busy ticks")
-    parser.add_argument("--svg", metavar="FILE", help="write a picture: each job's window and frame")
+    add_svg(parser, "write a picture: each job's window and frame")
     add_tries(parser)
 
 
@@ -34,9 +36,11 @@ def run(asked):
     look_ahead([path for path in (asked.list, asked.table) if path is not None], asked.svg)
     read = given(source)
     if table is None:
-        table = bytes(planned(read, search.TRIES if asked.tries is None else asked.tries))
+        table = bytes(planned(read, asked.tries))
     records = timeline(read, table)
     if asked.svg is not None:
         title = "Timeline" if asked.list == "-" else f"{os.path.basename(asked.list)}: timeline"
         files.write(asked.svg, chart(read.request, tables.decode(table), records, title).encode())
-    files.print_out((timeline_csv if asked.csv else timeline_lines)(read.request, records))
+    jobs = [of_entry(read.request, one) for one in records]
+    words = (timeline_csv if asked.csv else timeline_lines)(read.request, records)
+    return Answer({"jobs": jobs, "busy": busy(read.request, records)}, words)

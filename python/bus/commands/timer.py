@@ -1,11 +1,12 @@
 """`bus timer`: a driver's register calls, tried on the timer of a table."""
 
 from .. import calls, files, programs
+from ..answer import Answer
 from ..sources import given
 from ..text import registers
 from ..timer import Timer
 from .arguments import add_list, add_table
-from .steps import WrongUse
+from .steps import one_input
 
 NAME = "timer"
 HELP = "runs register calls of a text file on the bus timer and prints the registers after each"
@@ -18,9 +19,14 @@ def arguments(parser):
     parser.add_argument("program", metavar="PROGRAM", help="a text file of register calls, one a line")
 
 
+def _record(done):
+    """A step of the program with what it answered and the registers after it."""
+    step = {"line": done.step.line, "call": done.step.text, "answer": done.answer}
+    return {**step, "registers": done.registers, "line_on": done.line_on}
+
+
 def run(asked):
-    if (asked.list, asked.table, asked.program).count("-") > 1:
-        raise WrongUse("standard input cannot be two files: name the others")
+    one_input(asked.list, asked.table, asked.program)
     source = files.read(asked.list)
     table = files.read(asked.table)
     program = files.read(asked.program)
@@ -29,6 +35,7 @@ def run(asked):
     try:
         steps = programs.read(program, read.request)
     except programs.ProgramFaults as found:
-        found.source = asked.program
+        found.source = files.called(asked.program)
         raise
-    files.print_out(registers(programs.run(steps, read.request, Timer(table, read))))
+    made = list(programs.run(steps, read.request, Timer(table, read)))
+    return Answer({"steps": list(map(_record, made))}, registers(made))

@@ -11,7 +11,7 @@ use bus_tests::library::Library;
 use bus_tests::plain::{self, Effort};
 use bus_tests::reference::phases::{counts, with_phase};
 use bus_tests::reference::{read_cycle, table};
-use bus_tests::sheet::{self, pigeons, request, Short};
+use bus_tests::sheet;
 use bus_tests::timing::{least, measure, median, quantile, Turns};
 
 /// More than the longest table.
@@ -151,37 +151,16 @@ fn by_hand(name: &str, request: Vec<u8>, turns: usize) -> Search {
     compared(name, request, effort, turns)
 }
 
-/// 128 jobs and 16 pairs in 64 rows: 118 jobs fill the even frames, and 10 jobs, in pairs and
-/// with windows across the end of the cycle, want the odd frames of their window.
-fn paired_pigeons(holes: i64) -> Vec<u8> {
-    let h = 64 * 13;
-    let mut tasks: Vec<Short> = vec![
-        (3, 26, 13, 0),
-        (3, 26, 13, 0),
-        (3, 26, 13, 0),
-        (2, 52, 13, 0),
-        (1, 208, 13, 0),
-        (1, 416, 13, 0),
-    ];
-    tasks.extend([(13, h, 2 * holes * 13, 54 * 13); 10]);
-    let mut pairs = vec![(0, 1), (1, 2), (0, 2), (0, 1), (1, 2), (0, 2)];
-    pairs.extend([(6, 7), (7, 8), (8, 9), (10, 11), (11, 12), (12, 13)]);
-    pairs.extend([(14, 15), (6, 8), (7, 9), (10, 13)]);
-    request(&tasks, &pairs)
-}
-
 fn searches_by_hand() -> Vec<Search> {
-    vec![
-        by_hand("10 jobs for 9 frames", pigeons(10, 9, 0), TURNS),
-        by_hand("10 jobs for 9 frames, g 4", pigeons(10, 9, 4), TURNS),
+    let searched = |(name, request): (&str, Vec<u8>)| {
+        let is_longest = name == hard::LONGEST;
         by_hand(
-            "11 jobs for 10 frames",
-            pigeons(11, 10, 0),
-            TURNS_OF_LONGEST,
-        ),
-        by_hand("16 pairs, 128 jobs", paired_pigeons(10), TURNS),
-        by_hand("16 pairs, 128 jobs, no plan", paired_pigeons(9), TURNS),
-    ]
+            name,
+            request,
+            if is_longest { TURNS_OF_LONGEST } else { TURNS },
+        )
+    };
+    hard::by_hand().into_iter().map(searched).collect()
 }
 
 fn hard_searches() -> Vec<Search> {
@@ -484,34 +463,19 @@ fn time_phases(name: &str, request: &[u8]) -> f64 {
     least(&times.library)
 }
 
-/// The longest table that there is: 128 jobs in 256 rows.
-fn longest_table() -> Vec<u8> {
-    let tasks = [
-        (1, 4, 1, 0),
-        (1, 8, 1, 1),
-        (1, 16, 1, 2),
-        (1, 32, 1, 3),
-        (1, 64, 1, 5),
-        (1, 128, 1, 6),
-        (1, 256, 1, 7),
-        (1, 256, 1, 10),
-    ];
-    request(&tasks, &[])
-}
-
 fn print_calls() {
     print_call_header("Short calls", MICROSECONDS);
     time_plan("P3, 4 tasks, 1 pair", &sheet::p3());
     time_plan("P5, no plan", &sheet::p5());
     time_plan("P9, 1 job, 256 rows", &sheet::p9());
-    time_plan("128 jobs, 256 rows", &longest_table());
+    time_plan("128 jobs, 256 rows", &sheet::longest_table());
     time_check("P3, 9 jobs, 6 rows", &sheet::p3());
-    time_check("16 pairs, 128 jobs, 64 rows", &paired_pigeons(10));
-    time_check("128 jobs, 256 rows", &longest_table());
-    time_rewrite("128 jobs, 256 rows", &longest_table());
+    time_check("16 pairs, 128 jobs, 64 rows", &hard::paired_pigeons(10));
+    time_check("128 jobs, 256 rows", &sheet::longest_table());
+    time_rewrite("128 jobs, 256 rows", &sheet::longest_table());
     time_next_frame("P1, 2 rows", &sheet::p1());
-    time_next_frame("128 jobs, 64 rows", &paired_pigeons(10));
-    time_next_frame("128 jobs, 256 rows", &longest_table());
+    time_next_frame("128 jobs, 64 rows", &hard::paired_pigeons(10));
+    time_next_frame("128 jobs, 256 rows", &sheet::longest_table());
 }
 
 /// The least seconds of the longer of the two.

@@ -10,7 +10,7 @@ use super::phases::{self, Shift};
 use super::table::{decode, encode, Entry};
 use super::timeline;
 use super::timer::Timer;
-use super::{checked, planned_within, request};
+use super::{checked, decided, planned_within, request};
 use crate::bus::RECORD_LEN;
 use crate::bus::{count_bytes, counts, BAD_BUFFER, DRAFT_LEN, ENTRIES_LEN, STATE_LEN, TRIES_LEN};
 use crate::bus::{put_counts, COUNTS_LEN};
@@ -41,6 +41,10 @@ pub fn plan(request: &[u8], allowance: u64, out: &mut [u8], tries: &mut [u8]) ->
     let (chosen, count) = planned_within(request, allowance);
     tries[..TRIES_LEN].copy_from_slice(&count.to_le_bytes());
     write_out(&encode(&chosen?), out)
+}
+
+pub fn decide(request: &[u8], out: &mut [u8]) -> Answer {
+    write_out(&encode(&decided(request)?), out)
 }
 
 pub fn phases(request: &[u8], task: u8, allowance: u64, counts: &mut [u8]) -> Answer {

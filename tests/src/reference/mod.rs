@@ -7,6 +7,7 @@ pub mod cut;
 pub mod cycle;
 pub mod dispatch;
 pub mod draft;
+pub mod exact;
 pub mod heater;
 pub mod join;
 pub mod listing;
@@ -20,6 +21,8 @@ pub mod table;
 pub mod timeline;
 pub mod timer;
 pub mod tries;
+
+use std::cell::RefCell;
 
 use crate::bus::Bus;
 use cycle::Cycle;
@@ -38,6 +41,35 @@ pub fn planned(bytes: &[u8]) -> Result<Table, i32> {
         Choice::Plan { f, frames } => Ok(table::of_plan(&cycle, f, &frames)),
         Choice::Refused(number) => Err(number),
         Choice::TooHard => unreachable!("the effort was unlimited"),
+    }
+}
+
+/// A request with what it was decided to.
+type Decision = (Vec<u8>, Result<Table, i32>);
+
+thread_local! {
+    /// The last one, since a request is mostly asked for again with another buffer.
+    static LAST: RefCell<Option<Decision>> = const { RefCell::new(None) };
+}
+
+/// The same, however long the search would be.
+pub fn decided(bytes: &[u8]) -> Result<Table, i32> {
+    LAST.with_borrow_mut(|last| match last {
+        Some((request, answer)) if request == bytes => answer.clone(),
+        _ => {
+            let answer = decision(bytes);
+            *last = Some((bytes.to_vec(), answer.clone()));
+            answer
+        }
+    })
+}
+
+fn decision(bytes: &[u8]) -> Result<Table, i32> {
+    let cycle = read_cycle(bytes)?;
+    match exact::choose(&cycle) {
+        Choice::Plan { f, frames } => Ok(table::of_plan(&cycle, f, &frames)),
+        Choice::Refused(number) => Err(number),
+        Choice::TooHard => unreachable!("it knows no limit"),
     }
 }
 

@@ -1,6 +1,7 @@
 //! The rounds of comparison, a kind in each file.
 
 pub mod cutting;
+pub mod deciding;
 pub mod drafting;
 pub mod heater;
 pub mod joining;
@@ -13,11 +14,12 @@ pub mod timer;
 use crate::comparison::Round;
 
 /// All kinds of rounds, for those who make every one.
-pub const ALL: [Round; 9] = [
+pub const ALL: [Round; 10] = [
     planning::round,
     joining::round,
     one_off::round,
     cutting::round,
+    deciding::round,
     drafting::round,
     phases::round,
     timer::round,

@@ -4,9 +4,9 @@ use mathlib.Core.Bool.{true}
 use native.Mathlib.Omega.{arith}
 use borrow.Author.Tests.{not-true, not-false}
 use Rattle.dispatcher.specs.FrameLaws.{frame-few}
+use Rattle.lent.specs.State.{isState}
+use Rattle.lent.specs.StateLaws.{state-long}
 use Rattle.bus.specs.ReplyLaws.{kept}
-use Rattle.bus.specs.State.{isState}
-use Rattle.bus.specs.StateLaws.{state-long}
 use Rattle.bus.specs.Dispatch.{frameOf}
 use Rattle.bus.specs.DispatchLaws.{no-state, no-room, frame-refused, frame-made}
 use borrow.Author.Needs.{needs}

@@ -2,9 +2,9 @@
 use mathlib.Core.Path.{_≡_, sym, _∙_}
 use mathlib.Core.Bool.{true}
 use borrow.Author.Tests.{not-true, not-false}
+use Rattle.lent.specs.State.{isState}
+use Rattle.lent.specs.StateLaws.{state-long}
 use Rattle.bus.specs.ReplyLaws.{kept}
-use Rattle.bus.specs.State.{isState}
-use Rattle.bus.specs.StateLaws.{state-long}
 use Rattle.bus.specs.Dispatch.{reportOf}
 use Rattle.bus.specs.DispatchLaws.{not-taken, report-refused, report-made}
 use borrow.Author.Needs.{needs}

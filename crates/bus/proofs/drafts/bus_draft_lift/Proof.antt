@@ -1,7 +1,7 @@
 -- The lent draft is read, and the draft after the lift is handed back.
 use mathlib.Core.Path.{_∙_}
 use Rattle.draft.specs.Draft.{lift}
-use Rattle.bus.specs.DraftBytes.{draftOf}
+use Rattle.lent.specs.DraftBytes.{draftOf}
 use Rattle.bus.specs.Drafts.{liftReply, liftBytes}
 use Rattle.bus.specs.ReplyLaws.{kept}
 use Rattle.bus.specs.DraftLaws.{too-short}

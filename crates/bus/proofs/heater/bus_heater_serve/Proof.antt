@@ -4,9 +4,11 @@ use mathlib.Core.Bool.{true}
 use native.Mathlib.Omega.{arith}
 use borrow.Author.Tests.{not-true, not-false}
 use Rattle.heater_link.specs.StepLaws.{few-entries}
+use Rattle.lent.specs.HeaterBytes.{isHeater}
+use Rattle.lent.specs.HeaterByteLaws.{heater-long}
 use Rattle.bus.specs.ReplyLaws.{kept}
-use Rattle.bus.specs.Heater.{isHeater, heaterExchange}
-use Rattle.bus.specs.HeaterLaws.{heater-long, no-heater, heater-no-room, exchange-refused, exchange-made}
+use Rattle.bus.specs.Heater.{heaterExchange}
+use Rattle.bus.specs.HeaterLaws.{no-heater, heater-no-room, exchange-refused, exchange-made}
 use borrow.Author.Needs.{needs}
 use Rattle.bus.proofs.heater.bus_heater_serve.Statement.{statement}
 use Rattle.bus.proofs.heater.bus_heater_serve.Tie as tie

@@ -2,9 +2,10 @@
 use mathlib.Core.Path.{_≡_, sym, _∙_}
 use mathlib.Core.Bool.{true}
 use borrow.Author.Tests.{not-true, not-false}
+use Rattle.lent.specs.TimerBytes.{isTimer}
+use Rattle.lent.specs.TimerByteLaws.{timer-long}
 use Rattle.bus.specs.ReplyLaws.{kept}
-use Rattle.bus.specs.Timer.{isTimer}
-use Rattle.bus.specs.TimerLaws.{timer-long, event-no-timer, event-made}
+use Rattle.bus.specs.TimerLaws.{event-no-timer, event-made}
 use borrow.Author.Needs.{needs}
 use Rattle.bus.proofs.registers.bus_timer_event.Statement.{statement}
 use Rattle.bus.proofs.registers.bus_timer_event.Tie as tie

@@ -3,9 +3,10 @@ use mathlib.Core.Path.{_≡_, sym, _∙_}
 use mathlib.Core.Bool.{true}
 use borrow.Author.Tests.{not-true, not-false}
 use Rattle.timer.specs.Registers.{registerRead}
+use Rattle.lent.specs.TimerBytes.{isTimer, timerOf}
+use Rattle.lent.specs.TimerByteLaws.{timer-long}
 use Rattle.bus.specs.ReplyLaws.{kept}
-use Rattle.bus.specs.Timer.{isTimer, timerOf}
-use Rattle.bus.specs.TimerLaws.{timer-long, read-no-timer, timer-read-refused, timer-read-made}
+use Rattle.bus.specs.TimerLaws.{read-no-timer, timer-read-refused, timer-read-made}
 use borrow.Author.Needs.{needs}
 use Rattle.bus.proofs.registers.bus_timer_read.Statement.{statement}
 use Rattle.bus.proofs.registers.bus_timer_read.Tie as tie

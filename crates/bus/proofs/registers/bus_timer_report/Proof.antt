@@ -5,9 +5,11 @@ use borrow.Author.Tests.{not-true, not-false}
 use Rattle.request.specs.Request.{reading}
 use Rattle.timer.specs.Registers.{reporting}
 use Rattle.timer.specs.declared.Changed.{Changed}
+use Rattle.lent.specs.TimerBytes.{isTimer, timerOf}
+use Rattle.lent.specs.TimerByteLaws.{timer-long}
 use Rattle.bus.specs.ReplyLaws.{kept}
-use Rattle.bus.specs.Timer.{isTimer, timerOf, timerReportReply, timerReportBytes}
-use Rattle.bus.specs.TimerLaws.{timer-long, change-no-timer, change-refused, change-made}
+use Rattle.bus.specs.Timer.{timerReportReply, timerReportBytes}
+use Rattle.bus.specs.TimerLaws.{change-no-timer, change-refused, change-made}
 use borrow.Author.Needs.{needs}
 use Rattle.bus.proofs.registers.bus_timer_report.Statement.{statement}
 use Rattle.bus.proofs.registers.bus_timer_report.Tie as tie

@@ -4,9 +4,11 @@ use mathlib.Core.Bool.{true}
 use native.Mathlib.Omega.{arith}
 use borrow.Author.Tests.{not-true, not-false}
 use Rattle.timer.specs.RegisterLaws.{serve-few}
+use Rattle.lent.specs.TimerBytes.{isTimer, timerOf}
+use Rattle.lent.specs.TimerByteLaws.{timer-long}
 use Rattle.bus.specs.ReplyLaws.{kept}
-use Rattle.bus.specs.Timer.{isTimer, timerOf, timerFrame}
-use Rattle.bus.specs.TimerLaws.{timer-long, serve-no-timer, serve-no-room, serve-none-due, timer-serve-refused, timer-serve-made}
+use Rattle.bus.specs.Timer.{timerFrame}
+use Rattle.bus.specs.TimerLaws.{serve-no-timer, serve-no-room, serve-none-due, timer-serve-refused, timer-serve-made}
 use borrow.Author.Needs.{needs}
 use Rattle.bus.proofs.registers.bus_timer_serve.Statement.{statement}
 use Rattle.bus.proofs.registers.bus_timer_serve.Tie as tie

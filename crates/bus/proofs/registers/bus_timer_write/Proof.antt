@@ -4,9 +4,11 @@ use mathlib.Core.Bool.{true}
 use borrow.Author.Tests.{not-true, not-false}
 use Rattle.timer.specs.Registers.{written}
 use Rattle.timer.specs.declared.Changed.{Changed}
+use Rattle.lent.specs.TimerBytes.{isTimer, timerOf}
+use Rattle.lent.specs.TimerByteLaws.{timer-long}
 use Rattle.bus.specs.ReplyLaws.{kept}
-use Rattle.bus.specs.Timer.{isTimer, timerOf, timerWriteReply, timerWriteBytes}
-use Rattle.bus.specs.TimerLaws.{timer-long, change-no-timer, change-refused, change-made}
+use Rattle.bus.specs.Timer.{timerWriteReply, timerWriteBytes}
+use Rattle.bus.specs.TimerLaws.{change-no-timer, change-refused, change-made}
 use borrow.Author.Needs.{needs}
 use Rattle.bus.proofs.registers.bus_timer_write.Statement.{statement}
 use Rattle.bus.proofs.registers.bus_timer_write.Tie as tie

@@ -1,0 +1,4 @@
+pub mod Choices
+pub mod ChoiceLaws
+pub mod DecideLaws
+pub mod Decided

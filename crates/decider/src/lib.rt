@@ -1,0 +1,122 @@
+// The exact planner: every request within the limits is decided, with no allowance. A request becomes the table of its chosen plan, or the
+// number that says why there is none: what the full search comes to. The plain search goes first, for a few tries; where they do not suffice, the
+// exact search is made.
+use cursor::Written;
+use cycle::Cycle;
+use exact_place::FirstPlacing;
+use problem::JobLinks;
+ghost use mathlib.Core.Path.{_≡_};
+ghost use mathlib.Core.List.{[]};
+ghost use Rattle.search.specs.Counting.{planWalk};
+ghost use Rattle.model.specs.Answers.{instanceOf};
+ghost use Rattle.model.specs.Within.{InLimits};
+ghost use Rattle.model.specs.Chosen.{problemAt};
+ghost use Rattle.model.specs.Chosen as chosen;
+ghost use Rattle.planned_table.specs.Outcome.{outcomeAnswer, outcomeBuffer};
+ghost use Rattle.planner.specs.Outcome.{outcome};
+ghost use Rattle.planner.specs.Choices.{Searchable};
+ghost use Rattle.exact_place.specs.Arrays.{foundAnswer};
+ghost use Rattle.decider.specs.Choices.{noneDecided, decision};
+
+// The frame length and the frame of each job of the chosen plan; or 9 or 10.
+struct Decision {
+    refusal: u8,
+    f: u16,
+    frames: [u16; 128],
+}
+
+// The first plan with frames of length f.
+fn plan_with(cycle: Cycle, cost: [u32; 128], links: JobLinks, f: u16) -> FirstPlacing
+    requires { ⌜ Searchable cycle cost links f ⌝ }
+    ensures { λ r. ⌜ r ≡ foundAnswer (planWalk (problemAt (instanceOf cycle) f) [] .found) ⌝ }
+{
+    let given = planner::choose::given_at(cycle, cost, links, f);
+    exact_place::place_all(given)
+}
+
+fn none_decided(refusal: u8) -> Decision
+    ensures { λ r. ⌜ r ≡ noneDecided refusal ⌝ }
+{
+    Decision {
+        refusal,
+        f: 0,
+        frames: [0; 128],
+    }
+}
+
+// The chosen plan: that of the first length with a plan.
+fn choose(cycle: Cycle) -> Decision
+    requires { ⌜ InLimits cycle ⌝ }
+    ensures { λ r. ⌜ r ≡ decision (chosen.choose (instanceOf cycle)) ⌝ }
+{
+    let cost = problem::costs(cycle);
+    let links = problem::links(cycle);
+    let mut some = false;
+    let mut rows: u16 = 1;
+    while rows <= 256 {
+        if !planner::choose::is_tried(cycle, rows) {
+            rows += 1;
+            continue;
+        }
+        some = true;
+        let f = cycle.h / rows;
+        let plan = plan_with(cycle, cost, links, f);
+        if plan.found {
+            let frames = plan.frames;
+            return Decision {
+                refusal: 0,
+                f,
+                frames,
+            };
+        }
+        rows += 1;
+    }
+    if some {
+        return none_decided(10);
+    }
+    none_decided(9)
+}
+
+fn refused(number: u8) -> Written
+    ensures { λ r. ⌜ r ≡ record { refusal = number; length = 0 } ⌝ }
+{
+    Written {
+        refusal: number,
+        length: 0,
+    }
+}
+
+// The chosen plan by the exact search, written into `out`.
+fn decide_exactly(request: &[u8], out: &mut [u8]) -> Written
+    ensures { λ r. ⌜ (r ≡ outcomeAnswer (outcome (now (request .entry))) (now (out .entry)))
+        × (now (out .exit) ≡ outcomeBuffer (outcome (now (request .entry))) (now (out .entry))) ⌝ }
+{
+    let cycle = cycle::read(request);
+    if cycle.refusal != 0 {
+        return refused(cycle.refusal);
+    }
+    let chosen = choose(cycle);
+    if chosen.refusal != 0 {
+        return refused(chosen.refusal);
+    }
+    let frames = chosen.frames;
+    planned_table::write(cycle, chosen.f, frames, out)
+}
+
+// What the plain search is allowed before the exact one begins: so a request that is planned at once costs what `plan` costs.
+pub const EASY_TRIES: u64 = 10_000;
+
+// The table of the request's chosen plan, written into `out`; or a refusal, from 1 to 11 or 17, which leaves `out` as it was.
+pub fn decide(request: &[u8], out: &mut [u8]) -> Written
+    ensures { λ r. ⌜ (r ≡ outcomeAnswer (outcome (now (request .entry))) (now (out .entry)))
+        × (now (out .exit) ≡ outcomeBuffer (outcome (now (request .entry))) (now (out .entry))) ⌝ }
+{
+    let easy = planner::plan(request, EASY_TRIES, out);
+    if easy.refusal != 23 {
+        return Written {
+            refusal: easy.refusal,
+            length: easy.length,
+        };
+    }
+    decide_exactly(request, out)
+}

@@ -1,0 +1,2 @@
+-- The pruned search, in arrays.
+pub mod Arrays
