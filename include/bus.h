@@ -87,7 +87,7 @@ extern "C" {
 
 /*
  * A state, timer, heater, entries, tries, draft or counts buffer that is too short, or bytes that are
- * no state, no timer or no heater.
+ * no state (its mark is neither 0 nor 1), no timer or no heater.
  */
 #define BUS_BAD_BUFFER 99
 
@@ -560,77 +560,107 @@ int32_t bus_draft_put(const uint8_t *request, size_t request_len, uint8_t job, u
 int32_t bus_draft_write(const uint8_t *request, size_t request_len, const uint8_t *draft, size_t draft_len,
                         uint8_t *out, size_t out_len);
 
-/* The names of the refusals; a call answers them negated. BUS_BAD_BUFFER stands above. Their words follow. */
+/*
+ * The refusals, each with its words; a call answers its number negated. BUS_BAD_BUFFER, 99, stands above.
+ * docs/FORMATS.md has the same words, with what a team can do.
+ */
 enum bus_refusal {
+    /* the request's bytes end inside a section or before its count */
     BUS_REQUEST_ENDS = 1,
+    /* no task, or more than 16 */
     BUS_TASK_COUNT = 2,
+    /* a transfer breaks 1 <= length <= deadline <= period or phase < period */
     BUS_BAD_TASK = 3,
+    /* more than 16 pairs */
     BUS_PAIR_COUNT = 4,
+    /*
+     * a pair does not name two transfers of the request, the one with the lower number first, or they
+     * have different periods
+     */
     BUS_BAD_PAIR = 5,
+    /* bytes follow the last section */
     BUS_BYTES_FOLLOW = 6,
+    /* the cycle, the least common multiple of all periods, is above 10,000 ticks */
     BUS_CYCLE_TOO_LONG = 7,
+    /* more than 128 jobs in a cycle */
     BUS_TOO_MANY_JOBS = 8,
+    /*
+     * no frame length is plausible: none divides the cycle into at most 256 rows, holds the longest
+     * transfer with its silent ticks and lies whole in each window of every transfer
+     */
     BUS_NO_FRAME_LENGTH = 9,
+    /*
+     * some length is plausible, so each window by itself holds a frame, and yet none of all placings
+     * keeps windows, capacity and order
+     */
     BUS_NO_PLAN = 10,
+    /*
+     * the buffer is shorter than the table, than the joined or cut request, or than the records of a
+     * timeline
+     */
     BUS_SHORT_BUFFER = 11,
+    /* bytes that are not a table */
     BUS_NO_TABLE = 12,
+    /*
+     * the table's cycle is not the request's, or its frame length is not plausible: too short for a
+     * transfer, or some window holds no whole frame of that length
+     */
     BUS_WRONG_SIZES = 13,
+    /* the table does not describe a plan of the request */
     BUS_NOT_A_PLAN = 14,
+    /* the state's row is none of the table */
     BUS_ROW_TOO_HIGH = 15,
+    /*
+     * there is no such task: the number of a report, or of the task whose phases are counted, is none
+     * of the request
+     */
     BUS_NO_SUCH_TASK = 16,
+    /*
+     * the request's third section has a count above 1, or more than 15 silent ticks are asked for;
+     * judged after 5 and before 6
+     */
     BUS_BAD_SILENT_TICKS = 17,
+    /* two requests that are joined have more than 16 tasks together */
     BUS_JOINED_TASKS = 18,
+    /* the request that is made by joining or cutting would have more than 16 pairs */
     BUS_MADE_PAIRS = 19,
+    /* two requests that are joined have different silent ticks */
     BUS_SILENT_TICKS_DIFFER = 20,
+    /*
+     * a one-off transfer is asked for with length 0, from a tick after its last, or until a tick after
+     * the second cycle
+     */
     BUS_BAD_ONE_OFF = 21,
+    /*
+     * no frame between the two ticks leaves enough unused time for the one-off transfer and its silent
+     * ticks
+     */
     BUS_NO_TIME = 22,
+    /* the search needs more tries than are allowed; whether there is a plan is not known */
     BUS_MORE_TRIES_NEEDED = 23,
+    /*
+     * the transfer to be cut is not one of the list, or its first piece has not from 1 tick to one
+     * less than its length
+     */
     BUS_BAD_CUT = 24,
+    /* a task is to be cut where there are 16 tasks already */
     BUS_NO_TASK_LEFT = 25,
+    /*
+     * there is no such job; or it is lifted already, or put without being lifted; or a table is
+     * written while a job is lifted; or the draft's frame length, loads or frames break the rules
+     */
     BUS_BAD_DRAFT = 26,
+    /* the frame is outside the job's window: it begins before the release or ends after the due time */
     BUS_OUTSIDE_WINDOW = 27,
+    /*
+     * the row would exceed the frame length, or a pair would be out of order with a job that is placed
+     */
     BUS_NO_ROOM = 28,
+    /* the timer has no register at the address, which is above 7 */
     BUS_NO_REGISTER = 29,
+    /* the two tasks of a heater link are no pair of the request */
     BUS_NO_SUCH_PAIR = 30
 };
-
-/*
- * The refusal numbers:
- *
- *    1  the request's bytes end inside a section or before its count
- *    2  no task, or more than 16
- *    3  a task breaks 1 <= C <= D <= T, P < T
- *    4  more than 16 pairs
- *    5  a pair breaks a < b < n, equal T
- *    6  bytes follow the request's last section
- *    7  the cycle is longer than 10,000 ticks
- *    8  more than 128 jobs
- *    9  no frame length is plausible
- *   10  some frame length is plausible, but there is no plan
- *   11  the buffer is shorter than the table, than the joined or cut request, or than the records
- *   12  the bytes are no table
- *   13  the table's cycle is not the request's, or its frame length is not plausible
- *   14  the table does not describe a plan
- *   15  the state's row is not below the table's number of rows
- *   16  the request has no such task
- *   17  the request's third section has a count above 1, or more than 15 silent ticks
- *   18  the two requests have more than 16 tasks together
- *   19  the two requests have more than 16 pairs together, or the request to be cut has 16
- *   20  the two requests differ in their silent ticks
- *   21  a one-off transfer of length 0, from a tick after its last, or until a tick after two cycles
- *   22  no frame has time for the one-off transfer
- *   23  the search needs more tries than are allowed; bus_decide tells what it would come to
- *   24  the request has no such task to cut, or the first piece is not from 1 to C - 1 ticks
- *   25  the request to be cut has 16 tasks already
- *   26  the draft is wrong for the request, the request has no such job, a lift of a lifted job, a put
- *       of a placed one, or a draft to be written in which a job is lifted
- *   27  the frame is outside the job's window
- *   28  the frame's row has no room for the job, or a pair is out of order with a placed job
- *   29  a register's address is above 7
- *   30  a, b is no pair of the request
- *   99  a state, timer, heater, entries, tries, draft or counts buffer is too short, the mark of a state
- *       is neither 0 nor 1, or the bytes are no timer or no heater
- */
 
 #ifdef __cplusplus
 }

@@ -1,6 +1,7 @@
 """Every refusal is one row: its number, what it speaks of, its details, and its words and advice as in docs/FORMATS.md.
 
-A number that is new is a row here and, if there is more to say than the words, a function in details.py.
+A number that is new is a row here and, if there is more to say than the words, a function in details.py. The enum of
+include/bus.h has the words too; the tests compare all three.
 """
 
 from typing import Callable, NamedTuple, Optional

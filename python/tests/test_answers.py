@@ -6,7 +6,7 @@ import subprocess
 
 import bus
 from bus import answer, commands
-from tests.helper import COMMAND, EXAMPLES, ROOT, Case, example, pigeons, request
+from tests.helper import COMMAND, EXAMPLES, Case, example, pigeons, request
 from tests.test_command import TEAM, TEAM_LISTING, TEAM_TABLE
 
 HEADER = "name,length,period,deadline,phase\n"
@@ -337,18 +337,3 @@ moved    transfer d: number 3 to 0
             found = bus.diff(path, self.file("x.csv", "\n".join(lines[:-1]) + "\n"))
             self.assertEqual(len(found.gone) + len(found.changed), 1, found)
             self.assertEqual(found.added + found.moved, ())
-
-
-class Papers(Case):
-    def shown(self, *lines):
-        """Whether README.md has these lines as an example."""
-        text = (ROOT / "README.md").read_text(encoding="utf-8")
-        self.assertTrue("".join(f"    {line}\n" for line in lines) in text, lines)
-
-    def test_readme(self):
-        """The table at the head of README.md and the difference of two tables are what is printed."""
-        self.shown("$ ./bus plan examples/team.csv --svg team.svg", *TEAM_TABLE.splitlines())
-        table, moved = self.file("t.table", bytes(bus.plan(TEAM))), self.folder / "m.table"
-        self.answered("move", TEAM, table, "heater.0", 3, "-o", moved)
-        told = self.answered("diff", table, moved, "--names", TEAM).splitlines()
-        self.shown("$ ./bus diff team.table moved.table --names examples/team.csv", *told)

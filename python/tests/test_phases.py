@@ -152,12 +152,8 @@ phases    answer
 
 
 class Command(Case):
-    def test_readme(self):
-        """The star tracker's phases, as README.md shows them."""
+    def test_printed(self):
         self.assertEqual(self.answered("phases", TEAM, "star"), STAR)
-        shown = ["$ ./bus phases examples/team.csv star", *STAR.splitlines()]
-        text = (ROOT / "README.md").read_text(encoding="utf-8")
-        self.assertTrue("".join(f"    {line}\n" for line in shown) in text, shown)
 
     def test_formats(self):
         """The example of docs/FORMATS.md: its bytes, and what is printed."""

@@ -72,13 +72,13 @@ class Calls(Case):
 
 class Refusals(Case):
     def test_rows_are_those_of_the_papers(self):
-        """Every number of MODEL.md's table has one row, and no other has; so it is with the header's list."""
+        """Every number of MODEL.md's table has one row, and no other has; so it is with the header's enum."""
         text = (ROOT / "docs" / "MODEL.md").read_text(encoding="utf-8").split("## 8. Refusals", 1)[1].split("\n## ")[0]
         model = [int(number) for number in re.findall(r"^\| [\w ,-]*\| (\d+) \|", text, re.MULTILINE)]
-        header = re.findall(r"^ \* +(\d+)  ", HEADER.split("The refusal numbers:")[1], re.MULTILINE)
+        header = re.findall(r"^    BUS_\w+ = (\d+),?$", HEADER, re.MULTILINE)
         rows = [row.number for row in refusals.ROWS]
         self.assertEqual(sorted(rows), sorted(model))
-        self.assertEqual(sorted([*rows, 99]), sorted(map(int, header)))
+        self.assertEqual(sorted(rows), sorted(map(int, header)))
 
     def test_each_is_told_with_its_details(self):
         """For every row with details a refusal of the library, which has some; a new row needs a new one here."""
@@ -174,9 +174,9 @@ class Registry(Case):
 
 
 class Notebook(Case):
-    def test_readme(self):
-        """The lines of README.md for a notebook run as they stand there, and every name that is offered is there."""
-        text = (ROOT / "README.md").read_text(encoding="utf-8")
+    def test_guide(self):
+        """The guide's lines for a notebook run as they stand there, and every name that is offered is there."""
+        text = (ROOT / "docs" / "GUIDE.md").read_text(encoding="utf-8")
         lines = re.search(r"^(    import .*\bbus\n(?:    .*\n)+)", text, re.MULTILINE).group(1)
         self.assertIn("bus.plan(", lines)
         self.addCleanup(os.chdir, os.getcwd())

@@ -204,18 +204,6 @@ class Command(Case):
         super().setUp()
         self.table = self.file("team.table", bytes(bus.plan(TEAM)))
 
-    def test_readme(self):
-        """Planned and asked, as README.md shows it."""
-        shown = [
-            "$ ./bus spacing examples/team.csv team.table",
-            *self.answered("spacing", TEAM, self.table).splitlines(),
-        ]
-        text = (ROOT / "README.md").read_text(encoding="utf-8")
-        self.assertTrue("".join(f"    {line}\n" for line in shown) in text, shown)
-        closer = self.file("closer.csv", TEAM.read_text().replace("magnet,4,40,,", "magnet,4,40,20,20"))
-        magnet = bus.spacing(closer, bus.plan(closer))[3]
-        self.assertIn(f"with a deadline of 20 and a phase of 20 from {magnet.least} to {magnet.most}.\n", text)
-
     def test_printed(self):
         """A line with the names of the columns, then one for each transfer, one below the other."""
         table = self.file("p7.table", P7_TABLE)

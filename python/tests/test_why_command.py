@@ -11,7 +11,7 @@ from unittest import mock
 import bus
 from bus import asking, child, command, core, hint, library, progress, search
 from bus.why_text import why_lines
-from tests.helper import ANSWERS, EXAMPLES, ROOT, Case, Terminal, children, delayed, request
+from tests.helper import ANSWERS, EXAMPLES, Case, Terminal, children, delayed, request
 from tests.small_lists import PLANNER, All, at_percent, small_list
 from tests.test_decide import SLOW
 
@@ -36,13 +36,6 @@ class Stories(Case):
             with self.subTest(name):
                 printed = (ANSWERS / "why" / f"{name}.txt").read_text(encoding="utf-8")
                 self.assertEqual(self.answered("why", EXAMPLES / name), printed)
-
-    def test_readme(self):
-        """The story of README.md is what the command prints."""
-        readme = (ROOT / "README.md").read_text(encoding="utf-8")
-        for words, part in ((["why", P5], slice(10)), (["room", TEAM], slice(-7, None))):
-            lines = self.answered(*words).splitlines(keepends=True)[part]
-            self.assertIn("".join(f"    {line}" for line in lines), readme)
 
     def test_p5(self):
         """The slowest transceiver, and a change of one transfer without one: both have a table, a step less none."""

@@ -19,6 +19,14 @@ class Words(Case):
         rows = [(str(row.number), row.words, row.advice) for row in refusals.ROWS]
         self.assertEqual(sorted(lines), sorted(rows))
 
+    def test_refusals_are_those_of_the_header(self):
+        """The comment above each name of the enum has the same words; 99 is no refusal of a row."""
+        text = (ROOT / "include" / "bus.h").read_text(encoding="utf-8")
+        names = re.search(r"^enum bus_refusal \{\n(.*?)^\};", text, re.MULTILINE | re.DOTALL).group(1)
+        told = re.findall(r"/\*(.*?)\*/\s+BUS_\w+ = (\d+)", names, re.DOTALL)
+        found = [(int(number), " ".join(words.replace("\n     *", " ").split())) for words, number in told]
+        self.assertEqual(found, [(row.number, row.words.replace("≤", "<=")) for row in refusals.ROWS])
+
     def test_sizes_are_those_of_the_header(self):
         text = (ROOT / "include" / "bus.h").read_text(encoding="utf-8")
         sizes = {name: int(value) for name, value in re.findall(r"#define BUS_(\w+)_BYTES (\d+)", text)}
