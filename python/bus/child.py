@@ -19,7 +19,7 @@ import time
 
 from . import library
 from .errors import Error
-from .worker import SIZE, framed
+from .worker import PAUSE, SIZE, framed
 
 SCRIPT = os.path.join(os.path.dirname(os.path.abspath(__file__)), "worker.py")
 
@@ -106,8 +106,13 @@ class Worker:
         return len(self._came) >= SIZE.size and len(self._came) >= SIZE.size + SIZE.unpack_from(self._came)[0]
 
     def _receive(self, seconds):
-        """Takes what comes within so many seconds, or for ever."""
-        if select.select([self._socket], [], [], seconds)[0]:
+        """Takes what comes within so many seconds, or within a pause.
+
+        The socket tells that the process is gone, but not where a fork of this one holds the other end open too.
+        """
+        coming = select.poll()
+        coming.register(self._socket, select.POLLIN)
+        if coming.poll(PAUSE if seconds is None else min(1000 * seconds, PAUSE)):
             try:
                 piece = self._socket.recv(65_536)
             except OSError:
@@ -115,6 +120,8 @@ class Worker:
             if not piece:
                 raise SearchEnded
             self._came += piece
+        elif self._process.poll() is not None:
+            raise SearchEnded
 
     @property
     def ready(self):

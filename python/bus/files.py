@@ -139,6 +139,7 @@ def _put_out(data):
         sys.stdout.buffer.write(data)
         sys.stdout.buffer.flush()
     except OSError as reason:
+        sys.stdout = None  # else Python tries the rest again at its end, and changes the exit status
         raise _fault("write to", "standard output", reason) from reason
 
 

@@ -5,6 +5,7 @@ arguments, and its answer goes back.
 """
 
 import _thread
+import contextlib
 import marshal
 import os
 import select
@@ -72,12 +73,13 @@ def main(parent, path):
     _thread.start_new_thread(_end_with, (int(parent),))
     library = _library(path)
     library.load()
-    _send(framed("ready"))
-    while True:
-        name, arguments = _next()
-        begin = time.monotonic()
-        answer = getattr(library, name)(*arguments)
-        _send(framed((answer, time.monotonic() - begin)))
+    with contextlib.suppress(OSError):  # the other end is gone
+        _send(framed("ready"))
+        while True:
+            name, arguments = _next()
+            begin = time.monotonic()
+            answer = getattr(library, name)(*arguments)
+            _send(framed((answer, time.monotonic() - begin)))
 
 
 if __name__ == "__main__":

@@ -6,6 +6,8 @@ import os
 import pty
 import random
 import re
+import select
+import shlex
 import signal
 import struct
 import subprocess
@@ -18,12 +20,20 @@ from pathlib import Path
 from unittest import mock
 
 import bus
-from bus import child
+from bus import child, search
 
 ROOT = Path(__file__).resolve().parents[2]
 EXAMPLES = ROOT / "examples"
 ANSWERS = Path(__file__).resolve().parent / "answers"
 COMMAND = [sys.executable, str(ROOT / "bus")]
+
+# Seconds that are over only if something hangs, and seconds in which all is done that is done at once, however busy the
+# machine is. What a test ends at once would go on for far longer.
+HANGS = 1800
+AT_ONCE = 30
+
+# The line that tells of long work. On a busy machine any work may be long.
+SIGN = re.compile("^bus: .*; Ctrl-C stops it, and nothing is written before it ends\n", re.MULTILINE)
 
 
 def example(name):
@@ -105,9 +115,9 @@ class Case(unittest.TestCase):
         return str(path)
 
     def run_bus(self, *words, stdin=b"", **more):
-        """Status, standard output and standard error of the command."""
-        done = subprocess.run([*COMMAND, *map(str, words)], input=stdin, capture_output=True, timeout=60, **more)
-        return done.returncode, done.stdout.decode(), done.stderr.decode()
+        """Status, standard output and standard error of the command, without the sign of long work."""
+        done = subprocess.run([*COMMAND, *map(str, words)], input=stdin, capture_output=True, timeout=HANGS, **more)
+        return done.returncode, done.stdout.decode(), SIGN.sub("", done.stderr.decode())
 
     def answered(self, *words, **more):
         status, out, err = self.run_bus(*words, **more)
@@ -128,6 +138,26 @@ class Case(unittest.TestCase):
         self.assertEqual(caught.exception.number, number)
         return caught.exception
 
+    def interrupted(self, asks, call):
+        """Ctrl-C while a process of its own works on what it was asked, the last of so many times: the call raises
+        KeyboardInterrupt, and no process is left."""
+        ask, left = child.Worker.ask, [None] * asks
+
+        def stop(*_):
+            raise KeyboardInterrupt
+
+        def asked(worker, *words):
+            ask(worker, *words)
+            left.pop()
+            if not left:
+                signal.setitimer(signal.ITIMER_REAL, 0.3)
+
+        child.kept.end()
+        self.addCleanup(signal.signal, signal.SIGALRM, signal.signal(signal.SIGALRM, stop))
+        with mock.patch.object(child.Worker, "ask", asked), self.assertRaises(KeyboardInterrupt):
+            call()
+        self.assertEqual(children(os.getpid()), [])
+
     def names_in_folder(self):
         return sorted(os.listdir(self.folder))
 
@@ -143,10 +173,13 @@ def running(pid):
 
 def as_from_a_terminal():
     """A process that a shell starts in the background ignores Ctrl-C, and what it starts does too."""
-    signal.signal(signal.SIGINT, signal.SIG_DFL)
+    for number in (signal.SIGINT, signal.SIGTERM):
+        signal.signal(number, signal.SIG_DFL)
+    signal.pthread_sigmask(signal.SIG_SETMASK, ())
 
 
 def children(pid):
+    """The processes that the main thread of a process has started and that it has not waited for, the oldest first."""
     with open(f"/proc/{pid}/task/{pid}/children", encoding="ascii") as file:
         return [int(word) for word in file.read().split()]
 
@@ -205,13 +238,41 @@ class Terminal(Case):
 
     def read(self, terminal, wanted=None):
         """What comes from the terminal, until it ends or the wanted pattern is there."""
-        received = ""
-        while wanted is None or not re.search(wanted, received):
+        received = b""
+        while wanted is None or not re.search(wanted, received.decode(errors="replace")):
+            self.assertTrue(select.select([terminal], [], [], HANGS)[0], received)
             try:
-                received += os.read(terminal, 4096).decode()
+                received += os.read(terminal, 4096)
             except OSError:
                 break
-        return received
+        return received.decode(errors="replace")
+
+    def told_of_short_work(self, status, *words):
+        """What the command prints, and what it tells on a terminal. Where it tells of long work it is tried again: on a
+        busy machine short work may take long."""
+        for _ in range(5):
+            started, terminal = self.on_a_terminal(*words)
+            told = self.read(terminal)
+            out, _ = started.communicate(timeout=HANGS)
+            self.assertEqual(started.returncode, status)
+            if "Ctrl-C stops it" not in told:
+                break
+        return out, told
+
+
+def typed(*words):
+    """The command as a person types it, with files of any name."""
+    return shlex.join(["bus", *map(str, words)])
+
+
+def without_culprits(told):
+    """What is told of a refusal, without those to blame: they are named only where they are known in an instant."""
+    return re.sub(r"to blame: [^;]*; ", "", told)
+
+
+def seldom():
+    """Work that is short tells nothing, however busy the machine is."""
+    return mock.patch.object(search, "SECONDS_BETWEEN_SIGNS", HANGS)
 
 
 def delayed(seconds_of):

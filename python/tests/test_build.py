@@ -1,6 +1,8 @@
 """The library is built once, by one process at a time, and a build ends with all that it started."""
 
 import os
+import re
+import shlex
 import shutil
 import signal
 import subprocess
@@ -9,13 +11,12 @@ import time
 import unittest
 
 from bus import build
-from tests.helper import COMMAND, EXAMPLES, ROOT, Case, as_from_a_terminal, running
+from tests.helper import COMMAND, EXAMPLES, HANGS, ROOT, Case, as_from_a_terminal, running
 from tests.test_command import TEAM_TABLE
 
 TEAM = str(EXAMPLES / "team.csv")
 ARCHIVE = ROOT / "target" / "staticlib" / "libbus.a"
-COPY = f"/bin/mkdir -p target/staticlib && /bin/cp {ARCHIVE} target/staticlib"
-SECONDS = 60
+COPY = f"/bin/mkdir -p target/staticlib && /bin/cp {shlex.quote(str(ARCHIVE))} target/staticlib"
 
 
 class FirstTime(Case):
@@ -52,13 +53,13 @@ class FirstTime(Case):
 
     def run_to_the_end(self, *words):
         started = self.start(*words)
-        out, err = started.communicate(timeout=SECONDS)
+        out, err = started.communicate(timeout=HANGS)
         return started.returncode, out, err
 
     def wait_for(self, there):
         begin = time.monotonic()
         while not there():
-            self.assertLess(time.monotonic() - begin, SECONDS)
+            self.assertLess(time.monotonic() - begin, HANGS)
             time.sleep(0.02)
 
     def number_in(self, name):
@@ -81,7 +82,7 @@ class Once(FirstTime):
         (self.folder / "go").touch()
         told = []
         for started in (first, second):
-            out, err = started.communicate(timeout=SECONDS)
+            out, err = started.communicate(timeout=HANGS)
             self.assertEqual((started.returncode, out), (0, TEAM_TABLE), err)
             told.append(err)
         self.assertEqual((self.folder / "calls").read_text(), "built\n")
@@ -90,7 +91,7 @@ class Once(FirstTime):
     def test_many_at_once(self):
         self.rt(f"echo built >> calls; /bin/sleep 1; {COPY}")
         started = [self.start("plan", TEAM) for _ in range(4)]
-        answers = [one.communicate(timeout=SECONDS)[0] for one in started]
+        answers = [one.communicate(timeout=HANGS)[0] for one in started]
         self.assertEqual(answers, [TEAM_TABLE] * 4)
         self.assertEqual((self.folder / "calls").read_text(), "built\n")
 
@@ -109,7 +110,7 @@ class Ended(FirstTime):
     def test_ctrl_c(self):
         started, pids = self.under_way()
         started.send_signal(signal.SIGINT)
-        _, err = started.communicate(timeout=SECONDS)
+        _, err = started.communicate(timeout=HANGS)
         self.assertEqual(started.returncode, -signal.SIGINT)
         self.assertTrue(err.endswith("bus: stopped\n"), err)
         self.gone(pids)
@@ -120,7 +121,7 @@ class Ended(FirstTime):
             with self.subTest(number):
                 started, pids = self.under_way()
                 started.send_signal(number)
-                started.communicate(timeout=SECONDS)
+                started.communicate(timeout=HANGS)
                 self.assertEqual(started.returncode, -number)
                 self.gone(pids)
                 for name in ("rt", "child"):
@@ -130,7 +131,7 @@ class Ended(FirstTime):
         """A build that was ended leaves no lock behind."""
         started, pids = self.under_way()
         started.kill()
-        started.communicate(timeout=SECONDS)
+        started.communicate(timeout=HANGS)
         self.gone(pids)
         self.rt(COPY)
         self.assertEqual(self.run_to_the_end("plan", TEAM)[:2], (0, TEAM_TABLE))
@@ -149,13 +150,16 @@ class Signs(FirstTime):
         """By the lines that `rt` prints: so many crates are proved, and the next one is at work."""
         total = len(build.crates_of("bus", (ROOT / "crates.txt").read_text(encoding="utf-8")))
         told = "echo 'rt: arith proved (1 s)'; echo 'rt: cursor proved (unchanged since it was last proved)'"
-        self.rt(f"{told}; /bin/sleep 2; {COPY}")
+        self.rt(f"{told}; while [ ! -e go ]; do /bin/sleep 0.05; done; {COPY}")
         module = self.folder / "python" / "bus" / "build.py"
         text = module.read_text(encoding="utf-8")
         module.write_text(text.replace("SECONDS_BETWEEN_SIGNS = 30", "SECONDS_BETWEEN_SIGNS = 1"), encoding="utf-8")
-        status, out, err = self.run_to_the_end("plan", TEAM)
-        self.assertEqual((status, out), (0, TEAM_TABLE), err)
-        self.assertRegex(err, rf"bus: still at it: crate 3 of {total}, [12] seconds so far\n")
+        started = self.start("plan", TEAM)
+        sign = re.compile(rf"bus: still at it: crate 3 of {total}, \d+ seconds so far\n")
+        self.assertTrue(any(sign.fullmatch(line) for line in started.stderr))
+        (self.folder / "go").touch()
+        out, err = started.communicate(timeout=HANGS)
+        self.assertEqual((started.returncode, out), (0, TEAM_TABLE), err)
 
 
 class Older(FirstTime):
@@ -246,5 +250,5 @@ class Guard(Case):
         for status in (0, 3):
             words = [sys.executable, "-I", guard.__file__, "sh", "-c", f"exit {status}"]
             started = subprocess.Popen(words, stdin=subprocess.PIPE, start_new_session=True)
-            self.assertEqual(started.wait(SECONDS), status)
+            self.assertEqual(started.wait(HANGS), status)
             started.stdin.close()

@@ -18,7 +18,7 @@ from bus.controller.c_names import is_prefix, task_names
 from bus.controller.comparison import HARNESS, library_path, prototypes
 from bus.controller.source import subjects
 from bus.version import __version__
-from tests.helper import COMMAND, EXAMPLES, Case, request
+from tests.helper import COMMAND, EXAMPLES, HANGS, Case, request
 
 TEAM = EXAMPLES / "team.csv"
 STRICT = ["-std=c99", "-Wall", "-Wextra", "-Wpedantic", "-Wconversion", "-Werror"]
@@ -34,7 +34,7 @@ def team():
 
 def built(*words, folder):
     """The C compiler, in a folder."""
-    subprocess.run(["gcc", *map(str, words)], cwd=folder, check=True, timeout=300)
+    subprocess.run(["gcc", *map(str, words)], cwd=folder, check=True, timeout=HANGS)
 
 
 def program(made, texts, folder, *flags):
@@ -302,7 +302,7 @@ class PlantedFaults(Case):
         texts = [self.texts(one, kind, fault) for one, (kind, fault, _) in zip(made, faults)]
         both = program(made, texts, self.folder, "-w", "-O1")
         for number, (kind, fault, _) in enumerate(faults):
-            done = subprocess.run([*both, str(number)], capture_output=True, text=True, timeout=60)
+            done = subprocess.run([*both, str(number)], capture_output=True, text=True, timeout=HANGS)
             self.assertEqual(done.returncode == 0, kind == "none", (kind, fault, done.stdout))
             if done.returncode == 1:
                 self.assertRegex(done.stdout, rf"^m{number}: .* and the library says ")
@@ -380,6 +380,6 @@ class SeededTables(Case):
         made = [Controller(f"t{number}", "t", b"", *pair) for number, pair in enumerate(found)]
         texts = [(one.header(), one.code(["Not compared yet."])) for one in made]
         both = program(made, texts, self.folder, *STRICT, *SANITIZED, "-O0", "-DSTEP=37u")
-        done = subprocess.run(both, capture_output=True, text=True, timeout=300)
+        done = subprocess.run(both, capture_output=True, text=True, timeout=HANGS)
         self.assertEqual((done.returncode, done.stderr), (0, ""), done.stdout[-2000:])
         self.assertEqual([line.split()[0] for line in done.stdout.splitlines()], [one.name for one in made])

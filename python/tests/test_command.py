@@ -1,13 +1,14 @@
 """Each subcommand from end to end, with real files: what it prints and writes, its status and its words."""
 
 import os
+import shlex
 import shutil
 import subprocess
 import unittest
 
 import bus
 from bus import lists
-from tests.helper import COMMAND, EXAMPLES, ROOT, Case, example
+from tests.helper import COMMAND, EXAMPLES, HANGS, ROOT, Case, example
 
 TEAM = EXAMPLES / "team.csv"
 TEAM_LISTING = """\
@@ -252,7 +253,7 @@ class WrongUse(Case):
         """A disk that takes only a part of the table, which shows as the file is written: the old table stays."""
         old = self.file("t", b"old")
         limited = ["bash", "-c", 'ulimit -f 0; exec "$@"', "bash", *COMMAND]
-        done = subprocess.run([*limited, "plan", TEAM, "-o", old], capture_output=True, timeout=60)
+        done = subprocess.run([*limited, "plan", TEAM, "-o", old], capture_output=True, timeout=HANGS)
         self.assertEqual(done.returncode, 2, done.stderr)
         self.assertIn(b"cannot write", done.stderr)
         self.assertEqual((self.folder / "t").read_bytes(), b"old")
@@ -268,20 +269,20 @@ class WrongUse(Case):
     def test_standard_output(self):
         """A full or closed standard output is a fault; a reader that goes away ends the command as any other."""
         with open("/dev/full", "wb") as full:
-            done = subprocess.run([*COMMAND, "plan", TEAM], stdout=full, stderr=subprocess.PIPE, timeout=60)
+            done = subprocess.run([*COMMAND, "plan", TEAM], stdout=full, stderr=subprocess.PIPE, timeout=HANGS)
         self.assertEqual(done.returncode, 2)
         self.assertIn(b"cannot write to standard output: No space left on device", done.stderr)
         closed = subprocess.run(
-            ["bash", "-c", 'exec "$@" >&-', "bash", *COMMAND, "plan", TEAM], capture_output=True, timeout=60
+            ["bash", "-c", 'exec "$@" >&-', "bash", *COMMAND, "plan", TEAM], capture_output=True, timeout=HANGS
         )
         self.assertEqual(closed.returncode, 2)
         self.assertIn(b"cannot write to standard output: it is closed", closed.stderr)
         long = ["fly", EXAMPLES / "p9.req", "--cycles", "400"]
         piped = ["bash", "-c", '"$@" | true; exit ${PIPESTATUS[0]}', "bash", *COMMAND, *long]
-        gone = subprocess.run(piped, capture_output=True, timeout=60)
+        gone = subprocess.run(piped, capture_output=True, timeout=HANGS)
         self.assertEqual((gone.returncode, gone.stderr), (141, b""))
         with open("/dev/full", "wb") as full:
-            done = subprocess.run([*COMMAND, "plan", "--help"], stdout=full, stderr=subprocess.PIPE, timeout=60)
+            done = subprocess.run([*COMMAND, "plan", "--help"], stdout=full, stderr=subprocess.PIPE, timeout=HANGS)
         self.assertEqual(done.returncode, 2)
 
 
@@ -291,7 +292,8 @@ class Build(Case):
     def setUp(self):
         super().setUp()
         shutil.copy(ROOT / "bus", self.folder)
-        shutil.copytree(ROOT / "python" / "bus", self.folder / "python" / "bus")
+        ignore = shutil.ignore_patterns("__pycache__")
+        shutil.copytree(ROOT / "python" / "bus", self.folder / "python" / "bus", ignore=ignore)
         source = self.folder / "crates" / "bus" / "src"
         source.mkdir(parents=True)
         (source / "lib.rt").write_text("")
@@ -309,7 +311,7 @@ class Build(Case):
     def first(self, *words):
         environment = {"PATH": str(self.tools)}
         done = subprocess.run(
-            [COMMAND[0], self.folder / "bus", *words], env=environment, capture_output=True, text=True, timeout=60
+            [COMMAND[0], self.folder / "bus", *words], env=environment, capture_output=True, text=True, timeout=HANGS
         )
         return done.returncode, done.stdout, done.stderr
 
@@ -317,7 +319,8 @@ class Build(Case):
         archive = ROOT / "target" / "staticlib" / "libbus.a"
         if not archive.exists():
             self.skipTest("no libbus.a to stand in for the built one")
-        self.rt(f'[ "$*" = "staticlib bus" ] && /bin/mkdir -p target/staticlib && /bin/cp {archive} target/staticlib')
+        copy = f"/bin/mkdir -p target/staticlib && /bin/cp {shlex.quote(str(archive))} target/staticlib"
+        self.rt(f'[ "$*" = "staticlib bus" ] && {copy}')
         status, out, err = self.first("plan", str(TEAM))
         self.assertEqual((status, out), (0, TEAM_TABLE), err)
         self.assertIn("bus: building the library by `rt staticlib bus`, which proves every function", err)

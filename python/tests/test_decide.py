@@ -4,13 +4,13 @@ import os
 import re
 import signal
 import subprocess
-import threading
 import time
 from unittest import mock
 
 import bus
 from bus import child, library, progress, search
-from tests.helper import COMMAND, EXAMPLES, ROOT, Case, Terminal, as_from_a_terminal, children, pigeons, running, unhex
+from tests.helper import AT_ONCE, COMMAND, EXAMPLES, HANGS, ROOT, Case, Terminal
+from tests.helper import as_from_a_terminal, children, pigeons, running, seldom, unhex
 
 LONG, LAST = EXAMPLES / "long-search.req", EXAMPLES / "last-try.req"
 LEFT_OPEN = ROOT / "tests" / "left-open.txt"
@@ -86,7 +86,7 @@ class Calls(Case):
             self.failed(1, *words, LONG, says=[f"{LONG}: refused 10: ", "what to do: "])
         for count in (13, 16):
             self.refused(10, bus.plan, pigeons(count))
-        self.assertLess(time.monotonic() - begin, 30)
+        self.assertLess(time.monotonic() - begin, AT_ONCE)
 
     def test_limits_are_kept(self):
         """With --tries the search has its limit, whatever a decision would come to."""
@@ -95,34 +95,31 @@ class Calls(Case):
         self.refused(23, lambda: bus.plan(LONG, tries=1000))
 
     def test_told_that_it_is_under_way(self):
-        """A decision cannot tell how far it is."""
-        told = []
-
-        ask = child.Worker.ask
+        """A decision cannot tell how far it is. This one is made when it was told of three times."""
+        told, calls, ask = [], [], child.Worker.ask
 
         def late(worker, *call):
             worker.waits = True
-            threading.Timer(0.3, ask, (worker, *call)).start()
+            calls.append((worker, *call))
+
+        def tell(used):
+            told.append(used)
+            if len(told) == 3:
+                ask(*calls.pop())
 
         with mock.patch.object(search, "SECONDS_BETWEEN_SIGNS", 0.05), mock.patch.object(child.Worker, "ask", late):
-            self.refused(10, lambda: bus.plan(LONG, tell=told.append))
-        self.assertGreater(len(told), 1)
+            self.refused(10, lambda: bus.plan(LONG, tell=tell))
+        self.assertGreaterEqual(len(told), 3)
         self.assertEqual(set(told), {None})
 
     def test_told_only_if_long(self):
         told = []
-        self.refused(10, lambda: bus.plan(LONG, tell=told.append))
+        with seldom():
+            self.refused(10, lambda: bus.plan(LONG, tell=told.append))
         self.assertEqual(told, [])
 
     def test_interrupted_in_a_notebook(self):
-        """The call raises KeyboardInterrupt, and no process is left but those that are kept for the next call."""
-        old = signal.signal(signal.SIGALRM, lambda *_: (_ for _ in ()).throw(KeyboardInterrupt))
-        self.addCleanup(signal.signal, signal.SIGALRM, old)
-        signal.setitimer(signal.ITIMER_REAL, 0.3)
-        with self.assertRaises(KeyboardInterrupt):
-            bus.plan(SLOW)
-        child.kept.end()
-        self.assertEqual(children(os.getpid()), [])
+        self.interrupted(1, lambda: bus.plan(SLOW))
 
 
 class Signs(Terminal):
@@ -135,22 +132,22 @@ class Signs(Terminal):
         self.assertEqual(self.seen(200, progress.Deciding, []), [])
 
     def test_ctrl_c(self):
-        """After about a second the line is there, a second later it tells of more; Ctrl-C takes it away at once."""
+        """After about a second the line is there, then it tells of more seconds; Ctrl-C takes it away at once."""
         source = self.file("slow.req", SLOW)
         for name in ("plan", "fly"):
             started, terminal = self.on_a_terminal(name, source)
-            received = self.read(terminal, "so far.*so far.*so far")
+            received = self.read(terminal, r", (\d+) s so far.*, (?!\1 s)\d+ s so far")
             (child,) = children(started.pid)
             begin = time.monotonic()
             os.write(terminal, b"\x03")
             received += self.read(terminal)
-            self.assertEqual(started.communicate(timeout=10)[0], b"")
+            self.assertEqual(started.communicate(timeout=HANGS)[0], b"")
             self.assertEqual(started.returncode, -signal.SIGINT)
-            self.assertLess(time.monotonic() - begin, 5)
+            self.assertLess(time.monotonic() - begin, AT_ONCE)
             self.assertFalse(running(child))
             seconds = [int(gone) for gone in re.findall(rf"\rbus: {LINE}, (\d+) s so far; Ctrl-C stops it", received)]
-            self.assertGreaterEqual(len(seconds), 3)
-            self.assertEqual(sorted(set(seconds)), seconds)
+            self.assertGreater(len(set(seconds)), 1)
+            self.assertEqual(sorted(seconds), seconds)
             self.assertRegex(received, r"\r +\rbus: stopped\r\n$")
             self.assertEqual(self.names_in_folder(), ["slow.req"])
 
@@ -159,16 +156,14 @@ class Signs(Terminal):
         words = [*COMMAND, "plan", self.file("slow.req", SLOW), "-o", str(self.folder / "table")]
         started = subprocess.Popen(words, stderr=subprocess.PIPE, preexec_fn=as_from_a_terminal)
         self.addCleanup(started.kill)
-        time.sleep(3.5)
-        started.send_signal(signal.SIGINT)
-        _, err = started.communicate(timeout=10)
         line = f"bus: {LINE}; Ctrl-C stops it, and nothing is written before it ends\n"
-        self.assertEqual(err.decode(), f"{line}bus: stopped\n")
+        self.assertEqual(started.stderr.readline().decode(), line)
+        time.sleep(2.5)
+        started.send_signal(signal.SIGINT)
+        _, err = started.communicate(timeout=HANGS)
+        self.assertEqual(err.decode(), "bus: stopped\n")
         self.assertEqual(self.names_in_folder(), ["slow.req"])
 
     def test_short_decisions_say_nothing(self):
         for path, status in ((EXAMPLES / "p1.req", 0), (LONG, 1)):
-            started, terminal = self.on_a_terminal("plan", path)
-            self.assertNotIn("deciding", self.read(terminal))
-            started.communicate(timeout=10)
-            self.assertEqual(started.returncode, status)
+            self.assertNotIn("deciding", self.told_of_short_work(status, "plan", path)[1])

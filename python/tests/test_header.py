@@ -2,6 +2,7 @@
 
 import os
 import re
+import shlex
 import subprocess
 from pathlib import Path
 
@@ -99,7 +100,8 @@ class Installed(Case):
         found = sorted(str(path.relative_to(self.folder)) for path in self.folder.rglob("*") if path.is_file())
         self.assertEqual(found, ["include/bus.h", "lib/libbus.a", "lib/pkgconfig/bus.pc"])
         program = self.folder / "interrupt"
-        build = f"gcc -std=c99 {EXAMPLES / 'interrupt.c'} $(pkg-config --cflags --libs bus) -o {program}"
+        source = shlex.quote(str(EXAMPLES / "interrupt.c"))
+        build = f"gcc -std=c99 {source} $(pkg-config --cflags --libs bus) -o {program}"
         self.assertIn("$(pkg-config --cflags --libs bus)", README)
         subprocess.run(["sh", "-c", build], cwd=self.folder, env=environment, check=True)
         done = subprocess.run([program], capture_output=True, check=True)

@@ -5,15 +5,17 @@ import inspect
 import io
 import itertools
 import os
+import signal
 import subprocess
 import threading
 import time
 import typing
 from contextlib import redirect_stderr, redirect_stdout
+from unittest import mock
 
 import bus
 from bus import child, drawing
-from tests.helper import COMMAND, EXAMPLES, ROOT, Case, children, pigeons, request
+from tests.helper import AT_ONCE, COMMAND, EXAMPLES, HANGS, ROOT, Case, children, pigeons, request, running
 
 TEAM = EXAMPLES / "team.csv"
 HEATER = EXAMPLES / "heater.csv", EXAMPLES / "heater.table"
@@ -236,8 +238,8 @@ class Processes(Case):
         """Ended from outside between two searches: another takes its place."""
         bus.plan(TEAM)
         (pid,) = children(os.getpid())
-        os.kill(pid, 9)
-        time.sleep(0.1)
+        os.kill(pid, signal.SIGKILL)
+        os.waitid(os.P_PID, pid, os.WEXITED | os.WNOWAIT)
         self.assertEqual(bus.plan(TEAM).frame, 20)
         self.assertNotIn(pid, children(os.getpid()))
 
@@ -258,27 +260,73 @@ class Processes(Case):
         for thread in threads:
             thread.start()
         for thread in threads:
-            thread.join(60)
+            thread.join(HANGS)
         self.assertEqual((faults, found), ([], wanted))
 
     def test_the_thread_that_started_it_ends(self):
         """A process outlives the thread that started it: another thread's call in it goes on."""
-        leave = threading.Event()
+        started, leave = threading.Event(), threading.Event()
 
         def start():
             with child.worker() as worker:
                 worker.started()
-            self.assertTrue(leave.wait(60))
+            started.set()
+            leave.wait(HANGS)
 
         thread = threading.Thread(target=start)
         thread.start()
-        while not child.kept._workers:
-            time.sleep(0.01)
+        self.assertTrue(started.wait(HANGS))
         with self.assertRaises(child.OutOfTime), child.worker() as worker:
             worker.ask("plan", bytes(pigeons(16)), 10**15)
             leave.set()
             thread.join()
             worker.answer(until=time.monotonic() + 0.5)
+
+    def test_a_fork_holds_the_socket(self):
+        """A process that is killed takes its worker along, in the middle of a call, though a fork of it lives on."""
+        code = (
+            "import os, signal\n"
+            "from bus import child\n"
+            "worker = child.Worker()\n"
+            "worker.started()\n"
+            f"worker.ask('plan', {bytes(pigeons(16))!r}, 10**15)\n"
+            "fork = os.fork()\n"
+            "if fork:\n"
+            "    print(worker._process.pid, fork, flush=True)\n"
+            "    os.kill(os.getpid(), signal.SIGKILL)\n"
+            "signal.pause()\n"
+        )
+        environment = {**os.environ, "PYTHONPATH": str(ROOT / "python")}
+        with subprocess.Popen([COMMAND[0], "-c", code], env=environment, stdout=subprocess.PIPE) as started:
+            worker, fork = map(int, started.stdout.readline().split())
+            self.addCleanup(os.kill, fork, signal.SIGKILL)
+            self.assertEqual(started.wait(HANGS), -signal.SIGKILL)
+            begin = time.monotonic()
+            while running(worker):
+                self.assertLess(time.monotonic() - begin, AT_ONCE)
+                time.sleep(0.01)
+            self.assertTrue(running(fork))
+
+    def test_a_fork_holds_both_ends(self):
+        """A fork of another thread while the process is being started: that it was ended is seen all the same."""
+        popen = subprocess.Popen
+
+        def forked(*words, **more):
+            pid = os.fork()
+            if pid == 0:
+                signal.pause()
+                os._exit(0)
+            self.addCleanup(os.waitpid, pid, 0)
+            self.addCleanup(os.kill, pid, signal.SIGKILL)
+            return popen(*words, **more)
+
+        with mock.patch.object(subprocess, "Popen", forked), child.worker() as worker:
+            worker.started()
+        with self.assertRaises(bus.SearchEnded) as caught, child.worker() as worker:
+            worker.ask("plan", bytes(pigeons(16)), 10**15)
+            os.kill(worker._process.pid, signal.SIGKILL)
+            worker.answer(until=time.monotonic() + HANGS)
+        self.assertIs(type(caught.exception), bus.SearchEnded)
 
     def test_a_time_limit(self):
         """A call that is not at its end is ended when its time is over, and the next one is answered."""
@@ -294,7 +342,7 @@ class Processes(Case):
         code = "import bus; from bus import child; bus.plan(%r); print(child.kept._workers[0]._process.pid)"
         environment = {**os.environ, "PYTHONPATH": str(ROOT / "python"), "PYTHONWARNINGS": "error"}
         words = [COMMAND[0], "-c", code % str(TEAM)]
-        done = subprocess.run(words, env=environment, capture_output=True, text=True, timeout=60)
+        done = subprocess.run(words, env=environment, capture_output=True, text=True, timeout=HANGS)
         self.assertEqual((done.returncode, done.stderr), (0, ""))
         pid = int(done.stdout)
         self.assertFalse(os.path.exists(f"/proc/{pid}"))

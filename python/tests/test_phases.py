@@ -9,10 +9,10 @@ import xml.etree.ElementTree as xml
 from unittest import mock
 
 import bus
-from bus import child, command, library, progress, search
+from bus import command, library, progress, search
 from bus.phases import CountsDiffer, runs_of, with_phase
-from tests.helper import COMMAND, EXAMPLES, OVERLOAD, ROOT, Case, Terminal
-from tests.helper import as_from_a_terminal, children, pigeons, request, running
+from tests.helper import AT_ONCE, COMMAND, EXAMPLES, HANGS, OVERLOAD, ROOT, Case, Terminal
+from tests.helper import as_from_a_terminal, children, pigeons, request, running, seldom
 from tests.test_picture import SVG, numbers, of_class, place
 
 TEAM = EXAMPLES / "team.csv"
@@ -280,7 +280,8 @@ class Signs(Terminal):
 
     def test_told_only_if_long(self):
         told = []
-        bus.phases(TEAM, "camera", tell=lambda *far: told.append(far))
+        with seldom():
+            bus.phases(TEAM, "camera", tell=lambda *far: told.append(far))
         self.assertEqual(told, [])
         with mock.patch.object(search, "SECONDS_BETWEEN_SIGNS", 0.05):
             bus.phases(pigeons(12), 0, tries=2_000_000, tell=lambda *far: told.append(far))
@@ -296,9 +297,9 @@ class Signs(Terminal):
         begin = time.monotonic()
         os.write(terminal, b"\x03")
         received += self.read(terminal)
-        self.assertEqual(started.communicate(timeout=10)[0], b"")
+        self.assertEqual(started.communicate(timeout=HANGS)[0], b"")
         self.assertEqual(started.returncode, -signal.SIGINT)
-        self.assertLess(time.monotonic() - begin, 5)
+        self.assertLess(time.monotonic() - begin, AT_ONCE)
         bar = r"planning each phase \[#*\.+\] \d+ of 195, about \d+ (s|min|h) left; Ctrl-C stops it"
         self.assertRegex(received, bar)
         self.assertRegex(received, r"\r +\rbus: stopped\r\n$")
@@ -321,10 +322,10 @@ class Stopped(Case):
 
     def ends(self, started, work, status):
         begin = time.monotonic()
-        out, err = started.communicate(timeout=10)
+        out, err = started.communicate(timeout=HANGS)
         self.assertEqual((started.returncode, out), (status, b""))
         while any(map(running, work)):
-            self.assertLess(time.monotonic() - begin, 5)
+            self.assertLess(time.monotonic() - begin, AT_ONCE)
             time.sleep(0.01)
         self.assertEqual(self.names_in_folder(), ["long.req"])
         return err.decode()
@@ -342,15 +343,9 @@ class Stopped(Case):
     def test_work_ended_from_outside(self):
         """The planning of phases is ended: the command says so and has no answer."""
         started, work = self.start()
-        os.kill(max(work), signal.SIGKILL)
+        os.kill(work[-1], signal.SIGKILL)
         self.assertIn("before it had an answer", self.ends(started, work, 2))
 
     def test_in_a_notebook(self):
-        """The call raises KeyboardInterrupt, and no process is left."""
-        old = signal.signal(signal.SIGALRM, lambda *_: (_ for _ in ()).throw(KeyboardInterrupt))
-        self.addCleanup(signal.signal, signal.SIGALRM, old)
-        signal.setitimer(signal.ITIMER_REAL, 0.3)
-        with self.assertRaises(KeyboardInterrupt):
-            bus.phases(pigeons(16), 0, tries=WITHOUT_END)
-        child.kept.end()
-        self.assertEqual(children(os.getpid()), [])
+        """While both are at work, the counting and the planning."""
+        self.interrupted(2, lambda: bus.phases(pigeons(16), 0, tries=WITHOUT_END))

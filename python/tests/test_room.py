@@ -6,10 +6,10 @@ from dataclasses import replace
 from unittest import mock
 
 import bus
-from bus import asking, library
+from bus import asking
 from bus.room_text import room_lines
 from tests import second
-from tests.helper import EXAMPLES, Case, delayed, request
+from tests.helper import AT_ONCE, EXAMPLES, Case, delayed, request, typed
 from tests.small_lists import PLANNER, at_percent, planned, small_list, with_task
 
 TEAM, CROWDED = EXAMPLES / "team.csv", EXAMPLES / "crowded.csv"
@@ -130,16 +130,17 @@ class Command(Case):
                          [each.longest.last for each in found.transfers])
 
     def test_refused(self):
-        self.failed(1, "room", CROWDED, says=["refused 10: ", f"`bus why {CROWDED}` tells what would do\n"])
+        self.failed(1, "room", CROWDED, says=["refused 10: ", f"`{typed('why', CROWDED)}` tells what would do\n"])
         self.failed(2, "room", TEAM, "--period", "0", says=["'0' is no number from 1 to 10000"])
 
     def test_end_by_time(self):
         """What is not decided is told as such: no figure is called the last that is not known to be."""
         wanted = bus.read_request(TEAM)
+        table = bus.plan(TEAM)
         with delayed(lambda *_: 0.05), mock.patch.object(asking, "QUICK_TRIES", 0):
             begin = time.monotonic()
-            found = bus.room(TEAM, seconds=0.7)
-            self.assertLess(time.monotonic() - begin, 5)
+            found = bus.room(TEAM, table, seconds=0.7)
+            self.assertLess(time.monotonic() - begin, AT_ONCE)
         self.assertTrue(found.ended)
         text = room_lines(found)
         self.assertIn("Not all was decided in the 0.7 s that were allowed", text)

@@ -6,9 +6,9 @@ import subprocess
 import time
 
 import bus
-from bus import child
+from bus import search
 from bus.library import MOST_TRIES
-from tests.helper import COMMAND, OVERLOAD, Case, as_from_a_terminal, children, pigeons, running
+from tests.helper import AT_ONCE, COMMAND, HANGS, OVERLOAD, Case, as_from_a_terminal, children, pigeons, running, seldom
 
 
 class Searches(Case):
@@ -29,11 +29,11 @@ class Searches(Case):
 
     def ends(self, started, child, number):
         begin = time.monotonic()
-        out, err = started.communicate(timeout=10)
-        self.assertLess(time.monotonic() - begin, 5)
+        out, err = started.communicate(timeout=HANGS)
+        self.assertLess(time.monotonic() - begin, AT_ONCE)
         self.assertEqual((started.returncode, out), (-number, b""))
         while running(child):
-            self.assertLess(time.monotonic() - begin, 5)
+            self.assertLess(time.monotonic() - begin, AT_ONCE)
             time.sleep(0.01)
         self.assertEqual(self.names_in_folder(), ["long.req"])
         return err.decode()
@@ -52,22 +52,17 @@ class Searches(Case):
         """The search alone is ended: the command says so and has no answer."""
         started, child = self.start()
         os.kill(child, signal.SIGKILL)
-        out, err = started.communicate(timeout=10)
+        out, err = started.communicate(timeout=HANGS)
         self.assertEqual((started.returncode, out), (2, b""))
         self.assertIn("before it had an answer", err.decode())
 
     def test_in_a_notebook(self):
-        """The call raises KeyboardInterrupt, and no process is left."""
-        child.kept.end()
-        old = signal.signal(signal.SIGALRM, lambda *_: (_ for _ in ()).throw(KeyboardInterrupt))
-        self.addCleanup(signal.signal, signal.SIGALRM, old)
-        signal.setitimer(signal.ITIMER_REAL, 0.3)
-        with self.assertRaises(KeyboardInterrupt):
-            bus.plan(pigeons(16), tries=MOST_TRIES)
-        self.assertEqual(children(os.getpid()), [])
+        """In the second call, behind the one that has few tries."""
+        self.interrupted(2, lambda: bus.plan(pigeons(16), tries=MOST_TRIES))
 
     def test_told_only_if_long(self):
         told = []
-        self.refused(10, lambda: bus.plan(pigeons(4), tell=told.append))
-        self.refused(23, lambda: bus.plan(pigeons(16), tries=2 * bus.TRIES, tell=told.append))
-        self.assertEqual(told, [])
+        with seldom():
+            self.refused(10, lambda: bus.plan(pigeons(4), tell=told.append))
+            self.refused(23, lambda: bus.plan(pigeons(16), tries=2 * bus.TRIES, tell=told.append))
+        self.assertEqual((told, search.SECONDS_BETWEEN_SIGNS), ([], 1.0))

@@ -9,7 +9,7 @@ from unittest import mock
 
 import bus
 from bus import details, library, progress, search
-from tests.helper import COMMAND, EXAMPLES, OVERLOAD, Case, Terminal
+from tests.helper import AT_ONCE, COMMAND, EXAMPLES, HANGS, OVERLOAD, Case, Terminal
 from tests.helper import as_from_a_terminal, pigeons, request, stored, unhex
 
 LONG, LAST = EXAMPLES / "long-search.req", EXAMPLES / "last-try.req"
@@ -158,26 +158,31 @@ class Signs(Terminal):
         begin = time.monotonic()
         os.write(terminal, b"\x03")
         received += self.read(terminal)
-        self.assertEqual(started.communicate(timeout=10)[0], b"")
+        self.assertEqual(started.communicate(timeout=HANGS)[0], b"")
         self.assertEqual(started.returncode, -signal.SIGINT)
-        self.assertLess(time.monotonic() - begin, 5)
+        self.assertLess(time.monotonic() - begin, AT_ONCE)
         used = self.numbers(received)
         self.assertGreaterEqual(len(used), 3)
         self.assertEqual(sorted(set(used)), used)
         self.assertEqual({allowed for _, allowed in used}, {WITHOUT_END})
         self.assertRegex(received, r"\r +\rbus: stopped\r\n$")
 
-    def test_to_the_end(self):
-        """A search of about four seconds, by the speed of this machine: the line is gone before the refusal."""
-        begin = time.monotonic()
-        self.refused(23, lambda: bus.plan(pigeons(16), tries=200_000_000))
-        tries = int(4 * 200_000_000 / (time.monotonic() - begin))
-        source = self.file("long.req", bytes(pigeons(16)))
+    def searched(self, source, tries):
+        """What is seen of a search that needs more tries than these."""
         started, terminal = self.on_a_terminal("plan", source, "--tries", tries)
         received = self.read(terminal)
-        out, _ = started.communicate(timeout=10)
+        out, _ = started.communicate(timeout=HANGS)
         self.assertEqual((started.returncode, out), (3, b""))
-        used = self.numbers(received)
+        return received
+
+    def test_to_the_end(self):
+        """A search so long that a line is there, by the speed of this machine: it is gone before the refusal."""
+        source = self.file("long.req", bytes(pigeons(16)))
+        for tries in (500_000_000 * 3**times for times in range(6)):
+            received = self.searched(source, tries)
+            used = self.numbers(received)
+            if used:
+                break
         self.assertGreater(len(used), 0)
         self.assertTrue(all(0 < number <= allowed == tries for number, allowed in used), used)
         last = received.rsplit("Ctrl-C stops it", 1)[1]
@@ -190,14 +195,14 @@ class Signs(Terminal):
         words = [*COMMAND, "plan", source, "--tries", str(WITHOUT_END)]
         started = subprocess.Popen(words, stderr=subprocess.PIPE, preexec_fn=as_from_a_terminal)
         self.addCleanup(started.kill)
-        time.sleep(3.5)
-        started.send_signal(signal.SIGINT)
-        _, err = started.communicate(timeout=10)
         line = "bus: searching for a plan; Ctrl-C stops it, and nothing is written before it ends\n"
-        self.assertEqual(err.decode(), f"{OVERLOAD}{line}bus: stopped\n")
+        for told in (OVERLOAD, line):
+            self.assertEqual(started.stderr.readline().decode(), told)
+        time.sleep(2.5)
+        started.send_signal(signal.SIGINT)
+        _, err = started.communicate(timeout=HANGS)
+        self.assertEqual(err.decode(), "bus: stopped\n")
 
     def test_short_searches_say_nothing(self):
-        started, terminal = self.on_a_terminal("plan", EXAMPLES / "p1.req")
-        self.assertEqual(self.read(terminal), "")
-        out, _ = started.communicate(timeout=10)
-        self.assertEqual((started.returncode, out[:8]), (0, b"row  fir"))
+        out, told = self.told_of_short_work(0, "plan", EXAMPLES / "p1.req", "--tries", bus.TRIES)
+        self.assertEqual((out[:8], told), (b"row  fir", ""))

@@ -7,7 +7,7 @@ from bus import asking, core, findings, halving, library
 from bus.changes import with_period
 from bus.why import all_findings
 from tests import second
-from tests.helper import EXAMPLES, Case, request, stored, unhex
+from tests.helper import EXAMPLES, HANGS, Case, request, stored, unhex
 from tests.small_lists import PLANNER, All, Smaller, seeded_refusals, with_task
 
 SEEDS = 240
@@ -184,7 +184,7 @@ class Lengths(Case):
 
     def test_rows_are_the_reason(self):
         """P10: frames of 1 tick would do, but for 257 rows."""
-        out = self.answered("why", EXAMPLES / "p10.req")
+        out = self.answered("why", EXAMPLES / "p10.req", "--seconds", HANGS)
         rows = "257 rows, and a table has at most 256: that is the reason"
         self.assertIn(f"  1: passes every transfer, but makes {rows}\n", out)
         says = ["frames of 1 tick would fit into every window, but a cycle of 257 ticks would have 257 rows of them"]
