@@ -43,10 +43,10 @@ fn read_rows(cycle: Cycle, table: &[u8], height: u16, f: u16) -> Read
         return refused(14, cycle);
     }
     let frames = read.frames;
-    if !walk::rows_kept(table, height, jobs, frames, count) {
+    if !walk::rows_kept(table, height, jobs, &frames, count) {
         return refused(14, cycle);
     }
-    if !rules::rules_kept(cycle, frames, height, f) {
+    if !rules::rules_kept(cycle, &frames, height, f) {
         return refused(14, cycle);
     }
     Read {

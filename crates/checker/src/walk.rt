@@ -94,14 +94,14 @@ pub(super) fn read_frames(table: &[u8], height: u16, jobs: [Job; 128], count: us
 // Whether some job is the one named and stands in frame k.
 fn is_there(
     jobs: [Job; 128],
-    frames: [u16; 128],
+    frames: &[u16; 128],
     count: usize,
     task: u8,
     number: u8,
     k: u16,
 ) -> bool
     requires { ⌜ count ≤ 128 ⌝ }
-    ensures { λ r. ⌜ r ≡ some count (isThere (firsts count noJob jobs) (firsts count 0 frames) task number k) ⌝ }
+    ensures { λ r. ⌜ r ≡ some count (isThere (firsts count noJob jobs) (firsts count 0 (now (frames .entry))) task number k) ⌝ }
 {
     let mut y: usize = 0;
     while y < count {
@@ -124,11 +124,11 @@ fn row_kept(
     height: u16,
     row: u16,
     jobs: [Job; 128],
-    frames: [u16; 128],
+    frames: &[u16; 128],
     count: usize,
 ) -> bool
     requires { ⌜ (first ≤ 200000) × (row < height) × (height ≤ 256) × (count ≤ 128) ⌝ }
-    ensures { λ r. ⌜ r ≡ rowKept (firsts count noJob jobs) (firsts count 0 frames) count height row (entriesIn (now (table .entry)) n first) ⌝ }
+    ensures { λ r. ⌜ r ≡ rowKept (firsts count noJob jobs) (firsts count 0 (now (frames .entry))) count height row (entriesIn (now (table .entry)) n first) ⌝ }
 {
     let mut at = first;
     let mut e: u8 = 0;
@@ -150,11 +150,11 @@ pub(super) fn rows_kept(
     table: &[u8],
     height: u16,
     jobs: [Job; 128],
-    frames: [u16; 128],
+    frames: &[u16; 128],
     count: usize,
 ) -> bool
     requires { ⌜ (height ≤ 256) × (count ≤ 128) ⌝ }
-    ensures { λ r. ⌜ r ≡ rowsKept (firsts count noJob jobs) (firsts count 0 frames) count height 0 (rowsOf (now (table .entry)) height) ⌝ }
+    ensures { λ r. ⌜ r ≡ rowsKept (firsts count noJob jobs) (firsts count 0 (now (frames .entry))) count height 0 (rowsOf (now (table .entry)) height) ⌝ }
 {
     let mut at: usize = 7;
     let mut row: u16 = 0;

@@ -167,7 +167,7 @@ fn is_sound(cycle: Cycle, draft: Draft) -> bool
     let count = standing.count;
     let part = with_jobs(cycle, their_jobs, count);
     let rows = cycle.h / draft.f;
-    if !rules::rules_kept(part, their_frames, rows, draft.f) {
+    if !rules::rules_kept(part, &their_frames, rows, draft.f) {
         return false;
     }
     let cost = problem::costs(part);

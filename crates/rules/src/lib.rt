@@ -37,9 +37,9 @@ pub fn in_window(job: Job, k: u16, f: u16) -> bool
 }
 
 // Whether each job's frame lies in its window.
-fn windows_kept(jobs: [Job; 128], frames: [u16; 128], count: usize, f: u16) -> bool
+fn windows_kept(jobs: [Job; 128], frames: &[u16; 128], count: usize, f: u16) -> bool
     requires { ⌜ count ≤ 128 ⌝ }
-    ensures { λ r. ⌜ r ≡ every count (windowKept (firsts count noJob jobs) (firsts count 0 frames) f) ⌝ }
+    ensures { λ r. ⌜ r ≡ every count (windowKept (firsts count noJob jobs) (firsts count 0 (now (frames .entry))) f) ⌝ }
 {
     let mut y: usize = 0;
     while y < count {
@@ -54,9 +54,9 @@ fn windows_kept(jobs: [Job; 128], frames: [u16; 128], count: usize, f: u16) -> b
 
 // Whether the slots of the jobs in each row, carried ones included, add up to at most f: the load of each row is kept, and no job is put where
 // there is no room for it.
-fn capacity_kept(cost: [u32; 128], frames: [u16; 128], count: usize, rows: u16, f: u16) -> bool
+fn capacity_kept(cost: &[u32; 128], frames: &[u16; 128], count: usize, rows: u16, f: u16) -> bool
     requires { ⌜ (count ≤ 128) × (0 < rows) × (rows ≤ 256) ⌝ }
-    ensures { λ r. ⌜ r ≡ every rows (capacityKept rows (firsts count 0 cost) (firsts count 0 frames) f) ⌝ }
+    ensures { λ r. ⌜ r ≡ every rows (capacityKept rows (firsts count 0 (now (cost .entry))) (firsts count 0 (now (frames .entry))) f) ⌝ }
 {
     let length = f as u32;
     let mut load = [0u32; 256];
@@ -81,9 +81,9 @@ fn smaller(k: u16, l: u16) -> u16
 }
 
 // The frame of job `number` of task b, for each number: the earliest, or 65,535 where there is none.
-fn earliest_frames(jobs: [Job; 128], frames: [u16; 128], count: usize, b: u8) -> [u16; 256]
+fn earliest_frames(jobs: [Job; 128], frames: &[u16; 128], count: usize, b: u8) -> [u16; 256]
     requires { ⌜ count ≤ 128 ⌝ }
-    ensures { λ r. ⌜ Earliest (firsts count noJob jobs) (firsts count 0 frames) b count r ⌝ }
+    ensures { λ r. ⌜ Earliest (firsts count noJob jobs) (firsts count 0 (now (frames .entry))) b count r ⌝ }
 {
     let mut earliest = [65535u16; 256];
     let mut z: usize = 0;
@@ -106,9 +106,9 @@ fn not_after(k: u16, partner: u16) -> bool
 }
 
 // Whether each job of task a has the frame of its job of task b or an earlier one.
-fn pair_kept(jobs: [Job; 128], frames: [u16; 128], count: usize, a: u8, b: u8) -> bool
+fn pair_kept(jobs: [Job; 128], frames: &[u16; 128], count: usize, a: u8, b: u8) -> bool
     requires { ⌜ count ≤ 128 ⌝ }
-    ensures { λ r. ⌜ r ≡ every count (oneKept (firsts count noJob jobs) (firsts count 0 frames) count a b) ⌝ }
+    ensures { λ r. ⌜ r ≡ every count (oneKept (firsts count noJob jobs) (firsts count 0 (now (frames .entry))) count a b) ⌝ }
 {
     let earliest = earliest_frames(jobs, frames, count, b);
     let mut y: usize = 0;
@@ -128,11 +128,11 @@ fn pairs_kept(
     pairs: [Pair; 16],
     m: usize,
     jobs: [Job; 128],
-    frames: [u16; 128],
+    frames: &[u16; 128],
     count: usize,
 ) -> bool
     requires { ⌜ (m ≤ 16) × (count ≤ 128) ⌝ }
-    ensures { λ r. ⌜ r ≡ every m (pairKept (firsts count noJob jobs) (firsts count 0 frames) count (firsts m noPair pairs)) ⌝ }
+    ensures { λ r. ⌜ r ≡ every m (pairKept (firsts count noJob jobs) (firsts count 0 (now (frames .entry))) count (firsts m noPair pairs)) ⌝ }
 {
     let mut u: usize = 0;
     while u < m {
@@ -146,8 +146,8 @@ fn pairs_kept(
 }
 
 // Whether the frames of the cycle's jobs, of length f in `rows` rows, keep windows, capacity and order. More than 256 rows are no plan's.
-pub fn rules_kept(cycle: Cycle, frames: [u16; 128], rows: u16, f: u16) -> bool
-    ensures { λ r. ⌜ r ≡ rulesRight (instanceOf cycle) rows f (firsts (min (cycle .count) 128) 0 frames) ⌝ }
+pub fn rules_kept(cycle: Cycle, frames: &[u16; 128], rows: u16, f: u16) -> bool
+    ensures { λ r. ⌜ r ≡ rulesRight (instanceOf cycle) rows f (firsts (min (cycle .count) 128) 0 (now (frames .entry))) ⌝ }
 {
     if rows < 1 {
         return false;
@@ -161,7 +161,7 @@ pub fn rules_kept(cycle: Cycle, frames: [u16; 128], rows: u16, f: u16) -> bool
         return false;
     }
     let cost = problem::costs(cycle);
-    if !capacity_kept(cost, frames, count, rows, f) {
+    if !capacity_kept(&cost, frames, count, rows, f) {
         return false;
     }
     let pairs = cycle.pairs;

@@ -17,7 +17,7 @@ returns c =
 
 returns-2 : tie.Need-returns-2
 returns-2 c =
-    let test = c .before .before .before .before in
+    let test = c .before .before .before .before .before in
     let frames = test .before .before in
     let s = frames .before .before .before in
     let a = s .args in
@@ -27,8 +27,8 @@ returns-2 c =
 
 returns-3 : tie.Need-returns-3
 returns-3 c =
-    let entries = c .before .before .before in
-    let test = entries .before .before .before in
+    let entries = c .before .before .before .before in
+    let test = entries .before .before .before .before in
     let frames = test .before .before in
     let s = frames .before .before .before in
     let a = s .args in
@@ -40,8 +40,8 @@ returns-3 c =
 
 returns-4 : tie.Need-returns-4
 returns-4 c =
-    let entries = c .before .before in
-    let test = entries .before .before .before in
+    let entries = c .before .before .before in
+    let test = entries .before .before .before .before in
     let frames = test .before .before in
     let s = frames .before .before .before in
     let a = s .args in

@@ -24,7 +24,7 @@ div-rows c =
 
 returns-2 : tie.Need-returns-2
 returns-2 c =
-    let part = c .before .before .before .before in
+    let part = c .before .before .before .before .before in
     let stood = part .before .before .before in
     let test = stood .before .before .before .before in
     let a = test .before .before .args in
@@ -35,7 +35,7 @@ returns-2 c =
 row-loads-requires : tie.Need-row-loads-requires
 row-loads-requires c κs =
     let ruled = c .before in
-    let part = ruled .before .before .before .before in
+    let part = ruled .before .before .before .before .before in
     let stood = part .before .before .before in
     let test = stood .before .before .before .before in
     let a = test .before .before .args in
@@ -43,7 +43,7 @@ row-loads-requires c κs =
     let rules = rw (part .with-jobs .ensures) at (ruled .before .rules-kept .ensures) in
     let kept = sym rules ∙ not-false _ (ruled .if2 .left) in
     let costs = rw (part .with-jobs .ensures) at (c .costs .ensures) in
-    let sizes = ruled .before .before in (
+    let sizes = ruled .before .before .before in (
       count-few (a .cycle) (a .draft) can _ (stood .before .at-most .ensures) _ (stood .placed .ensures) kept,
       rows-fit (a .cycle) (a .draft) can _ (stood .before .at-most .ensures) _ (stood .placed .ensures) kept _ costs
           (omega (arith, sizes .before .struct-known .given, sizes .struct-known2 .given)),
@@ -52,7 +52,7 @@ row-loads-requires c κs =
 cast-same-loads : tie.Need-cast-same-loads
 cast-same-loads c =
     let ruled = c .before .before .before in
-    let part = ruled .before .before .before .before in
+    let part = ruled .before .before .before .before .before in
     let stood = part .before .before .before in
     let test = stood .before .before .before .before in
     let a = test .before .before .args in
@@ -64,7 +64,7 @@ cast-same-loads c =
 same-loads-requires : tie.Need-same-loads-requires
 same-loads-requires c κs =
     let ruled = c .before .before .before in
-    let part = ruled .before .before .before .before in
+    let part = ruled .before .before .before .before .before in
     let stood = part .before .before .before in
     let test = stood .before .before .before .before in
     let a = test .before .before .args in
@@ -76,7 +76,7 @@ same-loads-requires c κs =
 returns-3 : tie.Need-returns-3
 returns-3 c =
     let ruled = c .before .before .before .before in
-    let part = ruled .before .before .before .before in
+    let part = ruled .before .before .before .before .before in
     let stood = part .before .before .before in
     let test = stood .before .before .before .before in
     let a = test .before .before .args in

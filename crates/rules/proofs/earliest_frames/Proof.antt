@@ -12,13 +12,15 @@ use Rattle.rules.proofs.earliest_frames.Statement.{statement}
 use Rattle.rules.proofs.earliest_frames.Tie as tie
 
 abbrev Inv-loop : tie.InvT-loop
-Inv-loop count b jobs frames earliest₀ z₀ earliest z = (z ≤ count) × (count ≤ 128) × Earliest (firsts count noJob jobs) (firsts count 0 frames) b z earliest
+Inv-loop frames count b jobs earliest₀ z₀ earliest z = (z ≤ count) × (count ≤ 128) × Earliest (firsts count noJob jobs) (firsts count 0 frames) b z earliest
 
 abbrev μ-loop : tie.MeasureT-loop
-μ-loop count b jobs frames earliest₀ z₀ earliest z = count - z
+μ-loop frames count b jobs earliest₀ z₀ earliest z = count - z
 
 loop-holds : tie.Need-loop-holds Inv-loop μ-loop
-loop-holds c = (omega arith, c .pre, earliest-none (firsts (c .args .count) noJob (c .args .t1)) (firsts (c .args .count) 0 (c .args .t2)) (c .args .b))
+loop-holds c =
+    let a = c .args in
+    (omega arith, c .pre, earliest-none (firsts (a .count) noJob (a .t1)) (firsts (a .count) 0 (a .frames .now)) (a .b))
 
 loop-again : tie.Need-loop-again Inv-loop μ-loop
 loop-again c =
@@ -29,8 +31,8 @@ loop-again c =
       omega arith,
       l .inv .1,
       ⊎-elim
-          (λ w. rw (w .2) (passed-own (a .t1) (a .t2) (a .b) (a .count) (l .z) turn (l .earliest) (l .inv .2) (w .0 .taken) small _ (w .1 .ensures)))
-          (λ w. rw (w .1) (passed-other (a .t1) (a .t2) (a .b) (a .count) (l .z) turn (l .earliest) (l .inv .2) (w .0 .left)))
+          (λ w. rw (w .3) (passed-own (a .t1) (a .frames .now) (a .b) (a .count) (l .z) turn (l .earliest) (l .inv .2) (w .0 .taken) small _ (w .2 .ensures)))
+          (λ w. rw (w .1) (passed-other (a .t1) (a .frames .now) (a .b) (a .count) (l .z) turn (l .earliest) (l .inv .2) (w .0 .left)))
           (c .if1 .came),
     )
 

@@ -33,7 +33,7 @@ returns c =
     let a = test .before .before .args in
     let l = test .before .loop in
     let turn = test .loop-test .taken in
-    let here = pair-at (firsts (a .count) noJob (a .jobs)) (firsts (a .count) 0 (a .frames)) (a .count) (a .t1) (a .m) (l .u) turn in
+    let here = pair-at (firsts (a .count) noJob (a .jobs)) (firsts (a .count) 0 (a .frames .now)) (a .count) (a .t1) (a .m) (l .u) turn in
     all-fails _ (a .m) (l .u) turn (here ∙ sym (c .before .pair-kept .ensures) ∙ not-true _ (c .if1 .taken)) ∙ l .inv .2
 
 loop-again : tie.Need-loop-again Inv-loop μ-loop
@@ -42,7 +42,7 @@ loop-again c =
     let a = test .before .before .args in
     let l = test .before .loop in
     let turn = test .loop-test .taken in
-    let here = pair-at (firsts (a .count) noJob (a .jobs)) (firsts (a .count) 0 (a .frames)) (a .count) (a .t1) (a .m) (l .u) turn in
+    let here = pair-at (firsts (a .count) noJob (a .jobs)) (firsts (a .count) 0 (a .frames .now)) (a .count) (a .t1) (a .m) (l .u) turn in
     (omega arith, l .inv .1, all-next _ (a .m) (l .u) turn (here ∙ sym (c .before .pair-kept .ensures) ∙ not-false _ (c .if1 .left)) ∙ l .inv .2)
 
 returns-2 : tie.Need-returns-2 Inv-loop μ-loop

@@ -14,31 +14,31 @@ use Rattle.rules.proofs.windows_kept.Statement.{statement}
 use Rattle.rules.proofs.windows_kept.Tie as tie
 
 abbrev Inv-loop : tie.InvT-loop
-Inv-loop count f jobs frames y₀ y =
+Inv-loop frames count f jobs y₀ y =
     (y ≤ count) × (count ≤ 128) × AllLeft (windowKept (firsts count noJob jobs) (firsts count 0 frames) f) count y
 
 abbrev μ-loop : tie.MeasureT-loop
-μ-loop count f jobs frames y₀ y = count - y
+μ-loop frames count f jobs y₀ y = count - y
 
 loop-holds : tie.Need-loop-holds Inv-loop μ-loop
 loop-holds c = (omega arith, c .pre, simp sub-zero)
 
 returns : tie.Need-returns Inv-loop μ-loop
 returns c =
-    let test = c .before .before .before in
+    let test = c .before .before .before .before in
     let a = test .before .before .args in
     let l = test .before .loop in
     let turn = test .loop-test .taken in
-    let here = window-at (a .t1) (a .t2) (a .count) (l .y) turn (a .f) in
+    let here = window-at (a .t1) (a .frames .now) (a .count) (l .y) turn (a .f) in
     all-fails _ (a .count) (l .y) turn (here ∙ sym (c .before .in-window .ensures) ∙ not-true _ (c .if1 .taken)) ∙ l .inv .2
 
 loop-again : tie.Need-loop-again Inv-loop μ-loop
 loop-again c =
-    let test = c .before .before .before in
+    let test = c .before .before .before .before in
     let a = test .before .before .args in
     let l = test .before .loop in
     let turn = test .loop-test .taken in
-    let here = window-at (a .t1) (a .t2) (a .count) (l .y) turn (a .f) in
+    let here = window-at (a .t1) (a .frames .now) (a .count) (l .y) turn (a .f) in
     (omega arith, l .inv .1, all-next _ (a .count) (l .y) turn (here ∙ sym (c .before .in-window .ensures) ∙ not-false _ (c .if1 .left)) ∙ l .inv .2)
 
 returns-2 : tie.Need-returns-2 Inv-loop μ-loop

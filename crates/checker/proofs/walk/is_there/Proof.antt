@@ -15,23 +15,23 @@ use Rattle.checker.proofs.walk.is_there.Statement.{statement}
 use Rattle.checker.proofs.walk.is_there.Tie as tie
 
 abbrev Inv-loop : tie.InvT-loop
-Inv-loop count task number k jobs frames y₀ y =
+Inv-loop frames count task number k jobs y₀ y =
     (y ≤ count) × (count ≤ 128) × SomeLeft (isThere (firsts count noJob jobs) (firsts count 0 frames) task number k) count y
 
 abbrev μ-loop : tie.MeasureT-loop
-μ-loop count task number k jobs frames y₀ y = count - y
+μ-loop frames count task number k jobs y₀ y = count - y
 
 loop-holds : tie.Need-loop-holds Inv-loop μ-loop
 loop-holds c = (omega arith, c .pre, simp sub-zero)
 
 returns : tie.Need-returns Inv-loop μ-loop
 returns c =
-    let test = c .before .before .before .before in
+    let test = c .before .before .before .before .before in
     let a = test .before .before .args in
     let l = test .before .loop in
     let turn = test .loop-test .taken in
-    let here = there-at (a .t1) (a .t2) (a .count) (l .y) turn (a .task) (a .number) (a .k) in
-    some-here _ (a .count) (l .y) turn (here ∙ rw (← c .before .before .is-job .ensures, c .before .if1 .taken, eq-eqb _ _ (c .if2 .taken)))
+    let here = there-at (a .t1) (a .frames .now) (a .count) (l .y) turn (a .task) (a .number) (a .k) in
+    some-here _ (a .count) (l .y) turn (here ∙ rw (← c .before .before .before .is-job .ensures, c .before .before .if1 .taken, eq-eqb _ _ (c .if2 .taken)))
     ∙ l .inv .2
 
 loop-again : tie.Need-loop-again Inv-loop μ-loop
@@ -41,11 +41,11 @@ loop-again c =
     let l = test .before .loop in
     let turn = test .loop-test .taken in
     let named = c .before .is-job .ensures in
-    let here = there-at (a .t1) (a .t2) (a .count) (l .y) turn (a .task) (a .number) (a .k) in (
+    let here = there-at (a .t1) (a .frames .now) (a .count) (l .y) turn (a .task) (a .number) (a .k) in (
       omega arith,
       l .inv .1,
       ⊎-elim
-          (λ w. some-next _ (a .count) (l .y) turn (here ∙ rw (← named, w .0 .taken, ne-eqb _ _ (w .1 .left))) ∙ l .inv .2)
+          (λ w. some-next _ (a .count) (l .y) turn (here ∙ rw (← named, w .0 .taken, ne-eqb _ _ (w .2 .left))) ∙ l .inv .2)
           (λ w. some-next _ (a .count) (l .y) turn (here ∙ rw (← named, w .left)) ∙ l .inv .2)
           (c .if1 .came),
     )

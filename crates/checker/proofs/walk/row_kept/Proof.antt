@@ -41,7 +41,7 @@ returns c =
     let l = test .before .loop in
     let a = test .before .before .before .args in
     let jobs = firsts (a .count) noJob (a .jobs) in
-    let frames = firsts (a .count) 0 (a .frames) in
+    let frames = firsts (a .count) 0 (a .frames .now) in
     let e = rw (frame .frame .ensures, frame .before .is-carried .ensures, c .before .before .number .ensures, read .byte-or-zero .ensures, byte .byte-or-zero2 .ensures)
     at (sym (c .before .is-there .ensures) ∙ not-true _ (c .if1 .taken)) in
     entry-broken jobs frames (a .count) (a .height) (a .table .now) (a .row) (a .n) (l .e) (l .at) (test .loop-test .taken) e ∙ l .inv .2
@@ -56,7 +56,7 @@ loop-again c =
     let l = test .before .loop in
     let a = test .before .before .before .args in
     let jobs = firsts (a .count) noJob (a .jobs) in
-    let frames = firsts (a .count) 0 (a .frames) in
+    let frames = firsts (a .count) 0 (a .frames .now) in
     let e = rw (frame .frame .ensures, frame .before .is-carried .ensures, c .before .before .number .ensures, read .byte-or-zero .ensures, byte .byte-or-zero2 .ensures)
     at (sym (c .before .is-there .ensures) ∙ not-false _ (c .if1 .left)) in
     (omega arith, omega (arith, l .inv .1), entry-kept jobs frames (a .count) (a .height) (a .table .now) (a .row) (a .n) (l .e) (l .at) (test .loop-test .taken) e ∙ l .inv .2)
@@ -65,7 +65,7 @@ returns-2 : tie.Need-returns-2 Inv-loop μ-loop
 returns-2 c =
     let l = c .before .loop in
     let a = c .before .before .before .args in
-    entries-done (firsts (a .count) noJob (a .jobs)) (firsts (a .count) 0 (a .frames)) (a .count) (a .height) (a .table .now)
+    entries-done (firsts (a .count) noJob (a .jobs)) (firsts (a .count) 0 (a .frames .now)) (a .count) (a .height) (a .table .now)
     (a .row) (a .n) (l .e) (l .at) (c .loop-test .left)
     ∙ l .inv .2
 

@@ -36,7 +36,7 @@ returns c =
     let l = test .before .loop in
     let a = test .before .before .before .args in
     let jobs = firsts (a .count) noJob (a .jobs) in
-    let frames = firsts (a .count) 0 (a .frames) in
+    let frames = firsts (a .count) 0 (a .frames .now) in
     let row = rw (c .before .before .byte-or-zero .ensures) at (sym (c .before .row-kept .ensures) ∙ not-true _ (c .if1 .taken)) in
     row-broken jobs frames (a .count) (a .height) (a .table .now) (l .row) (l .at) (test .loop-test .taken) row ∙ l .inv .3
 
@@ -46,7 +46,7 @@ loop-again c =
     let l = test .before .loop in
     let a = test .before .before .before .args in
     let jobs = firsts (a .count) noJob (a .jobs) in
-    let frames = firsts (a .count) 0 (a .frames) in
+    let frames = firsts (a .count) 0 (a .frames .now) in
     let row = rw (c .before .before .byte-or-zero .ensures) at (sym (c .before .row-kept .ensures) ∙ not-false _ (c .if1 .left)) in
     let kept = row-kept jobs frames (a .count) (a .height) (a .table .now) (l .row) (l .at) (test .loop-test .taken) row ∙ l .inv .3 in
     let same : l .at + (1 + 2 * getD (a .table .now) (l .at) 0) ≡ l .at + 1 + 2 * getD (a .table .now) (l .at) 0 = omega arith in
@@ -56,7 +56,7 @@ returns-2 : tie.Need-returns-2 Inv-loop μ-loop
 returns-2 c =
     let l = c .before .loop in
     let a = c .before .before .before .args in
-    rows-done (firsts (a .count) noJob (a .jobs)) (firsts (a .count) 0 (a .frames)) (a .count) (a .height) (a .table .now)
+    rows-done (firsts (a .count) noJob (a .jobs)) (firsts (a .count) 0 (a .frames .now)) (a .count) (a .height) (a .table .now)
     (l .row) (l .at) (c .loop-test .left)
     ∙ l .inv .3
 
