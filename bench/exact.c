@@ -220,11 +220,16 @@ static void note(unsigned row)
     sweep.of_row[row][u < OF_A_ROW ? u : (unsigned)(hashed - sweep.by_hash) % OF_A_ROW] = state;
 }
 
-/* Whether the jobs without a row need too much of the rows from this one on up to some row. */
-static bool late(unsigned row)
+/*
+ * Whether the jobs without a row need too much of the rows from this one on up to some row. If the jobs
+ * put into the row before left no space of it, nothing is new from `reach` on, where none of them may
+ * stand. The first row has no test, so the one after it is tested to the end.
+ */
+static bool late(unsigned row, unsigned space, unsigned reach)
 {
+    const unsigned stop = row > 1 && space == 0 ? reach : plan.rows;
     unsigned sum = 0, room = 0;
-    for (unsigned end = row + 1; end <= plan.rows; end++) {
+    for (unsigned end = row + 1; end <= stop; end++) {
         sum += sweep.due[end];
         room += plan.f;
         if (sum > room)
@@ -256,19 +261,19 @@ static bool all_in_order(void)
     return true;
 }
 
-static bool put(unsigned row, unsigned y, unsigned room);
+static bool put(unsigned row, unsigned y, unsigned room, unsigned reach);
 
 /*
  * Runs through the jobs of the row, from job y on, and through the rows after it. Answers the row where
  * there was no way on, or the number of rows.
  */
-static unsigned run(unsigned row, unsigned y, unsigned room)
+static unsigned run(unsigned row, unsigned y, unsigned room, unsigned reach)
 {
     for (;;) {
         struct set waiting = {{sweep.begun[row].word[0] & ~sweep.put.word[0],
                                sweep.begun[row].word[1] & ~sweep.put.word[1]}};
         for (y = next_in(&waiting, y); y < MOST_JOBS; y = next_in(&waiting, y + 1)) {
-            if (put(row, y, room))
+            if (put(row, y, room, reach))
                 return plan.rows;
             if (row + 1 >= sweep.end[y] || meet(&sweep.not_earlier[y], &sweep.put))
                 return row;
@@ -278,22 +283,24 @@ static unsigned run(unsigned row, unsigned y, unsigned room)
         if (one_more(row, room))
             return row;
         row++;
-        if (known(row) || late(row))
+        if (known(row) || late(row, room, reach))
             return row;
         y = 0;
         room = plan.f;
+        reach = 0;
     }
 }
 
 /* Puts job y into the row, if it may stand there, and runs on. */
-static bool put(unsigned row, unsigned y, unsigned room)
+static bool put(unsigned row, unsigned y, unsigned room, unsigned reach)
 {
     if (plan.cost[y] > room || !within(&sweep.not_later[y], &sweep.put))
         return false;
     add(&sweep.put, y);
     sweep.due[sweep.end[y]] -= plan.cost[y];
     sweep.row[y] = row;
-    const unsigned end = run(row, y + 1, room - plan.cost[y]);
+    const unsigned far = sweep.end[y] > reach ? sweep.end[y] : reach;
+    const unsigned end = run(row, y + 1, room - plan.cost[y], far);
     if (end == plan.rows)
         return true;
     if (row < end && all_in_order())
@@ -342,7 +349,7 @@ static bool sweeps(void)
 {
     sweep.put = EMPTY;
     sweep.number++;
-    return run(0, 0, plan.f) == plan.rows;
+    return run(0, 0, plan.f, 0) == plan.rows;
 }
 
 /* Whether the domains may hold a plan; at most so many jobs are given a side. Only a no says anything. */

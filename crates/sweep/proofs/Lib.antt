@@ -3,3 +3,4 @@ mod Laws
 mod LateLaws
 mod SpanLaws
 mod RunLaws
+mod BitLaws

@@ -2,8 +2,9 @@
 use mathlib.Core.Path.{_≡_}
 use mathlib.Core.Bool.{Bool, true, false, not, cond, _&&_}
 use mathlib.Core.List.{List, _++_}
-use Prim.Native.Nat.{ℕ, _+_, _-_, _*_, _≤_, _<_}
+use Prim.Native.Nat.{ℕ, _+_, _-_, _*_, _/_, _%_, _^_, _≤_, _<_}
 use lib.ListN.{length, getD, set}
+use lib.Bits.{bitOr}
 use lib.Dec.{leb, eqb}
 use Rattle.search.specs.Placing.{linksAt}
 use Rattle.place.specs.Arrays.{partIn, countsIn, rowsIn, jobsIn, LinksBack}
@@ -64,6 +65,28 @@ firstsWith firsts ends q i = cond (eqb (getD ends q 0) 0) (set firsts q i) first
 
 abbrev pub endsWith : List ℕ → ℕ → ℕ → List ℕ
 endsWith ends q i = set ends q (i + 1)
+
+-- bit j of a number
+abbrev pub bit : ℕ → ℕ → ℕ
+bit w j = w / 2 ^ j % 2
+
+-- bit j of word k is set
+abbrev pub withBit : List ℕ → ℕ → ℕ → List ℕ
+withBit ws k j = set ws k (bitOr (getD ws k 0) (2 ^ j))
+
+-- the jobs that have begun in a row have a bit in one of its two words
+pub record Begun (u : Rules) (rows : ℕ) (ws : List ℕ) : Type 0 where
+  pub size : length ws ≡ 512
+  pub each : (q x : ℕ) → q < rows → x < u .n → u .first x ≤ q → bit (getD ws (2 * q + x / 64) 0) (x % 64) ≡ 1
+
+-- the same of the first i jobs; from word k on only where the job's first row is
+pub record Beginning (u : Rules) (rows i k : ℕ) (ws : List ℕ) : Type 0 where
+  pub size : length ws ≡ 512
+  pub each : (q x : ℕ) → q < rows → x < i → u .first x ≤ q → (k ≤ 2 * q + x / 64 → u .first x ≡ q) → bit (getD ws (2 * q + x / 64) 0) (x % 64) ≡ 1
+
+-- where the first has a bit from place i on before place j, so has the second
+abbrev pub Unfree : ℕ → ℕ → ℕ → ℕ → Type 0
+Unfree a b i j = (y : ℕ) → i ≤ y → y < j → bit a y ≡ 1 → bit b y ≡ 1
 
 -- what job x, if it has no row, takes of the rows that end before row e
 abbrev pub dueShare : Rules → List Bool → ℕ → ℕ → ℕ

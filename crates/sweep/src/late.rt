@@ -19,15 +19,23 @@ pub(super) fn add_at(due: &mut [u32; 257], e: u16, c: u16)
     due[e as usize] += c as u32;
 }
 
-// Takes c off at place e, if there is one.
-pub(super) fn take_at(due: &mut [u32; 257], e: u16, c: u16)
+fn later(a: u16, b: u16) -> u16 {
+    if a < b {
+        return b;
+    }
+    a
+}
+
+// Takes c off at place e, if there is one. Answers the later of e and `reach`.
+pub(super) fn take_at(due: &mut [u32; 257], e: u16, c: u16, reach: u16) -> u16
     requires { ⌜ (e ≤ 256 → c ≤ getD (now due) e 0) ⌝ }
     ensures { λ r. ⌜ now (due .exit) ≡ takenAt (now (due .entry)) e c ⌝ }
 {
     if e > 256 {
-        return;
+        return e;
     }
     due[e as usize] -= c as u32;
+    later(e, reach)
 }
 
 // What the jobs take, where none has a row yet.
@@ -50,6 +58,24 @@ pub(super) fn due_times(
     due
 }
 
+// The row up to which row p is tested for lateness. The jobs put into the row before left this space of it, and none of them may stand in row `reach`
+// or later. If they left none, then for every end from `reach` on both the need and the room are less by a full row, so the test of the row before
+// tells what is to be told. The first row has no test, so the one after it is tested to the end.
+fn stop_row(rows: u16, p: u16, space: u16, reach: u16) -> u16
+    ensures { λ r. ⌜ r ≤ rows ⌝ }
+{
+    if p < 2 {
+        return rows;
+    }
+    if space != 0 {
+        return rows;
+    }
+    if reach > rows {
+        return rows;
+    }
+    reach
+}
+
 // Whether the jobs without a row need too much of the rows from p on up to some row.
 pub(super) fn is_late(
     given: &[[u16; 128]; 5],
@@ -58,6 +84,8 @@ pub(super) fn is_late(
     flags: &[bool; 128],
     due: &[u32; 257],
     p: u16,
+    space: u16,
+    reach: u16,
 ) -> bool
     requires { ⌜ Sweepable (now given) (now links) ⌝ }
     requires { ⌜ p < rowsIn (now given) ⌝ }
@@ -66,11 +94,12 @@ pub(super) fn is_late(
         (rowsIn (now (given .entry))) p (now (flags .entry))) ⌝ }
 {
     let rows = given[4][0];
+    let stop = stop_row(rows, p, space, reach);
     let f = place::entry(given, 4, 1) as u32;
     let mut e = p;
     let mut sum: u32 = 0;
     let mut room: u32 = 0;
-    while e < rows {
+    while e < stop {
         e += 1;
         sum += due[e as usize];
         room += f;

@@ -3,9 +3,11 @@
 // the rows, and `put` puts one job into the row and runs on from there, so calls are no deeper than there are jobs.
 //
 // The jobs' costs and links, their number and that of the rows stand in `given`, as for the search. `swept` has the first row of each job, one
-// past its last, its side, and whether a job with a higher number must not be later. `spans` has the jobs of each row. `flags` says which jobs
-// have a row, `low` and `high` are the same as words, and `kept` is true only where each of them has its row behind those that must not be later.
-// `due` has the times of the jobs without a row, `marks` and `words` are the memory of states that failed.
+// past its last, its side, and whether a job with a higher number must not be later. `spans` has the jobs of each row, and `begun` has a bit for
+// each that has begun there. `flags` says which jobs have a row, `low` and `high` are the same as words, and `kept` is true only where each of them
+// has its row behind those that must not be later. `due` has the times of the jobs without a row, `marks` and `words` are the memory of states that
+// failed.
+mod begun;
 mod late;
 mod memory;
 mod order;
@@ -16,8 +18,9 @@ ghost use mathlib.Core.Bool.{true, false};
 ghost use Prim.Native.Nat.{_≤_, _<_};
 ghost use lib.ListN.{replicate};
 ghost use Rattle.place.specs.Arrays.{countsIn, rowsIn, jobsIn, LinksBack};
+ghost use Rattle.exact.specs.Words.{wordAt};
 ghost use Rattle.exact.specs.Sweep.{any-below, more, skips, puts, leaves, From, Ordered};
-ghost use Rattle.sweep.specs.Arrays.{rulesIn, Sweepable, Spanned, Next, Going, Failed, NotPut, tiedIn};
+ghost use Rattle.sweep.specs.Arrays.{rulesIn, Sweepable, Spanned, Begun, Next, Going, Failed, NotPut, tiedIn};
 
 // Job i is passed over in row p: it has a row, or its rows are later.
 fn is_skipped(
@@ -104,12 +107,16 @@ fn one_more(
     links: &[u8; 2048],
     swept: &[[u16; 128]; 4],
     spans: &[[u16; 256]; 3],
+    begun: &[u64; 512],
     flags: &[bool; 128],
+    low: u64,
+    high: u64,
     p: u16,
     room: u16,
 ) -> bool
     requires { ⌜ Sweepable (now given) (now links) ⌝ }
-    requires { ⌜ p < 256 ⌝ }
+    requires { ⌜ (p < rowsIn (now given)) × (low ≡ wordAt (now flags) 0) × (high ≡ wordAt (now flags) 64)
+        × Begun (rulesIn (now given) (now links) (now swept)) (rowsIn (now given)) (now begun) ⌝ }
     requires { ⌜ Spanned (rulesIn (now given) (now links) (now swept)) (rowsIn (now given)) (now spans) ⌝ }
     ensures { λ r. ⌜ (r ≡ true → any-below (more (rulesIn (now (given .entry)) (now (links .entry)) (now (swept .entry))) p (now (flags .entry)) room)
         (jobsIn (now (given .entry))) ≡ true) ⌝ }
@@ -120,6 +127,10 @@ fn one_more(
     let end = spans::entry(spans, 1, p) as usize;
     let mut i = spans::entry(spans, 0, p) as usize;
     while i < end {
+        i = begun::first_free(given, links, swept, begun, flags, low, high, p, i);
+        if i >= end {
+            return false;
+        }
         if could_put(given, links, swept, flags, p, room, i) {
             return true;
         }
@@ -177,21 +188,30 @@ fn is_worth_noting(
     is_kept(given, links, swept, flags, kept)
 }
 
-// The first job from job i on that is not passed over in row p, or `end`, or i if that is behind it.
+// The first job from job i on that is not passed over in row p, or `end`, or i if that is behind it. The bits lead to it, and the job is tested.
 fn next_job(
     given: &[[u16; 128]; 5],
     links: &[u8; 2048],
     swept: &[[u16; 128]; 4],
+    begun: &[u64; 512],
     flags: &[bool; 128],
+    low: u64,
+    high: u64,
     p: u16,
     i: usize,
     end: usize,
 ) -> usize
-    requires { ⌜ end ≤ 128 ⌝ }
+    requires { ⌜ Sweepable (now given) (now links) ⌝ }
+    requires { ⌜ Begun (rulesIn (now given) (now links) (now swept)) (rowsIn (now given)) (now begun) ⌝ }
+    requires { ⌜ (p < rowsIn (now given)) × (end ≤ jobsIn (now given)) × (low ≡ wordAt (now flags) 0) × (high ≡ wordAt (now flags) 64) ⌝ }
     ensures { λ r. ⌜ Next (rulesIn (now (given .entry)) (now (links .entry)) (now (swept .entry))) p (now (flags .entry)) i end r ⌝ }
 {
     let mut j = i;
     while j < end {
+        j = begun::first_free(given, links, swept, begun, flags, low, high, p, j);
+        if j >= end {
+            return end;
+        }
         if !is_skipped(given, links, swept, flags, p, j) {
             return j;
         }
@@ -201,13 +221,14 @@ fn next_job(
 }
 
 // Runs through the jobs of row p, from job i on, and through the rows after it, with the jobs that have no row yet. Answers the row where there
-// was no way on; or the number of rows, which says nothing. At most `left` jobs are put, each by one call more. At the end of a row the jobs are in
-// order again, so this is tested there, once for all that follows.
+// was no way on; or the number of rows, which says nothing. At most `left` jobs are put, each by one call more. The jobs put into row p so far may
+// stand only in rows before row `reach`. At the end of a row the jobs are in order again, so this is tested there, once for all that follows.
 fn run(
     given: &[[u16; 128]; 5],
     links: &[u8; 2048],
     swept: &[[u16; 128]; 4],
     spans: &[[u16; 256]; 3],
+    begun: &[u64; 512],
     flags: &mut [bool; 128],
     found: &mut [u16; 128],
     due: &mut [u32; 257],
@@ -220,10 +241,12 @@ fn run(
     i: usize,
     room: u16,
     left: u16,
+    reach: u16,
 ) -> u16
     requires { ⌜ Sweepable (now given) (now links) ⌝ }
     requires { ⌜ Spanned (rulesIn (now given) (now links) (now swept)) (rowsIn (now given)) (now spans) ⌝ }
-    requires { ⌜ (p < rowsIn (now given)) × (i ≤ jobsIn (now given)) ⌝ }
+    requires { ⌜ (p < rowsIn (now given)) × (i ≤ jobsIn (now given))
+        × Begun (rulesIn (now given) (now links) (now swept)) (rowsIn (now given)) (now begun) ⌝ }
     requires { ⌜ Going (rulesIn (now given) (now links) (now swept)) (rowsIn (now given)) (now flags) (now due) (now marks) (now words) low high kept ⌝ }
     ensures { λ r. ⌜ (r < rowsIn (now (given .entry)) → Failed (rulesIn (now (given .entry)) (now (links .entry)) (now (swept .entry)))
         (rowsIn (now (given .entry))) p i room (now (flags .entry)) (now (due .entry)) r (now (flags .exit)) (now (due .exit)) (now (marks .exit)) (now (words .exit))) ⌝ }
@@ -234,26 +257,39 @@ fn run(
     let mut job = i;
     let mut space = room;
     let mut ordered = kept;
+    let mut far = reach;
     while row < rows {
         let end = spans::entry(spans, 1, row) as usize;
-        job = next_job(given, links, swept, flags, row, job, end);
+        job = next_job(given, links, swept, begun, flags, low, high, row, job, end);
         if job >= end {
             if row + 1 == rows {
                 return rows;
             }
-            if one_more(given, links, swept, spans, flags, row, space) {
+            if one_more(
+                given,
+                links,
+                swept,
+                spans,
+                begun,
+                flags,
+                low,
+                high,
+                row,
+                space,
+            ) {
                 return row;
             }
             row += 1;
             if memory::known(marks, words, row, low, high) {
                 return row;
             }
-            if late::is_late(given, links, swept, flags, due, row) {
+            if late::is_late(given, links, swept, flags, due, row, space, far) {
                 return row;
             }
             ordered = is_kept(given, links, swept, flags, ordered);
             job = spans::entry(spans, 0, row) as usize;
             space = given[4][1];
+            far = 0;
             continue;
         }
         if put(
@@ -261,6 +297,7 @@ fn run(
             links,
             swept,
             spans,
+            begun,
             flags,
             found,
             due,
@@ -273,6 +310,7 @@ fn run(
             job,
             space,
             left,
+            far,
         ) {
             return rows;
         }
@@ -290,6 +328,7 @@ fn put(
     links: &[u8; 2048],
     swept: &[[u16; 128]; 4],
     spans: &[[u16; 256]; 3],
+    begun: &[u64; 512],
     flags: &mut [bool; 128],
     found: &mut [u16; 128],
     due: &mut [u32; 257],
@@ -302,10 +341,12 @@ fn put(
     i: usize,
     room: u16,
     left: u16,
+    reach: u16,
 ) -> bool
     requires { ⌜ Sweepable (now given) (now links) ⌝ }
     requires { ⌜ Spanned (rulesIn (now given) (now links) (now swept)) (rowsIn (now given)) (now spans) ⌝ }
-    requires { ⌜ (p < rowsIn (now given)) × (i < jobsIn (now given)) ⌝ }
+    requires { ⌜ (p < rowsIn (now given)) × (i < jobsIn (now given))
+        × Begun (rulesIn (now given) (now links) (now swept)) (rowsIn (now given)) (now begun) ⌝ }
     requires { ⌜ Going (rulesIn (now given) (now links) (now swept)) (rowsIn (now given)) (now flags) (now due) (now marks) (now words) low high kept ⌝ }
     requires { ⌜ skips (rulesIn (now given) (now links) (now swept)) p (now flags) i ≡ false ⌝ }
     ensures { λ r. ⌜ (r ≡ false → NotPut (rulesIn (now (given .entry)) (now (links .entry)) (now (swept .entry)))
@@ -323,12 +364,13 @@ fn put(
     let still = still_kept(swept, i, kept);
     flags[i] = true;
     found[i] = p;
-    late::take_at(due, swept[1][i], c);
+    let far = late::take_at(due, swept[1][i], c, reach);
     let e = run(
         given,
         links,
         swept,
         spans,
+        begun,
         flags,
         found,
         due,
@@ -341,6 +383,7 @@ fn put(
         i + 1,
         room - c,
         left - 1,
+        far,
     );
     if e >= given[4][0] {
         return true;
@@ -379,6 +422,7 @@ pub fn sweep(
         return true;
     }
     let spans = spans::spans_of(given, links, swept);
+    let begun = begun::begun_of(given, links, swept);
     let mut flags = [false; 128];
     let mut due = late::due_times(given, links, swept);
     let mut marks = [0u16; 5120];
@@ -387,6 +431,7 @@ pub fn sweep(
         links,
         swept,
         &spans,
+        &begun,
         &mut flags,
         found,
         &mut due,
@@ -399,6 +444,7 @@ pub fn sweep(
         0,
         given[4][1],
         given[4][2],
+        0,
     );
     e >= rows
 }

@@ -41,23 +41,23 @@ use Rattle.sweep.proofs.still_kept.Reads as still-kept-reads
 use Rattle.sweep.proofs.+put+run.{statement}
 use Rattle.sweep.proofs.+put+run.Tie.{close}
 
-abbrev μ-put : Measures 9 put-kinds.ps ℕ
-μ-put κs a = 2 * a .1 .1 .1 .1 .1 .1 .1 .1 .1 .1 .1 .1 .1 .1 .1 .0
+abbrev μ-put : Measures 10 put-kinds.ps ℕ
+μ-put κs a = 2 * a .1 .1 .1 .1 .1 .1 .1 .1 .1 .1 .1 .1 .1 .1 .1 .1 .0
 
-abbrev μ-run : Measures 9 run-kinds.ps ℕ
-μ-run κs a = 2 * a .1 .1 .1 .1 .1 .1 .1 .1 .1 .1 .1 .1 .1 .1 .1 .0 + 1
+abbrev μ-run : Measures 10 run-kinds.ps ℕ
+μ-run κs a = 2 * a .1 .1 .1 .1 .1 .1 .1 .1 .1 .1 .1 .1 .1 .1 .1 .1 .0 + 1
 
-abbrev put-at : ℕ → In 9 put-kinds.ps
-put-at t = and 9 put-kinds.ps (is 9 put-kinds.ps μ-put t) put.Pre
+abbrev put-at : ℕ → In 10 put-kinds.ps
+put-at t = and 10 put-kinds.ps (is 10 put-kinds.ps μ-put t) put.Pre
 
-abbrev put-below : ℕ → In 9 put-kinds.ps
-put-below t = and 9 put-kinds.ps (falls 9 put-kinds.ps _<_ μ-put t) put.Pre
+abbrev put-below : ℕ → In 10 put-kinds.ps
+put-below t = and 10 put-kinds.ps (falls 10 put-kinds.ps _<_ μ-put t) put.Pre
 
-abbrev run-at : ℕ → In 9 run-kinds.ps
-run-at t = and 9 run-kinds.ps (is 9 run-kinds.ps μ-run t) run.Pre
+abbrev run-at : ℕ → In 10 run-kinds.ps
+run-at t = and 10 run-kinds.ps (is 10 run-kinds.ps μ-run t) run.Pre
 
-abbrev run-below : ℕ → In 9 run-kinds.ps
-run-below t = and 9 run-kinds.ps (falls 9 run-kinds.ps _<_ μ-run t) run.Pre
+abbrev run-below : ℕ → In 10 run-kinds.ps
+run-below t = and 10 run-kinds.ps (falls 10 run-kinds.ps _<_ μ-run t) run.Pre
 
 abbrev put-claims : ℕ → put-lts.Claims
 put-claims t = (
@@ -196,7 +196,7 @@ put-run-requires t c κs =
         (
           s .pre .1 .1 .0,
           (
-            (s .pre .1 .1 .1 .0 .0, omega (arith, s .pre .1 .1 .1 .0 .1)),
+            (s .pre .1 .1 .1 .0 .0, omega (arith, s .pre .1 .1 .1 .0 .1), s .pre .1 .1 .1 .0 .2),
             put-going (s .args .p) (s .args .i) (s .args .room) (s .pre .1 .1 .1 .1 .0) (omega (
               arith,
               s .pre .1 .1 .1 .0 .1,
@@ -376,13 +376,13 @@ put-returns-5 t c =
     (c .before .before .before .add-at .ensures)
 
 abbrev run-Inv-loop : run-lts.InvT-loop
-run-Inv-loop given links swept spans flags₀ found₀ due₀ marks₀ words₀ low high kept p i room left n rows row₀ job₀ space₀ ordered₀ flags found due marks words row
-    job space ordered =
+run-Inv-loop given links swept spans begun flags₀ found₀ due₀ marks₀ words₀ low high kept p i room left reach n rows row₀ job₀ space₀ ordered₀ far₀
+    flags found due marks words row job space ordered far =
     Running (rulesIn given links swept) (rowsIn given) p i room flags₀ due₀ low high ordered flags due marks words row job space
 
 abbrev run-μ-loop : run-lts.MeasureT-loop
-run-μ-loop given links swept spans flags₀ found₀ due₀ marks₀ words₀ low high kept p i room left n rows row₀ job₀ space₀ ordered₀ flags found due marks words row job
-    space ordered =
+run-μ-loop given links swept spans begun flags₀ found₀ due₀ marks₀ words₀ low high kept p i room left reach n rows row₀ job₀ space₀ ordered₀ far₀
+    flags found due marks words row job space ordered far =
     (rows - row) * 256 + (n - job)
 
 run-index-1-n : (t : ℕ) → run-lts.Need-index-1-n (run-claims t) (run-at t) run.Post run-Inv-loop run-μ-loop
@@ -415,14 +415,21 @@ run-cast-end : (t : ℕ) → run-lts.Need-cast-end (run-claims t) (run-at t) run
 run-cast-end t c = search needs
 
 run-next-job-requires : (t : ℕ) → run-lts.Need-next-job-requires (run-claims t) (run-at t) run.Post run-Inv-loop run-μ-loop
-run-next-job-requires t c κs = let s = c .before .before .before .before .before .before .before in omega (
-  arith,
-  c .before .entry .ensures,
-  s .pre .1 .1 .0
-      .end-most (c .before .before .before .loop .row),
-  s .pre .1 .0 .few,
-  n-is (s .args .given .now) (s .args .links .now) (s .args .swept .now),
-)
+run-next-job-requires t c κs =
+    let s = c .before .before .before .before .before .before .before in
+    let loop = c .before .before .before .loop in
+    let most = s .pre .1 .1 .0 .end-most (loop .row) in (
+      s .pre .1 .0,
+      (
+        s .pre .1 .1 .1 .0 .2,
+        (
+          c .before .before .loop-test .taken,
+          omega (arith, c .before .entry .ensures, most, n-is (s .args .given .now) (s .args .links .now) (s .args .swept .now)),
+          loop .inv .going .lows,
+          loop .inv .going .highs,
+        ),
+      ),
+    )
 
 run-add-if2 : (t : ℕ) → run-lts.Need-add-if2 (run-claims t) (run-at t) run.Post run-Inv-loop run-μ-loop
 run-add-if2 t c = let s = c .before .before .before .before .before .before .before .before .before in omega (
@@ -440,18 +447,13 @@ run-returns : (t : ℕ) → run-lts.Need-returns (run-claims t) (run-at t) run.P
 run-returns t c = λ h. absurd (omega arith)
 
 run-one-more-requires : (t : ℕ) → run-lts.Need-one-more-requires (run-claims t) (run-at t) run.Post run-Inv-loop run-μ-loop
-run-one-more-requires t c κs = let s = c .before .before .before .before .before .before .before .before .before .before .before in (
-  s .pre .1 .0,
-  (
-    omega (
-      arith,
-      c
-          .before .before .before .before .before .before .loop-test .taken,
-      s .pre .1 .0 .few-rows,
-    ),
-    s .pre .1 .1 .0,
-  ),
-)
+run-one-more-requires t c κs =
+    let loop = c .before .before .before .before .before .before in
+    let s = loop .before .before .before .before .before in
+    let going = loop .before .loop .inv .going in (
+      s .pre .1 .0,
+      ((loop .loop-test .taken, going .lows, going .highs, s .pre .1 .1 .1 .0 .2), s .pre .1 .1 .0),
+    )
 
 run-same-length-2 : (t : ℕ) → run-lts.Need-same-length-2 (run-claims t) (run-at t) run.Post run-Inv-loop run-μ-loop
 run-same-length-2 t c = c .before .before .before .before .before .before .before .before .before .loop .inv .going .memory .words-size ∙ sym (c .before .before
@@ -630,6 +632,7 @@ run-put-requires t c κs =
                 n-is (s .args
                     .given .now) (s .args .links .now) (s .args .swept .now),
               ),
+              s .pre .1 .1 .1 .0 .2,
             ),
             (
               v .going,

@@ -25,8 +25,11 @@ returns-2 c = λ e. absurd (false≢true (sym e))
 spans-of-requires : tie.Need-spans-of-requires
 spans-of-requires c κs = c .before .before .before .before .pre
 
+begun-of-requires : tie.Need-begun-of-requires
+begun-of-requires c κs = c .before .before .before .before .before .pre
+
 due-times-requires : tie.Need-due-times-requires
-due-times-requires c κs = c .before .before .before .before .before .pre
+due-times-requires c κs = c .before .before .before .before .before .before .pre
 
 index-1-run : tie.Need-index-1-run
 index-1-run c = search needs
@@ -42,24 +45,18 @@ index-2-run-2 c = search needs
 
 run-requires : tie.Need-run-requires
 run-requires c κs =
-    let s = c .before .before .before .before .before .before .before .before .before .before .before .before .before .before in
+    let made = c .before .before .before .before .before .before .before .before .before in
+    let left = made .before .before .before in
+    let s = left .before .before .before .before in
     let g = s .args .given .now in
     let l = s .args .links .now in
     let w = s .args .swept .now in (
       s .pre,
       (
-        c .before .before .before .before .before .before .before .before .before .spans-of .ensures,
+        made .before .before .spans-of .ensures,
         (
-          (
-            omega (
-              arith,
-              c .before .before .before .before .before .before
-                  .before .before .before .before .before .if1 .left,
-            ),
-            omega arith,
-          ),
-          going-first (rulesIn g l w) (rowsIn g) (n-is g l w) (c .before .before .before .before .before
-              .before .before .before .due-times .ensures) (c .before .before .before .before .before .before .before .before .before .before .if2 .left),
+          (omega (arith, left .before .if1 .left), omega arith, made .before .begun-of .ensures),
+          going-first (rulesIn g l w) (rowsIn g) (n-is g l w) (made .due-times .ensures) (left .if2 .left),
         ),
       ),
     )
@@ -69,9 +66,11 @@ same-length c = search needs
 
 returns-3 : tie.Need-returns-3
 returns-3 c =
-    let s = c .before .before .before .before .before .before .before .before .before .before .before .before .before .before .before .before .before in
-    λ e. swept-false (omega (arith, c .before .before .before .before .before .before .before .before .before .before .before .before .before .before .if1 .left)) (sym
-    (f-is (s .args .given .now) (s .args .links .now) (s .args .swept .now))) (c .before .before .run .ensures (leb-false _ _ e))
+    let run = c .before .before in
+    let begun = run .before .before .before .before .before .before .before .before .before .before .before .before .before .before in
+    let s = begun .before .before .before in
+    λ e. swept-false (omega (arith, begun .if1 .left)) (sym (f-is (s .args .given .now) (s .args .links .now) (s .args .swept .now)))
+    (run .run .ensures (leb-false _ _ e))
 
 pub sweep-spec : {M : Type 1} → statement M
 sweep-spec =
@@ -82,6 +81,7 @@ sweep-spec =
     returns
     returns-2
     spans-of-requires
+    begun-of-requires
     due-times-requires
     index-1-run
     index-2-run

@@ -1,7 +1,7 @@
--- The rows one after the other: what is needed up to this one, and what there is.
+-- The rows one after the other, up to one where no more is asked: what is needed up to this one, and what there is.
 use borrow.Author.Needs.{needs}
 use native.Mathlib.Omega.{arith}
-use Prim.Native.Nat.{_-_}
+use Prim.Native.Nat.{_-_, _<_}
 use mathlib.Core.Path.{sym, _∙_}
 use mathlib.Core.Bool.{false≢true}
 use Rattle.place.specs.Arrays.{rowsIn}
@@ -12,16 +12,20 @@ use Rattle.sweep.proofs.late.is_late.Statement.{statement}
 use Rattle.sweep.proofs.late.is_late.Tie as tie
 
 abbrev Inv-loop : tie.InvT-loop
-Inv-loop given links swept flags due p rows f e₀ sum₀ room₀ e sum room = Comparing (rulesIn given links swept) (rowsIn given) p flags e sum room
+Inv-loop given links swept flags due p space reach rows stop f e₀ sum₀ room₀ e sum room =
+    Comparing (rulesIn given links swept) (rowsIn given) p flags e sum room
 
 abbrev μ-loop : tie.MeasureT-loop
-μ-loop given links swept flags due p rows f e₀ sum₀ room₀ e sum room = rows - e
+μ-loop given links swept flags due p space reach rows stop f e₀ sum₀ room₀ e sum room = stop - e
 
 index-1-rows : tie.Need-index-1-rows Inv-loop μ-loop
 index-1-rows c = search needs
 
 index-2-rows : tie.Need-index-2-rows Inv-loop μ-loop
 index-2-rows c = search needs
+
+stop-row-requires : tie.Need-stop-row-requires Inv-loop μ-loop
+stop-row-requires c κs = search needs
 
 entry-requires : tie.Need-entry-requires Inv-loop μ-loop
 entry-requires c κs = (omega arith, omega arith)
@@ -30,31 +34,36 @@ cast-f : tie.Need-cast-f Inv-loop μ-loop
 cast-f c = search needs
 
 loop-holds : tie.Need-loop-holds Inv-loop μ-loop
-loop-holds c = let s = c .before .before in comparing-start (rulesIn (s .args .given .now) (s .args .links .now) (s .args .swept .now)) (s .args .flags .now) (omega (arith, s .pre .1 .0))
+loop-holds c =
+    let s = c .before .before .before in
+    comparing-start (rulesIn (s .args .given .now) (s .args .links .now) (s .args .swept .now)) (s .args .flags .now) (omega (arith, s .pre .1 .0))
 
 add-e : tie.Need-add-e Inv-loop μ-loop
-add-e c = omega (arith, c .loop-test .taken, c .before .before .before .before .pre .0 .few-rows)
+add-e c = omega (arith, c .loop-test .taken, c .before .before .before .stop-row .ensures, c .before .before .before .before .before .pre .0 .few-rows)
 
 cast-sum : tie.Need-cast-sum Inv-loop μ-loop
 cast-sum c = search needs
 
 mul-sum : tie.Need-mul-sum Inv-loop μ-loop
-mul-sum c = omega (arith, c .loop-test .taken, c .before .before .before .before .pre .0 .few-rows)
+mul-sum c = omega (arith, c .loop-test .taken, c .before .before .before .stop-row .ensures, c .before .before .before .before .before .pre .0 .few-rows)
 
 element-copy-out-sum : tie.Need-element-copy-out-sum Inv-loop μ-loop
-element-copy-out-sum c = omega (arith, c .loop-test .taken, c .before .before .before .before .pre .0 .few-rows)
+element-copy-out-sum c =
+    omega (arith, c .loop-test .taken, c .before .before .before .stop-row .ensures, c .before .before .before .before .before .pre .0 .few-rows)
 
 add-sum : tie.Need-add-sum Inv-loop μ-loop
 add-sum c =
-    let s = c .before .before .before .before .before in
+    let s = c .before .before .before .before .before .before in
     let v = c .before .before .loop .inv in
+    let more : c .before .before .loop .e < rowsIn (s .args .given .now) =
+    omega (arith, c .before .loop-test .taken, c .before .before .before .before .stop-row .ensures) in
     omega (
       arith,
       v .need-small,
       v .most,
       s .pre .0 .few-rows,
-      c .before .loop-test .taken,
-      due-small v (c .before .loop-test .taken) (s .pre .0 .few-rows) (n-is (s .args .given .now) (s .args .links .now) (s .args .swept .now)) (s .pre .0 .few) (s .pre .1 .1)
+      more,
+      due-small v more (s .pre .0 .few-rows) (n-is (s .args .given .now) (s .args .links .now) (s .args .swept .now)) (s .pre .0 .few) (s .pre .1 .1)
           (c .before .before .before .entry .ensures ∙ sym (f-is (s .args .given .now) (s .args .links .now) (s .args .swept .now))) (omega (arith, c .before .before .before .entry .ok)),
     )
 
@@ -63,16 +72,18 @@ add-room c = let v = c .before .before .loop .inv in omega (
   arith,
   v .room-small,
   v .most,
-  c .before .before .before .before .before .pre .0 .few-rows,
-  c .before
-      .loop-test .taken,
+  c .before .before .before .before .before .before .pre .0 .few-rows,
+  c .before .loop-test .taken,
+  c .before .before .before .before .stop-row .ensures,
   c .before .before .before .entry .ok,
 )
 
 returns : tie.Need-returns Inv-loop μ-loop
 returns c =
-    let s = c .before .before .before .before .before .before in
-    λ e. late-row (comparing-more (c .before .before .before .loop .inv) (c .before .before .loop-test .taken) (s .pre .0 .few-rows) (n-is (s .args .given .now) (s .args
+    let s = c .before .before .before .before .before .before .before in
+    let more : c .before .before .before .loop .e < rowsIn (s .args .given .now) =
+    omega (arith, c .before .before .loop-test .taken, c .before .before .before .before .before .stop-row .ensures) in
+    λ e. late-row (comparing-more (c .before .before .before .loop .inv) more (s .pre .0 .few-rows) (n-is (s .args .given .now) (s .args
     .links .now) (s .args .swept .now))
     (s .pre .0 .few) (s .pre .1 .1) (c .before .before .before .before .entry .ensures ∙ sym (f-is (s .args .given .now) (s .args .links .now) (s .args .swept .now)))
     (omega (arith, c .before .before .before .before .entry .ok))) (s .pre .1 .0) (c .if1 .taken)
@@ -82,8 +93,10 @@ loop-less c = omega (arith, c .before .before .loop-test .taken)
 
 loop-again : tie.Need-loop-again Inv-loop μ-loop
 loop-again c =
-    let s = c .before .before .before .before .before .before in
-    comparing-more (c .before .before .before .loop .inv) (c .before .before .loop-test .taken) (s .pre .0 .few-rows) (n-is (s .args .given .now) (s .args .links .now)
+    let s = c .before .before .before .before .before .before .before in
+    let more : c .before .before .before .loop .e < rowsIn (s .args .given .now) =
+    omega (arith, c .before .before .loop-test .taken, c .before .before .before .before .before .stop-row .ensures) in
+    comparing-more (c .before .before .before .loop .inv) more (s .pre .0 .few-rows) (n-is (s .args .given .now) (s .args .links .now)
     (s .args .swept .now)) (s .pre .0 .few)
     (s .pre .1 .1) (c .before .before .before .before .entry .ensures ∙ sym (f-is (s .args .given .now) (s .args .links .now) (s .args .swept .now))) (omega (
       arith,
@@ -102,6 +115,7 @@ is-late-spec =
     μ-loop
     index-1-rows
     index-2-rows
+    stop-row-requires
     entry-requires
     cast-f
     loop-holds

@@ -19,9 +19,12 @@ sub-due c = c .before .before .pre (c .before .if1 .left)
 element-write-due : tie.Need-element-write-due
 element-write-due c = search needs
 
+later-requires : tie.Need-later-requires
+later-requires c κs = search needs
+
 returns-2 : tie.Need-returns-2
-returns-2 c = is-taken (c .before .before .args .due .now) (c .before .before .args .e) (c .before .before .args .c) (c .before .if1 .left)
+returns-2 c = let s = c .before .before .before in is-taken (s .args .due .now) (s .args .e) (s .args .c) (c .before .before .if1 .left)
 
 pub take-at-spec : {M : Type 1} → statement M
 take-at-spec =
-    tie.close (tie.spec returns mul-due element-copy-out-due sub-due element-write-due returns-2)
+    tie.close (tie.spec returns mul-due element-copy-out-due sub-due element-write-due later-requires returns-2)

@@ -1,22 +1,15 @@
 -- The flag is one of another word, or its bit is added.
 use native.Mathlib.Omega.{arith}
-use mathlib.Core.Path.{_≡_, sym, subst, _∙_}
+use mathlib.Core.Path.{sym, _∙_}
 use mathlib.Core.Bool.{true}
 use mathlib.Core.Logic.{inl, inr}
-use Prim.Native.Nat.{ℕ, _-_, _*_, _%_, _^_, _≤_, _<_}
-use native.Mathlib.Nat.{one-mul}
-use native.Mathlib.Numerals.{one-add}
+use Prim.Native.Nat.{_-_}
 use lib.ListN.{set}
-use lib.Dec.{lit<}
-use lib.Pow.{shl-exact}
 use Rattle.exact.specs.Words.{word-other, word-more, word-size}
+use Rattle.sweep.proofs.BitLaws.{one-shl}
 use borrow.Author.Needs.{needs}
 use Rattle.sweep.proofs.memory.with_flag.Statement.{statement}
 use Rattle.sweep.proofs.memory.with_flag.Tie as tie
-
--- `1 << l`, which the machine has as a product cut to 64 bits, is 2 ^ l
-one-shl : (l : ℕ) → l < 64 → (1 * 2 ^ l) % 2 ^ 64 ≡ 2 ^ l
-one-shl l h = shl-exact {a = 1} 1 l 64 (lit< tt) (subst (λ (x : ℕ). x ≤ 64) (sym (one-add l)) h) ∙ one-mul (2 ^ l)
 
 returns : tie.Need-returns
 returns c = c .before .pre .3 ∙ sym (word-other (c .before .args .flags .now) (c .before .args .i) (c .before .args .a) (inl (c .if1 .taken)))
