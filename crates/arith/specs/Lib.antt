@@ -1,3 +1,5 @@
+-- To be believed:
 pub mod Gcd
 pub mod Lcm
+-- Laws:
 pub mod Residue

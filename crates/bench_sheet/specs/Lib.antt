@@ -1,3 +1,4 @@
+-- To be believed:
 pub mod Sheet
 pub mod Silent
 pub mod Listed

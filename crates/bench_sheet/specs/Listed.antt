@@ -8,10 +8,10 @@ use Rattle.cursor.specs.Parsed.{records}
 use Rattle.cursor.specs.Fields.{byteOf, wordOf, wordBytes}
 use Rattle.request.specs.Request.{taskRule, judgedTask, taskOf, tasksOf, pairsOf, silentOf, reading}
 use Rattle.request.specs.Encode.{taskBytes, pairBytes, sectionBytes, silentBytes, requestBytes}
-use Rattle.planned_table.specs.Outcome.{Outcome, refusal}
+use Rattle.plan_writer.specs.Outcome.{Outcome, refusal}
 use Rattle.planner.specs.Outcome.{programOutcome}
 use Rattle.text.specs.Text.{ascii, decimalSteps, decimalOf}
-use Rattle.listing.specs.Listing.{refusedLine, headLine, busyTicks, named, entryText, each, rowLine, rowLines, tableLines, tasksIn, printed, listing}
+use Rattle.plan_listing.specs.Listing.{refusedLine, headLine, busyTicks, named, entryText, each, rowLine, rowLines, tableLines, tasksIn, printed, listing}
 use Rattle.bench_sheet.specs.Sheet.{bytesOf, P2, P7, P1-printed, sheet, sheet-holds}
 
 -- what line k of the sheet is planned as

@@ -34,23 +34,19 @@ use Rattle.table.specs.Table.{
   encode,
 }
 use Rattle.table.specs.Answers as table
-use Rattle.search.specs.Walk.{goOn, oneTry, walkFrames, walk}
-use Rattle.search.specs.Counting.{planWalk}
-use Rattle.search.specs.Search.{orElse, when, firstOf, search}
-use Rattle.search.specs.Placing.{row-sum, all-kept, fits, plan}
+use Rattle.search.specs.Search.{goOn, oneTry, walkFrames, walk}
+use Rattle.search.specs.Placing.{row-sum, all-kept, fits, planWalk}
 use Rattle.model.specs.Window.{firstFrom}
 use Rattle.model.specs.Plan.{Instance, slot, costOf, costs, IsPlan}
 use Rattle.model.specs.Plausible.{commonRule, phaseRule, frameRule, frameRules, plausibleBy, plausible}
 use Rattle.model.specs.Named.{isJob}
 use Rattle.model.specs.Links.{placeFrom, placeBefore, linkIf, linkBy, linksBy, linksOfJob, linksFrom, allLinks, inPlaces, linkCounts, linkPlaces}
-use Rattle.model.specs.Chosen.{firstFrameOf, endFrameOf, problemAt, isTriedBy, foundOr, chooseFromBy, chooseBy}
-use Rattle.model.specs.ChosenTries.{goOnLengths, walkLengths, chooseWalk}
+use Rattle.model.specs.Chosen.{firstFrameOf, endFrameOf, problemAt, isTriedBy, goOnLengths, walkLengthsBy, chooseWalkBy}
 use Rattle.model.specs.Described.{rowFor, entryFor, placesOf, placesFrom, placesByTask, placesIn, planRows, planTable}
-use Rattle.planned_table.specs.Outcome.{Outcome, handed, refusal}
-use Rattle.planner.specs.Outcome.{outcome, requestTries, outcomeWithin, programOutcome}
-use Rattle.planner.specs.Moved.{outcomeBy}
-use Rattle.rules.specs.Every as every
-use Rattle.rules.specs.Rules as rules
+use Rattle.plan_writer.specs.Outcome.{Outcome, handed, refusal}
+use Rattle.planner.specs.Outcome.{outcome, requestTries, outcomeWithin, programOutcome, outcomeBy}
+use Rattle.plan_rules.specs.Every as every
+use Rattle.plan_rules.specs.Rules as rules
 use Rattle.checker.specs.Checked as checker
 use Rattle.dispatcher.specs.declared.State.{State}
 use Rattle.dispatcher.specs.declared.Frame.{Frame}
@@ -208,10 +204,9 @@ pub record SheetHolds : Type 0 where
 pub sheet-holds : SheetHolds
 unfolding outcome requestTries outcomeWithin cycleOf reading tasksOf taskOf judgedTask taskRule pairsOf pairOf judgedPair pairRule silentOf records byteOf wordOf
     requestBytes sectionBytes taskBytes pairBytes silentBytes wordBytes flatMap
-    outcomeBy chooseBy chooseFromBy isTriedBy foundOr problemAt firstFrameOf endFrameOf firstFrom costs costOf slot plausibleBy frameRules frameRule phaseRule commonRule
+    outcomeBy isTriedBy problemAt firstFrameOf endFrameOf firstFrom costs costOf slot plausibleBy frameRules frameRule phaseRule commonRule
     linkCounts linkPlaces inPlaces allLinks linksFrom linksOfJob linksBy linkBy linkIf placeBefore placeFrom isJob padded
-    plan search firstOf when orElse fits all-kept row-sum
-    chooseWalk walkLengths goOnLengths planWalk walk walkFrames oneTry goOn
+    chooseWalkBy walkLengthsBy goOnLengths planWalk walk walkFrames oneTry goOn fits all-kept row-sum
     planned inOrder insert before allJobs jobsOf jobsFrom jobOf jobsIn hyperperiod lcmWith lcmOf gcdOf gcdSteps
     planTable planRows placesIn placesByTask placesFrom placesOf entryFor rowFor
     encode headBytes rowBytes entriesBytes jobByte decode rowsFrom heightFits sizesFrom rowFrom entriesFrom entryFrom entryOf
@@ -234,7 +229,7 @@ sheet-holds = record {
   P8-cycle = refl;
   P8-by-01 = refl;
   P8-plausible = refl;
-  P8-no-plan = λ frames v. omega (arith, v .not-early 0 (omega arith), v .not-late 0 (omega arith));
+  P8-no-plan = λ frames v. omega (arith, v .window 0 (omega arith) .not-early, v .window 0 (omega arith) .not-late);
   P8-five-refused = refl;
   P8-five-by-01 = refl;
   P8-longer-by-01 = refl;

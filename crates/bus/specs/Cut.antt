@@ -1,13 +1,11 @@
--- bus_cut: what it answers and leaves in the buffer, and that the length is small.
-use Prim.Native.Nat.{ℕ, _<_}
+-- bus_cut: what it answers and leaves in the buffer.
+use Prim.Native.Nat.{ℕ}
 use mathlib.Core.List.{List}
-use native.Mathlib.Omega.{arith}
 use lib.IntN.{ℤ}
 use Rattle.request.specs.Request.{reading}
 use Rattle.request_writer.specs.Written.{requestAnswer, requestBuffer}
 use Rattle.cursor.specs.declared.Written.{Written}
 use Rattle.cut.specs.Cut.{cut}
-use Rattle.cut.specs.Theorem.{cut-length}
 use Rattle.bus.specs.Reply.{writtenReply}
 
 abbrev pub cutAnswer : List ℕ → ℕ → ℕ → List ℕ → Written
@@ -18,6 +16,3 @@ cutReply request task first out = writtenReply (cutAnswer request task first out
 
 unfoldable pub cutBuffer : List ℕ → ℕ → ℕ → List ℕ → List ℕ
 cutBuffer request task first out = requestBuffer (cut task first (reading request)) out
-
-pub cut-few : (request : List ℕ) (task first : ℕ) (out : List ℕ) → cutAnswer request task first out .length < 65536
-cut-few request task first out = omega (arith, cut-length request task first out)

@@ -13,7 +13,7 @@ use Rattle.table.specs.Table.{encode}
 use Rattle.model.specs.Within.{within-good}
 use Rattle.model.specs.Described.{planTable}
 use Rattle.model.specs.PlanTable.{plan-table-length}
-use Rattle.planned_table.specs.Outcome.{outcomeAnswer, outcomeBuffer}
+use Rattle.plan_writer.specs.Outcome.{outcomeAnswer, outcomeBuffer}
 use Rattle.draft.specs.Draft.{write, framesHeld}
 use Rattle.draft.specs.WriteLaws.{WriteComes, write-comes-to}
 use Rattle.draft.specs.declared.Draft.{Draft}

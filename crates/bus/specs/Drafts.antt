@@ -5,7 +5,7 @@ use lib.IntN.{ℤ}
 use lib.ListN.{length}
 use lib.Dec.{ltb}
 use Rattle.cursor.specs.Choice.{pick}
-use Rattle.planned_table.specs.Outcome.{outcomeAnswer, outcomeBuffer}
+use Rattle.plan_writer.specs.Outcome.{outcomeAnswer, outcomeBuffer}
 use Rattle.draft.specs.Draft.{start, lift, put, write}
 use Rattle.draft.specs.declared.Drafted.{Drafted}
 use Rattle.lent.specs.DraftBytes.{draftOf, draftBytes}

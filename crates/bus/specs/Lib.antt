@@ -1,6 +1,6 @@
--- replies
+-- The calls from C.
+-- To be believed:
 pub mod Reply
-pub mod ReplyLaws
 -- requests
 pub mod Join
 pub mod Cut
@@ -13,16 +13,26 @@ pub mod Rewrite
 pub mod OneOff
 -- timeline
 pub mod Timeline
-pub mod TimelineLaws
 -- dispatch
 pub mod Dispatch
-pub mod DispatchLaws
 -- drafts
 pub mod Drafts
-pub mod DraftLaws
 -- registers
 pub mod Timer
-pub mod TimerLaws
 -- heater
 pub mod Heater
+-- Laws:
+pub mod CutLaws
+pub mod DecideLaws
+pub mod JoinLaws
+pub mod CheckLaws
+pub mod OneOffLaws
+pub mod PhaseLaws
+pub mod RewriteLaws
+pub mod PlanLaws
+pub mod ReplyLaws
+pub mod TimelineLaws
+pub mod DispatchLaws
+pub mod DraftLaws
+pub mod TimerLaws
 pub mod HeaterLaws

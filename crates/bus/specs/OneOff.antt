@@ -1,13 +1,11 @@
--- bus_one_off: what it answers, and its two ways out.
+-- bus_one_off: what it answers.
 use Prim.Native.Nat.{ℕ}
-use mathlib.Core.Path.{_≡_, ap, _∙_}
 use mathlib.Core.List.{List}
-use lib.IntN.{ℤ, pos}
+use lib.IntN.{ℤ}
 use Rattle.one_off.specs.OneOff.{oneOff}
 use Rattle.one_off.specs.Answers.{offerAnswer}
 use Rattle.one_off.specs.declared.FrameFound.{FrameFound}
-use Rattle.bus.specs.Reply.{refused, reply}
-use Rattle.bus.specs.ReplyLaws.{reply-refused, reply-value}
+use Rattle.bus.specs.Reply.{reply}
 
 -- the frame, or the number negated
 abbrev pub foundReply : FrameFound → ℤ
@@ -15,12 +13,3 @@ foundReply found = reply (found .refusal) (found .frame)
 
 unfoldable pub oneOffReply : ℕ → ℕ → ℕ → List ℕ → List ℕ → ℤ
 oneOffReply L s e request table = foundReply (offerAnswer (oneOff L s e request table))
-
-module _ (L s e : ℕ) (request table : List ℕ) (found : FrameFound) (is : found ≡ offerAnswer (oneOff L s e request table)) where
-  pub one-off-refused : (found .refusal ≡ 0 → ⊥) → refused (found .refusal) ≡ oneOffReply L s e request table
-  unfolding oneOffReply
-  one-off-refused h = reply-refused (found .refusal) (found .frame) h ∙ ap foundReply is
-
-  pub one-off-found : found .refusal ≡ 0 → pos (found .frame) ≡ oneOffReply L s e request table
-  unfolding oneOffReply
-  one-off-found h = reply-value (found .refusal) (found .frame) h ∙ ap foundReply is

@@ -1,22 +1,9 @@
--- bus_rewrite: what it answers and leaves in the buffer, and that the length is small.
-use Prim.Native.Nat.{ℕ, _<_}
-use mathlib.Core.Path.{_≡_, refl}
+-- bus_rewrite: what it answers and leaves in the buffer.
+use Prim.Native.Nat.{ℕ}
 use mathlib.Core.List.{List}
-use native.Mathlib.Omega.{arith}
 use lib.IntN.{ℤ}
-use Rattle.cycle.specs.Cycle.{cycleOf}
-use Rattle.table.specs.Table.{decode, encode}
-use Rattle.cursor.specs.Written.{written-most}
-use Rattle.model.specs.Plan.{Instance, IsPlan}
-use Rattle.model.specs.Good.{Good}
-use Rattle.model.specs.Within.{within-good}
-use Rattle.model.specs.Described.{planTable}
-use Rattle.model.specs.PlanTable.{plan-table-length}
-use Rattle.planned_table.specs.Outcome.{Outcome, handed, outcomeAnswer, outcomeBuffer}
-use Rattle.checker.specs.Checked as checker
-use Rattle.checker.specs.Verdicts.{plan-read}
+use Rattle.plan_writer.specs.Outcome.{outcomeAnswer, outcomeBuffer}
 use Rattle.rewriter.specs.Rewritten.{rewritten}
-use Rattle.rewriter.specs.RewriteLaws.{rewritten-plan, rewritten-refused}
 use Rattle.bus.specs.Reply.{writtenReply}
 
 unfoldable pub rewriteReply : List ℕ → List ℕ → List ℕ → ℤ
@@ -24,16 +11,3 @@ rewriteReply request table out = writtenReply (outcomeAnswer (rewritten request 
 
 unfoldable pub rewriteBuffer : List ℕ → List ℕ → List ℕ → List ℕ
 rewriteBuffer request table out = outcomeBuffer (rewritten request table) out
-
-pub rewrite-few : (request bytes out : List ℕ) → outcomeAnswer (rewritten request bytes) out .length < 65536
-unfolding outcomeAnswer
-rewrite-few request bytes out = go (checker.checked (cycleOf request) (decode bytes)) refl
-  where
-    plan-few : (f : ℕ) (frames : List ℕ) (o : Outcome) (x : Instance) → Good x → IsPlan x f frames → o ≡ handed (planTable x f frames) → outcomeAnswer o out .length < 65536
-    plan-few f frames o x good plan e = rw e (omega (arith, written-most (encode (planTable x f frames)) out, plan-table-length x good f frames plan, plan .few-rows, good .few-jobs))
-
-    go : (v : checker.Verdict) → checker.checked (cycleOf request) (decode bytes) ≡ v → outcomeAnswer (rewritten request bytes) out .length < 65536
-    go (checker.accepted f frames) is =
-        let p = plan-read request bytes f frames is in
-        plan-few f frames (rewritten request bytes) (p .x) (within-good request (p .x) (p .within)) (p .is-plan) (rewritten-plan request bytes f frames is)
-    go (checker.refusal n) is = rw (rewritten-refused request bytes n is) (omega arith)

@@ -5,11 +5,11 @@ use mathlib.Core.Logic.{⊎-elim}
 use mathlib.Core.List.{List}
 use lib.IntN.{pos}
 use native.Mathlib.Omega.{arith}
-use lib.ListN.{length, take}
+use lib.ListN.{length}
 use borrow.Author.Tests.{le-ltb}
 use Rattle.cursor.specs.ParsedLaws.{never}
 use Rattle.cursor.specs.ChoiceLaws.{lt-or-ge}
-use Rattle.planned_table.specs.Outcome.{outcomeBuffer}
+use Rattle.plan_writer.specs.Outcome.{outcomeBuffer}
 use Rattle.planner.specs.Outcome.{outcomeWithin, searchedAnswer}
 use Rattle.checker.specs.Checked.{checkNumber}
 use Rattle.rewriter.specs.ReadBack.{planned-reads-back}
@@ -18,7 +18,9 @@ use Rattle.bus.specs.ReplyLaws.{reply-refused, reply-value}
 use Rattle.bus.specs.Check.{checkReply}
 use Rattle.bus.specs.Dispatch.{freshReply}
 use Rattle.bus.specs.DispatchLaws.{fresh-refused}
-use Rattle.bus.specs.Plan.{planReply, planBuffer, no-count}
+use Rattle.bus.specs.Plan.{planReply, planBuffer}
+use Rattle.bus.specs.PlanLaws.{no-count}
+use Rattle.bus_laws.specs.Decides.{PlanPasses}
 
 pub not-refused : (k n : ℕ) → refused (suc k) ≡ pos n → ⊥
 not-refused k n e = never (cc)
@@ -55,8 +57,7 @@ plan-told allowance request out tries n e =
         record { handed-out = told .0; length-is = told .1; buffer-is = rw enough }
 
 -- and these first n bytes pass bus_check
-pub plan-passes : (allowance : ℕ) (request out tries : List ℕ) (n : ℕ) → planReply allowance request out tries ≡ pos n
-    → checkReply request (take n (planBuffer allowance request out tries)) ≡ pos 0
+pub plan-passes : PlanPasses
 unfolding checkReply
 plan-passes allowance request out tries n e =
     let told = plan-told allowance request out tries n e in

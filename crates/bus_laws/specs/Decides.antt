@@ -1,22 +1,15 @@
 -- bus_decide beside bus_plan: where the tries suffice, or bus_plan answers anything but 23 negated, both answer the same and leave the same in the
--- buffer; and what bus_decide hands out passes bus_check.
+-- buffer; and what each of them hands out passes bus_check.
 use Prim.Native.Nat.{ℕ, _≤_}
-use mathlib.Core.Path.{_≡_, sym, ap, _∙_}
+use mathlib.Core.Path.{_≡_}
 use mathlib.Core.List.{List}
 use lib.IntN.{pos}
-use native.Mathlib.Omega.{arith}
 use lib.ListN.{length, take}
-use borrow.Author.Tests.{le-ltb}
-use Rattle.planned_table.specs.Outcome.{outcomeAnswer, outcomeBuffer}
-use Rattle.planner.specs.Outcome.{outcome, requestTries, outcomeWithin, searchedAnswer}
-use Rattle.decider.specs.Decided.{AsPlan, as-reached, as-plan}
-use Rattle.rewriter.specs.ReadBack.{planned-reads-back}
+use Rattle.planner.specs.Outcome.{requestTries}
 use Rattle.bus.specs.Reply.{refused}
-use Rattle.bus.specs.ReplyLaws.{reply-refused, reply-value}
 use Rattle.bus.specs.Check.{checkReply}
 use Rattle.bus.specs.Plan.{planReply, planBuffer}
 use Rattle.bus.specs.Decide.{decideReply, decideBuffer}
-use Rattle.bus_laws.specs.Answered.{reply-told}
 
 -- both answer the same and leave the same
 pub record SameInC (allowance : ℕ) (request out tries : List ℕ) : Type 0 where
@@ -24,33 +17,18 @@ pub record SameInC (allowance : ℕ) (request out tries : List ℕ) : Type 0 whe
   pub bytes : planBuffer allowance request out tries ≡ decideBuffer request out
 
 -- there are 8 bytes for the count of tries
-module _ (allowance : ℕ) (request out tries : List ℕ) (room : 8 ≤ length tries) where
-  same : AsPlan allowance request out → SameInC allowance request out tries
-  unfolding planReply planBuffer decideReply decideBuffer
-  same s = record {
-    answer = rw (le-ltb (length tries) 8 room, s .number, s .size);
-    bytes = rw (le-ltb (length tries) 8 room) (s .bytes);
-  }
+abbrev pub ReachedSame : Type 0
+ReachedSame = (allowance : ℕ) (request out tries : List ℕ) → 8 ≤ length tries → requestTries request ≤ allowance → SameInC allowance request out tries
 
-  pub same-reached : requestTries request ≤ allowance → SameInC allowance request out tries
-  same-reached h = same (as-reached allowance request out h)
+abbrev pub AnsweredSame : Type 0
+AnsweredSame = (allowance : ℕ) (request out tries : List ℕ) → 8 ≤ length tries → (planReply allowance request out tries ≡ refused 23 → ⊥)
+    → SameInC allowance request out tries
 
-  pub same-answered : (planReply allowance request out tries ≡ refused 23 → ⊥) → SameInC allowance request out tries
-  unfolding planReply
-  same-answered ne = same (as-plan allowance request out (λ e. ne (open-in-c e)))
-    where
-      open-in-c : searchedAnswer allowance request out .refusal ≡ 23 → planReply allowance request out tries ≡ refused 23
-      open-in-c e = rw (le-ltb (length tries) 8 room, e) (sym (reply-refused 23 (searchedAnswer allowance request out .length) (λ z. omega arith)))
+-- bus_plan answered n: these first n bytes pass bus_check
+abbrev pub PlanPasses : Type 0
+PlanPasses = (allowance : ℕ) (request out tries : List ℕ) (n : ℕ) → planReply allowance request out tries ≡ pos n
+    → checkReply request (take n (planBuffer allowance request out tries)) ≡ pos 0
 
--- bus_decide answered n: these first n bytes pass bus_check
-pub decide-passes : (request out : List ℕ) (n : ℕ) → decideReply request out ≡ pos n → checkReply request (take n (decideBuffer request out)) ≡ pos 0
-unfolding checkReply decideReply decideBuffer
-decide-passes request out n e =
-    let told = reply-told (outcomeAnswer (outcome request) out .refusal) (outcomeAnswer (outcome request) out .length) n e in
-    let tries : ℕ = requestTries request in
-    let s = as-reached tries request out (omega arith) in
-    let back = planned-reads-back tries request out (s .number ∙ told .0) in
-    let front : take n (outcomeBuffer (outcome request) out) ≡ take (searchedAnswer tries request out .length) (outcomeBuffer (outcomeWithin tries request) out) =
-    ap (λ (k : ℕ). take k (outcomeBuffer (outcome request) out)) (sym (s .size ∙ told .1))
-    ∙ ap (λ (l : List ℕ). take (searchedAnswer tries request out .length) l) (sym (s .bytes)) in
-    rw front (sym (reply-value _ 0 (back .passes)))
+-- and so for bus_decide
+abbrev pub DecidePasses : Type 0
+DecidePasses = (request out : List ℕ) (n : ℕ) → decideReply request out ≡ pos n → checkReply request (take n (decideBuffer request out)) ≡ pos 0

@@ -23,6 +23,7 @@ use Rattle.lent.specs.DraftBytes.{draftOf, draftBytes}
 use Rattle.bus.specs.Drafts.{draftedBytes, startBytes, liftBytes, putBytes}
 use Rattle.bus.specs.DraftLaws.{draft-refused, draft-made}
 use Rattle.bus_laws.specs.WordsBack.{word-back, low-back, high-back, words-read, words-back}
+use Rattle.bus_laws.specs.Trips.{DraftRoundTrip, DraftsRead}
 
 module _ (d : Draft) (bytes : List ℕ) where
   -- the bytes before the loads
@@ -108,3 +109,10 @@ module _ (bytes : List ℕ) (room : 770 ≤ length bytes) where
   pub put-left : (request : List ℕ) (job frame : ℕ) → draftOf (putBytes request job frame bytes) ≡ put request (draftOf bytes) job frame .draft
   unfolding putBytes
   put-left request job frame = came-read (put request (draftOf bytes) job frame) (put-came (draftOf bytes) request job frame)
+
+pub draft-round-trip : DraftRoundTrip
+draft-round-trip d bytes = (draft-read d bytes, draft-back bytes)
+
+pub drafts-read : DraftsRead
+drafts-read bytes request table job frame room =
+    record { started = start-left bytes room request table; lifted = lift-left bytes room request job; put-there = put-left bytes room request job frame }

@@ -1,20 +1,28 @@
--- words, the bytes of a state and those of a draft are read as they were written
-pub mod WordsBack
-pub mod RoundTrip
-pub mod DraftTrip
--- and so are those of a timer
+-- What the bytes of the calls from C say, and which of them a call changes.
+-- To be believed:
+-- the bytes of a state, a draft, a timer and a heater, both ways
+pub mod Trips
 pub mod TimerRoundTrip
--- and those of a heater
 pub mod HeaterBack
 -- which bytes of a state a call changes
 pub mod Changed
--- the bytes of the tries give the count back
+-- the bytes of the tries, of the counts of phases and of the records of a timeline give them back
 pub mod Tries
--- what answers from 0 on say, and what is planned passes the check
-pub mod Answered
--- the bytes of the counts of phases give them back
 pub mod PhaseCounts
--- the bytes of the records of a timeline give them back
 pub mod Records
--- deciding beside planning; what is decided passes the check
+-- bus_decide beside bus_plan, and what is handed out passes the check
 pub mod Decides
+-- Theorems:
+pub mod RoundTrip
+pub mod DraftTrip
+pub mod TimerRoundTripLaws
+pub mod HeaterBackLaws
+pub mod ChangedLaws
+pub mod TriesLaws
+pub mod PhaseCountLaws
+pub mod RecordLaws
+pub mod DecideLaws
+-- what answers from 0 on say
+pub mod Answered
+-- Laws:
+pub mod WordsBack

@@ -18,6 +18,7 @@ use Rattle.lent.specs.State.{isState, countIn, stateOf, stateBytes, markByte}
 use Rattle.lent.specs.StateLaws.{long, state-long}
 use Rattle.lent.specs.Entries.{pairBytes}
 use Rattle.bus_laws.specs.WordsBack.{word-back, low-back, high-back, word-read, word-there, words-read, words-back}
+use Rattle.bus_laws.specs.Trips.{StateRoundTrip}
 
 -- the counts of a state that is read are those in its bytes
 module _ (bytes : List ℕ) where
@@ -99,3 +100,6 @@ pair-there tasks jobs rest (suc n) i (suc k) h =
     let place : i + 1 + k ≡ i + suc k = omega arith in
     let there = pair-there tasks jobs rest n (i + 1) k (omega arith) in
     (rw low (there .0 ∙ ap (λ (j : ℕ). getD tasks j 0) place), rw high (there .1 ∙ ap (λ (j : ℕ). getD jobs j 0) place))
+
+pub state-round-trip : StateRoundTrip
+state-round-trip s bytes = (state-read s bytes, count-there s bytes, bytes-back bytes)

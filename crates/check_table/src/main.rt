@@ -33,7 +33,7 @@ fn print(refusal: u8) {
         return;
     }
     let mut line = io::buffer();
-    let end = listing::refused(refusal, &mut line);
+    let end = plan_listing::refused(refusal, &mut line);
     streams::print(&line[..end]);
 }
 

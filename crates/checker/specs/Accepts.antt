@@ -31,10 +31,10 @@ use Rattle.model.specs.PlausibleLaws.{PlausibleBy, plausible-says, plausible-ne
 use Rattle.model.specs.RowLaws.{frame-small}
 use Rattle.model.specs.Described.{Among, rowFor, entryFor, StandsIn, Describes}
 use Rattle.model.specs.PlanTable.{described-height}
-use Rattle.rules.specs.Every.{every}
-use Rattle.rules.specs.EveryLaws.{every-says, says-every, some-says, says-some}
-use Rattle.rules.specs.Rules.{rulesRight}
-use Rattle.rules.specs.RulesSay.{rules-say, say-rules}
+use Rattle.plan_rules.specs.Every.{every}
+use Rattle.plan_rules.specs.EveryLaws.{every-says, says-every, some-says, says-some}
+use Rattle.plan_rules.specs.Rules.{rulesRight}
+use Rattle.plan_rules.specs.RulesSay.{rules-say, say-rules}
 use Rattle.checker.specs.Checked.{placeIn, frameFor, isFound, frameAtPlace, frameIn, framesIn, isPlaced, isThere}
 use Rattle.checker.specs.Checked.{entryKept, rowsKept, entriesRight, Verdict, accepted, refusal, planOf, judgedBy, judged, checkedBy, checked}
 use Rattle.checker.specs.PlaceLaws.{entryWith, RightIn, place-right, rows-say, say-rows}
@@ -162,8 +162,7 @@ module _ {rule : ℕ → Task → Bool} (x : Instance) (t : Table) (form : WellF
         divides = can .divides;
         few-rows = can .few-rows;
         all = length-map (x .jobs) (frameIn (t .rows));
-        not-early = λ y h. k .window y h .0;
-        not-late = λ y h. k .window y h .1;
+        window = k .window;
         capacity = rw (← height) (k .capacity);
         order = k .order;
       }
@@ -243,7 +242,7 @@ module _ (x : Instance) (g : Good x) (t : Table) (frames : List ℕ) (v : IsPlan
   rules-right = say-rules x (length (t .rows)) (t .f) frames (record {
     some-row = d .form .some-rows;
     few-rows = d .form .few-rows;
-    window = λ y h. (v .not-early y h, v .not-late y h);
+    window = v .window;
     capacity = rw high (v .capacity);
     order = v .order;
   })

@@ -13,8 +13,8 @@ use Rattle.model.specs.Plan.{Instance}
 use Rattle.model.specs.Named.{isJob}
 use Rattle.model.specs.Plausible.{plausible}
 use Rattle.model.specs.Answers.{instance}
-use Rattle.rules.specs.Every.{every, some}
-use Rattle.rules.specs.Rules.{rulesRight}
+use Rattle.plan_rules.specs.Every.{every, some}
+use Rattle.plan_rules.specs.Rules.{rulesRight}
 use Rattle.checker.specs.declared.walk.Place.{Place}
 use Rattle.checker.specs.declared.walk.Place.the-variants.{At, Nowhere}
 

@@ -1,11 +1,17 @@
 -- What the check answers, and that it accepts exactly the tables that describe a plan.
+-- To be believed:
 pub mod Checked
-pub mod PlaceLaws
-pub mod Accepts
+pub mod Exactly
+pub mod Moved
+-- How answers stand in types:
 pub mod Answers
+-- Theorems:
+pub mod ExactlyLaws
+pub mod MovedLaws
+pub mod Accepts
+-- Laws:
+pub mod PlaceLaws
 pub mod WalkLaws
 pub mod LoopLaws
 pub mod ReadLaws
-pub mod Exactly
 pub mod Verdicts
-pub mod Moved

@@ -21,8 +21,8 @@ use Rattle.table.specs.declared.Sizes.{Sizes}
 use Rattle.model.specs.Plausible.{plausible}
 use Rattle.model.specs.Answers.{instanceOf}
 use Rattle.model.specs.Within.{Taken}
-use Rattle.rules.specs.Every.{every}
-use Rattle.rules.specs.Rules.{rulesRight}
+use Rattle.plan_rules.specs.Every.{every}
+use Rattle.plan_rules.specs.Rules.{rulesRight}
 use Rattle.checker.specs.Checked.{framesIn, frameIn, isPlaced, rowsKept, entriesRight, Verdict, accepted, refusal, planOf, judgedBy, judged, checkedBy, checked, numberOf}
 use Rattle.checker.specs.Answers.{framesAnswer, readAnswer, rowsOf}
 use Rattle.checker.specs.WalkLaws.{rows-count, rows-in-bytes}
@@ -60,7 +60,7 @@ module _ (c : Cycle) (few-jobs : c .count ≤ 128) where
 
     plan-is : planOf (instanceOf c) f (rowsOf s height)
         ≡ pick (both (both allPlaced (entriesKept framesOf)) (rulesRight (instanceOf c) height f framesOf)) (accepted f framesOf) (refusal 14)
-    unfolding planOf entriesRight instanceOf
+    unfolding planOf entriesRight
     plan-is = rw (count-is, jobs-count, rows-count s height 7)
 
     module _ (read : Frames) (told : read ≡ framesAnswer allPlaced framesOf) where
@@ -82,6 +82,9 @@ module _ (c : Cycle) (few-jobs : c .count ≤ 128) where
         pub frames-first : firsts (c .count) 0 (read .frames) ≡ framesOf
         frames-first = frames-are (read .frames) places-are
 
+        frames-kept : firsts (min (c .count) 128) 0 (read .frames) ≡ framesOf
+        frames-kept = ap (λ (n : ℕ). firsts n 0 (read .frames)) count-is ∙ frames-first
+
         pub entry-wrong : entriesKept (firsts (c .count) 0 (read .frames)) ≡ false
             → planOf (instanceOf c) f (rowsOf s height) ≡ refusal 14
         entry-wrong e = plan-is ∙ rw (← all-is, all, rw frames-first at e)
@@ -89,14 +92,14 @@ module _ (c : Cycle) (few-jobs : c .count ≤ 128) where
         pub rule-broken : entriesKept (firsts (c .count) 0 (read .frames)) ≡ true
             → rulesRight (instanceOf c) height f (firsts (min (c .count) 128) 0 (read .frames)) ≡ false
             → planOf (instanceOf c) f (rowsOf s height) ≡ refusal 14
-        rule-broken e q = plan-is ∙ rw (← all-is, all, rw frames-first at e, rw (count-is, frames-first) at q)
+        rule-broken e q = plan-is ∙ rw (← all-is, all, rw frames-first at e, rw frames-kept at q)
 
         pub plan-read : entriesKept (firsts (c .count) 0 (read .frames)) ≡ true
             → rulesRight (instanceOf c) height f (firsts (min (c .count) 128) 0 (read .frames)) ≡ true
             → record { refusal = 0; cycle = c; f = f; frames = read .frames } ≡ readAnswer c (planOf (instanceOf c) f (rowsOf s height))
         plan-read e q =
             let p : planOf (instanceOf c) f (rowsOf s height) ≡ accepted f framesOf
-            = plan-is ∙ rw (← all-is, all, rw frames-first at e, rw (count-is, frames-first) at q) in
+            = plan-is ∙ rw (← all-is, all, rw frames-first at e, rw frames-kept at q) in
             rw (p, places-are)
 
 -- The table has the form, and these sizes.
@@ -146,12 +149,11 @@ module _ (request bytes : List ℕ) (c : Cycle) (z : Sizes) (w : Taken request c
   judged-is = rw (w .within, o .is)
 
   pub other-cycle : (z .h ≡ c .h → ⊥) → checked (cycleOf request) (decode bytes) ≡ refusal 13
-  unfolding judgedBy instanceOf
+  unfolding judgedBy
   other-cycle ne = judged-is ∙ rw (ne-eqb (o .t .h) (c .h) (λ q. ne (o .h-is ∙ q)))
 
   module _ (same : z .h ≡ c .h) where
     same-h : eqb (o .t .h) (instanceOf c .h) ≡ true
-    unfolding instanceOf
     same-h = eq-eqb (o .t .h) (c .h) (sym (o .h-is) ∙ same)
 
     pub not-plausible : plausible (instanceOf c) (z .f) ≡ false → checked (cycleOf request) (decode bytes) ≡ refusal 13

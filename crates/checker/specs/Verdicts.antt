@@ -19,7 +19,7 @@ use Rattle.model.specs.Plausible.{plausible}
 use Rattle.model.specs.Answers.{instance, instanceOf}
 use Rattle.model.specs.Within.{Within, Taken, read-within}
 use Rattle.model.specs.Described.{Describes}
-use Rattle.rules.specs.Rules.{rulesRight}
+use Rattle.plan_rules.specs.Rules.{rulesRight}
 use Rattle.checker.specs.Checked.{framesIn, entriesRight, Verdict, accepted, refusal, planOf, judgedBy, checkedBy, checked}
 use Rattle.checker.specs.Accepts.{accepts-described}
 use Rattle.checker.specs.Answers.{readAnswer}

@@ -46,7 +46,7 @@ fn read_rows(cycle: Cycle, table: &[u8], height: u16, f: u16) -> Read
     if !walk::rows_kept(table, height, jobs, &frames, count) {
         return refused(14, cycle);
     }
-    if !rules::rules_kept(cycle, &frames, height, f) {
+    if !plan_rules::rules_kept(cycle, &frames, height, f) {
         return refused(14, cycle);
     }
     Read {

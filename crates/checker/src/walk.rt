@@ -7,7 +7,7 @@ ghost use Prim.Native.Nat.{_≤_, _<_};
 ghost use lib.ListN.{getD};
 ghost use Rattle.cursor.specs.Padded.{firsts};
 ghost use Rattle.cycle.specs.Planned.{noJob};
-ghost use Rattle.rules.specs.Every.{every, some};
+ghost use Rattle.plan_rules.specs.Every.{every, some};
 ghost use Rattle.checker.specs.Checked.{placeIn, frameFor, framesIn, isPlaced, isThere, rowKept, rowsKept};
 ghost use Rattle.checker.specs.Answers.{framesAnswer, entriesIn, rowsOf};
 
@@ -51,7 +51,7 @@ fn find(table: &[u8], height: u16, job: Job) -> Place
         'entries: while e < n {
             let task = byte_or_zero(table, at);
             let byte = byte_or_zero(table, at + 1);
-            if rules::is_job(job, task, table::job::number(byte)) {
+            if plan_rules::is_job(job, task, table::job::number(byte)) {
                 place = Place::At(row, table::job::is_carried(byte));
                 break 'rows;
             }
@@ -106,7 +106,7 @@ fn is_there(
     let mut y: usize = 0;
     while y < count {
         let job = jobs[y];
-        if rules::is_job(job, task, number) {
+        if plan_rules::is_job(job, task, number) {
             if frames[y] == k {
                 return true;
             }

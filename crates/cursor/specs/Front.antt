@@ -9,6 +9,7 @@ use lib.Seq.{append-snoc}
 use Rattle.cursor.specs.Parsed.{Parsed, got, then, records}
 use Rattle.cursor.specs.ParsedLaws.{never, then-got, got-same}
 use Rattle.cursor.specs.Fields.{byteOf, wordOf, wordBytes}
+use Rattle.cursor.specs.WordBytesLaws.{word-parts, word-back, two-bytes}
 
 -- the elements of a byte string
 abbrev pub Bytes : List ℕ → Type 0
@@ -23,13 +24,6 @@ pub record Front (bytes front rest : List ℕ) : Type 0 where
 pub front-then : {bytes front tail next rest : List ℕ} → Front bytes front tail → Front tail next rest → Front bytes (front ++ next) rest
 front-then {front} {next} {rest} one two =
     record { whole = append-assoc front next rest ∙ ap (λ (l : List ℕ). front ++ l) (two .whole) ∙ one .whole; bytes-behind = two .bytes-behind }
-
-two-bytes : (low high : ℕ) → low < 256 → wordBytes (low + high * 256) ≡ low ∷ high ∷ []
-unfolding wordBytes
-two-bytes low high h =
-    let low-is : (low + high * 256) % 256 ≡ low = omega arith in
-    let high-is : (low + high * 256) / 256 ≡ high = omega arith in
-    rw (low-is, high-is)
 
 module _ (short : ℕ) where
   byte-got : (bytes : List ℕ) (b : ℕ) (rest : List ℕ) → byteOf short bytes ≡ got b rest → (b ∷ rest) ≡ bytes
@@ -57,8 +51,8 @@ module _ (short : ℕ) where
       got-same (λ w rest. Front bytes (wordBytes w) rest) (c .second) (rw (two-bytes (b .value) (c .value) (low .0)) (front-then (low .1) (high .1)))
 
   pub word-read : (w : ℕ) (rest : List ℕ) → wordOf short (wordBytes w ++ rest) ≡ got w rest
-  unfolding wordOf wordBytes
-  word-read w rest = let is : w % 256 + w / 256 * 256 ≡ w = omega arith in rw (byte-read (w % 256), byte-read (w / 256), is)
+  unfolding wordOf
+  word-read w rest = rw (word-parts w, byte-read (w % 256), byte-read (w / 256), word-back w)
 
 flat-snoc : {A : Type 0} (write : A → List ℕ) (xs : List A) (x : A) → flatMap write (xs ++ (x ∷ [])) ≡ flatMap write xs ++ write x
 unfolding flatMap

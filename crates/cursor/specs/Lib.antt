@@ -1,14 +1,17 @@
+-- To be believed:
 pub mod Choice
-pub mod ChoiceLaws
 pub mod Parsed
-pub mod ParsedLaws
 pub mod Fields
-pub mod FieldLaws
 pub mod Front
+pub mod Padded
+pub mod Written
+-- Laws:
+pub mod WordBytesLaws
+pub mod ChoiceLaws
+pub mod ParsedLaws
+pub mod FieldLaws
 pub mod OwnBytes
 pub mod Widths
-pub mod Padded
 pub mod RecordLaws
 pub mod Parts
 pub mod Pieces
-pub mod Written

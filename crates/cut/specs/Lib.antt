@@ -1,12 +1,14 @@
--- Cutting a long transfer. To be believed:
+-- Cutting a long transfer.
+-- To be believed:
 pub mod Exactly
 -- what is computed, which CutExact pins down:
 pub mod Cut
--- laws:
+-- computed:
+pub mod Example
+-- Theorems:
+pub mod Theorem
+-- Laws:
 pub mod Places
 pub mod CutLaws
 pub mod Valid
 pub mod Alone
-pub mod Theorem
--- computed:
-pub mod Example

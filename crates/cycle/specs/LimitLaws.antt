@@ -18,9 +18,10 @@ use Rattle.request.specs.Readable.{TaskKept, Readable, KeptReading, reading-kep
 use Rattle.request.specs.declared.Task.{Task}
 use Rattle.request.specs.declared.Pair.{Pair}
 use Rattle.cycle.specs.Cycle.{lcmWith, hyperperiod, jobsIn, jobOf, allJobs, planned, Cycle, cycle, noCycle, afterReading, cycleOf}
-use Rattle.cycle.specs.Planned.{IsJob, InPlanningOrder}
+use Rattle.cycle.specs.Planned.{IsJob}
 use Rattle.cycle.specs.PlannedLaws.{Periodic, planned-in-order, planned-length}
 use Rattle.cycle.specs.declared.Job.{Job}
+pub use Rattle.cycle.specs.Limits.{WithinLimits, RequestNumber}
 
 -- The common multiple of h and the periods: what divides h divides it, every period divides it, it divides every other such multiple.
 pub lcm-with-keeps : (m h : ℕ) (tasks : List Task) → m ∣ h → m ∣ lcmWith h tasks
@@ -81,21 +82,6 @@ release-early h t p j phase d = (below, above)
     above : j < h / t → p + j * t < h
     above k = omega (arith, div-mul-cancel t d, mul-le-mul-right t k)
 
--- What a request within the limits keeps. Crates above go by this.
-pub record WithinLimits (tasks : List Task) (pairs : List Pair) (h : ℕ) (jobs : List Job) : Type 0 where
-  pub readable : Readable tasks pairs
-  pub h-is : h ≡ hyperperiod tasks
-  pub h-pos : 1 ≤ h
-  pub h-few : h ≤ 10000
-  pub jobs-are : jobs ≡ planned tasks h
-  pub jobs-few : length jobs ≤ 128
-  pub in-order : InPlanningOrder tasks h jobs
-  pub period-divides : (i : ℕ) → i < length tasks → periodOf tasks i ∣ h
-  pub period-le : (i : ℕ) → i < length tasks → periodOf tasks i ≤ h
-  pub has-job : (i : ℕ) → i < length tasks → 0 < jobsIn tasks h i
-  pub release-below : (i j : ℕ) → IsJob tasks h i j → jobOf tasks i j .release < h
-  pub due-below : (i j : ℕ) → IsJob tasks h i j → jobOf tasks i j .due < 2 * h
-
 module _ (tasks : List Task) (pairs : List Pair) (kept : Readable tasks pairs) where
   pub readable-periodic : Periodic tasks
   readable-periodic i k = let task : TaskKept (getD tasks i noTask) = kept .task i k in omega arith
@@ -132,10 +118,6 @@ module _ (tasks : List Task) (pairs : List Pair) (kept : Readable tasks pairs) w
         release-below = job-release-below h some divides;
         due-below = job-due-below h some divides;
       }
-
--- the numbers of a refused request
-abbrev pub RequestNumber : ℕ → Type 0
-RequestNumber number = ((1 ≤ number) × (number ≤ 8)) ⊎ (number ≡ 17)
 
 pub request-number-pos : {number : ℕ} → RequestNumber number → 1 ≤ number
 request-number-pos (inl n) = n .0

@@ -7,13 +7,13 @@ use native.Mathlib.Omega.{arith}
 use Rattle.cursor.specs.Choice.{pick}
 use Rattle.cursor.specs.Padded.{padded}
 use Rattle.search.specs.Search.{Found, none, at}
-use Rattle.search.specs.Counting.{planWalk, walk-plan}
+use Rattle.search.specs.Placing.{planWalk}
 use Rattle.model.specs.Plan.{Instance}
 use Rattle.model.specs.Plausible.{phaseRule}
-use Rattle.model.specs.Chosen.{Choice, noPlan, noPlausible, isTried, foundOr, chooseFromBy, chooseBy, choose, problemAt}
-use Rattle.model.specs.ChosenLaws.{choose-end, choose-skipped, choose-tried}
-use Rattle.exact_place.specs.Arrays.{foundAnswer}
-use Rattle.exact_place.specs.declared.FirstPlacing.{FirstPlacing}
+use Rattle.model.specs.Chosen.{Choice, noPlan, noPlausible, isTried, chooseWalkBy, choose, problemAt}
+use Rattle.model.specs.ChosenLaws.{foundOr, chooseFromBy, choose-end, choose-skipped, choose-tried}
+use Rattle.exact_searcher.specs.Arrays.{foundAnswer}
+use Rattle.exact_searcher.specs.declared.FirstPlacing.{FirstPlacing}
 use Rattle.decider.specs.Choices.{noneDecided, decision}
 use Rattle.decider.specs.declared.Decision.{Decision}
 
@@ -24,7 +24,7 @@ pub record Choosing (x : Instance) (rows : ℕ) (some : Bool) : Type 0 where
   pub rest : choose x ≡ chooseFromBy phaseRule x (257 - rows) rows some
 
 pub choosing-start : (x : Instance) → Choosing x 1 false
-unfolding chooseBy
+unfolding chooseWalkBy
 choosing-start x = record { begun = omega arith; most = omega arith; rest = refl }
 
 -- what an answer says of what was found
@@ -54,7 +54,7 @@ module _ {x : Instance} {rows : ℕ} {some : Bool} (v : Choosing x rows some) wh
       turn : {o : Found} → planWalk (problemAt x (x .h / rows)) [] .found ≡ o → choose x ≡ foundOr (x .h / rows) o after
       turn e =
           v .rest ∙ rw count (choose-tried phaseRule x (257 - (rows + 1)) rows some tried)
-          ∙ ap (λ (o : Found). foundOr (x .h / rows) o after) (sym (walk-plan (problemAt x (x .h / rows)) []) ∙ e)
+          ∙ ap (λ (o : Found). foundOr (x .h / rows) o after) e
 
       -- a length without a plan
       pub none-with : r .found ≡ false → Choosing x (rows + 1) true

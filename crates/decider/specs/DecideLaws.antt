@@ -18,9 +18,11 @@ use Rattle.model.specs.Answers.{instanceOf}
 use Rattle.model.specs.Within.{Taken}
 use Rattle.model.specs.Chosen.{Choice, chosen, noPlan, noPlausible, choose, RightBy, RightChoice}
 use Rattle.model.specs.ChosenLaws.{choose-right}
-use Rattle.planned_table.specs.Written.{planWritten, planBuffer}
-use Rattle.planned_table.specs.WriteLaws.{plan-written}
-use Rattle.planned_table.specs.Outcome.{Outcome, handed, refusal, outcomeAnswer, outcomeBuffer}
+use Rattle.model.specs.Described.{planTable}
+use Rattle.plan_writer.specs.Written.{planWritten, planBuffer}
+use Rattle.plan_writer.specs.WriteLaws.{plan-written}
+use Rattle.plan_writer.specs.Outcome.{Outcome, handed, refusal, outcomeAnswer, outcomeBuffer}
+use Rattle.plan_writer.specs.OutcomeLaws.{refused-answer, refused-buffer, table-answer, table-buffer}
 use Rattle.planner.specs.Outcome.{byChoice, inCycle, outcome, requestTries, outcomeWithin, searchedAnswer}
 use Rattle.planner.specs.PlanLaws.{within-reached, within-exceeded}
 use Rattle.planner.specs.declared.Searched.{Searched}
@@ -32,8 +34,7 @@ abbrev pub Decides : List ℕ → List ℕ → Written → List ℕ → Type 0
 Decides s out r out′ = (r ≡ outcomeAnswer (outcome s) out) × (out′ ≡ outcomeBuffer (outcome s) out)
 
 refusal-decided : (s : List ℕ) (number : ℕ) → outcome s ≡ refusal number → (out : List ℕ) → Decides s out (record { refusal = number; length = 0 }) out
-unfolding outcomeAnswer outcomeBuffer
-refusal-decided s number e out = rw e (refl, refl)
+refusal-decided s number e out = rw e (sym (refused-answer number out), sym (refused-buffer number out))
 
 -- the request is refused
 pub not-within : (s : List ℕ) (number : ℕ) → cycleOf s ≡ noCycle number → (out : List ℕ) → Decides s out (record { refusal = number; length = 0 }) out
@@ -63,13 +64,14 @@ module _ (s : List ℕ) (d : c.Cycle) (t : Taken s d) where
     -- the chosen plan is written
     pub plan-decided : p .refusal ≡ 0 → (out : List ℕ) {w : Written} {out′ : List ℕ} → w ≡ planWritten x (p .f) (p .frames) out
         → out′ ≡ planBuffer x (p .f) (p .frames) out → Decides s out w out′
-    unfolding decision RightBy outcomeAnswer outcomeBuffer
+    unfolding decision RightBy
     plan-decided z out {w} {out′} w-is out-is = go (choose x) refl p-is (choose-right x (t .limits .good))
       where
         go : (o : Choice) → choose x ≡ o → p ≡ decision o → RightChoice x o → Decides s out w out′
         go (chosen f frames) e q r =
             let written = plan-written x (t .limits .good) f frames out (r .is-plan .all) in
-            rw (outcome-is e) (w-is ∙ rw q (written .0), out-is ∙ rw q (written .1))
+            let table = planTable x f frames in
+            rw (outcome-is e) (w-is ∙ rw q (written .0) ∙ sym (table-answer table out), out-is ∙ rw q (written .1) ∙ sym (table-buffer table out))
         go noPlan e q r = absurd (omega (arith, ap (λ (y : Decision). y .refusal) q))
         go noPlausible e q r = absurd (omega (arith, ap (λ (y : Decision). y .refusal) q))
 
@@ -94,19 +96,21 @@ module _ (a : ℕ) (s out : List ℕ) {r : Searched} {out′ : List ℕ} (r-is :
       (λ i. record { refusal = number i; length = size i }, out-is ∙ ap (λ (o : Outcome). outcomeBuffer o out) same)
 
   pub easily-decided : (r .refusal ≡ 23 → ⊥) → Decides s out (record { refusal = r .refusal; length = r .length }) out′
-  unfolding searchedAnswer outcomeAnswer
+  unfolding searchedAnswer
   easily-decided ne = ⊎-elim (λ t. absurd (ne (open-then t))) reached (lt-or-ge a (requestTries s))
     where
       open-then : a < requestTries s → r .refusal ≡ 23
-      open-then t = ap (λ (y : Searched). y .refusal) r-is ∙ ap (λ (o : Outcome). outcomeAnswer o out .refusal) (within-exceeded a s t)
+      open-then t =
+          ap (λ (y : Searched). y .refusal) r-is ∙ ap (λ (o : Outcome). outcomeAnswer o out .refusal) (within-exceeded a s t)
+          ∙ ap (λ (w : Written). w .refusal) (refused-answer 23 out)
 
   left-as-it-was : r .refusal ≡ 23 → out′ ≡ out
-  unfolding searchedAnswer outcomeAnswer outcomeBuffer
+  unfolding searchedAnswer
   left-as-it-was e = out-is ∙ go (outcomeWithin a s) (sym (ap (λ (y : Searched). y .refusal) r-is) ∙ e)
     where
       go : (o : Outcome) → outcomeAnswer o out .refusal ≡ 23 → outcomeBuffer o out ≡ out
-      go (handed t) q = absurd (never-open (encode t) out q)
-      go (refusal number) q = refl
+      go (handed t) q = absurd (never-open (encode t) out (sym (ap (λ (w : Written). w .refusal) (table-answer t out)) ∙ q))
+      go (refusal number) q = refused-buffer number out
 
   pub then-exactly : r .refusal ≡ 23 → {w : Written} {out″ : List ℕ} → Decides s out′ w out″ → Decides s out w out″
   then-exactly e {w} {out″} d = subst (λ (l : List ℕ). Decides s l w out″) (left-as-it-was e) d

@@ -3,19 +3,19 @@
 // exact search is made.
 use cursor::Written;
 use cycle::Cycle;
-use exact_place::FirstPlacing;
+use exact_searcher::FirstPlacing;
 use problem::JobLinks;
 ghost use mathlib.Core.Path.{_≡_};
 ghost use mathlib.Core.List.{[]};
-ghost use Rattle.search.specs.Counting.{planWalk};
+ghost use Rattle.search.specs.Placing.{planWalk};
 ghost use Rattle.model.specs.Answers.{instanceOf};
 ghost use Rattle.model.specs.Within.{InLimits};
 ghost use Rattle.model.specs.Chosen.{problemAt};
 ghost use Rattle.model.specs.Chosen as chosen;
-ghost use Rattle.planned_table.specs.Outcome.{outcomeAnswer, outcomeBuffer};
+ghost use Rattle.plan_writer.specs.Outcome.{outcomeAnswer, outcomeBuffer};
 ghost use Rattle.planner.specs.Outcome.{outcome};
 ghost use Rattle.planner.specs.Choices.{Searchable};
-ghost use Rattle.exact_place.specs.Arrays.{foundAnswer};
+ghost use Rattle.exact_searcher.specs.Arrays.{foundAnswer};
 ghost use Rattle.decider.specs.Choices.{noneDecided, decision};
 
 // The frame length and the frame of each job of the chosen plan; or 9 or 10.
@@ -31,7 +31,7 @@ fn plan_with(cycle: Cycle, cost: [u32; 128], links: JobLinks, f: u16) -> FirstPl
     ensures { λ r. ⌜ r ≡ foundAnswer (planWalk (problemAt (instanceOf cycle) f) [] .found) ⌝ }
 {
     let given = planner::choose::given_at(cycle, cost, links, f);
-    exact_place::place_all(given)
+    exact_searcher::place_all(given)
 }
 
 fn none_decided(refusal: u8) -> Decision
@@ -100,7 +100,7 @@ fn decide_exactly(request: &[u8], out: &mut [u8]) -> Written
         return refused(chosen.refusal);
     }
     let frames = chosen.frames;
-    planned_table::write(cycle, chosen.f, frames, out)
+    plan_writer::write(cycle, chosen.f, frames, out)
 }
 
 // What the plain search is allowed before the exact one begins: so a request that is planned at once costs what `plan` costs.

@@ -13,10 +13,10 @@ use Rattle.model.specs.Plan.{Instance, jobAt, rowsAt, costs}
 use Rattle.model.specs.Answers.{instance}
 use Rattle.model.specs.Plausible.{plausible}
 use Rattle.model.specs.Described.{planTable}
-use Rattle.rules.specs.Every.{every}
-use Rattle.rules.specs.Rules.{inWindow, rulesRight}
+use Rattle.plan_rules.specs.Every.{every}
+use Rattle.plan_rules.specs.Rules.{inWindow, rulesRight}
 use Rattle.checker.specs.Checked as checker
-use Rattle.planned_table.specs.Outcome.{Outcome, handed, refusal}
+use Rattle.plan_writer.specs.Outcome.{Outcome, handed, refusal}
 use Rattle.draft.specs.declared.Draft.{Draft}
 use Rattle.draft.specs.declared.Drafted.{Drafted}
 
@@ -110,11 +110,11 @@ module _ (x : Instance) (d : Draft) where
   costAt y = getD (costs x) y 0
 
   -- "A lift marks its job lifted"
-  unfoldable pub afterLift : ℕ → Draft
+  abbrev pub afterLift : ℕ → Draft
   afterLift y = let r = rowIn (frameOf x d y) in touched d y lifted r (loadAt x d r - costAt y)
 
   -- "a put gives it the frame named"
-  unfoldable pub afterPut : ℕ → ℕ → Draft
+  abbrev pub afterPut : ℕ → ℕ → Draft
   afterPut y k = touched d y k (rowIn k) (loadAt x d (rowIn k) + costAt y)
 
   -- not "an unknown job"

@@ -12,10 +12,10 @@ use borrow.Author.Tests.{le-leb}
 use Rattle.cursor.specs.ChoiceLaws.{lt-or-ge}
 use Rattle.cursor.specs.Padded.{firsts, getD-blanks}
 use Rattle.search.specs.Placing.{row-sum}
-use Rattle.rules.specs.Every.{every}
-use Rattle.rules.specs.EveryLaws.{says-every}
-use Rattle.rules.specs.Rules.{capacityKept}
-use Rattle.rules.specs.LoopLaws.{Kept, kept-none, row-inside, kept-more, overloaded}
+use Rattle.plan_rules.specs.Every.{every}
+use Rattle.plan_rules.specs.EveryLaws.{says-every}
+use Rattle.plan_rules.specs.Rules.{capacityKept}
+use Rattle.plan_rules.specs.LoopLaws.{Kept, kept-none, row-inside, kept-more, overloaded}
 use Rattle.draft.specs.Answers.{RowsFit, LoadsAre}
 
 module _ (rows : ℕ) (cost frames : List ℕ) (n : ℕ) where

@@ -25,10 +25,10 @@ use Rattle.model.specs.Plausible.{plausible}
 use Rattle.model.specs.PlausibleLaws.{IsPlausible, plausible-says}
 use Rattle.model.specs.Answers.{instanceOf, jobs-counted}
 use Rattle.model.specs.Within.{Taken}
-use Rattle.rules.specs.Every.{every}
-use Rattle.rules.specs.EveryLaws.{every-says}
-use Rattle.rules.specs.Rules.{inWindow, rulesRight}
-use Rattle.rules.specs.RulesSay.{RulesKept, rules-say}
+use Rattle.plan_rules.specs.Every.{every}
+use Rattle.plan_rules.specs.EveryLaws.{every-says}
+use Rattle.plan_rules.specs.Rules.{inWindow, rulesRight}
+use Rattle.plan_rules.specs.RulesSay.{RulesKept, rules-say}
 use Rattle.checker.specs.Checked as checker
 use Rattle.checker.specs.Answers.{readAnswer}
 use Rattle.checker.specs.Verdicts.{HandedOn, handed-on}
@@ -36,8 +36,9 @@ use Rattle.checker.specs.declared.Read.{Read}
 use Rattle.cursor.specs.declared.Written.{Written}
 use Rattle.model.specs.Described.{planTable}
 use Rattle.model.specs.LayoutPlan.{layout-is-table}
-use Rattle.planned_table.specs.Outcome.{handed, refusal, outcomeAnswer, outcomeBuffer}
-use Rattle.planned_table.specs.Written.{layoutOf, planWritten, planBuffer}
+use Rattle.plan_writer.specs.Outcome.{handed, refusal, outcomeAnswer, outcomeBuffer}
+use Rattle.plan_writer.specs.OutcomeLaws.{refused-answer, refused-buffer}
+use Rattle.plan_writer.specs.Written.{layoutOf, planWritten, planBuffer}
 use Rattle.draft.specs.Draft.{lifted, isLifted, framesHeld, placedPart, placedFrames, rowCount, sumOf, loadRight, soundDraft, noDraft, loadsFrom, draftOf, startOf, start, kept, touched}
 use Rattle.draft.specs.Draft.{afterLift, afterPut, canMove, liftIn, putThere, putIn, liftOf, putOf, lift, put, isDown, noneLifted, writeIn, writeOf, write}
 use Rattle.draft.specs.Answers.{RowsFit, LoadsAre, Movable}
@@ -64,7 +65,6 @@ tests x d e =
 -- the C + g of the job at place y
 pub cost-is : (c : answer.Cycle) (y : ℕ) → y < c .count → c .count ≤ 128 → (v : ℕ)
     → v ≡ slot (c .g) (getD (firsts (min (c .n) 16) noTask (c .tasks)) (getD (c .jobs) y noJob .task) noTask) → v ≡ getD (costs (instanceOf c)) y 0
-unfolding instanceOf
 cost-is c y h few v e =
     let low : y < min (c .count) 128 = omega arith in
     let job = getD-firsts noJob (c .jobs) (min (c .count) 128) y low in
@@ -73,11 +73,9 @@ cost-is c y h few v e =
 
 module _ (c : answer.Cycle) (d : Draft) (y : ℕ) where
   pub unknown : min (c .count) 128 ≤ y → false ≡ canMove (instanceOf c) d y
-  unfolding instanceOf
   unknown h = rw (le-ltb y (length (firsts (min (c .count) 128) noJob (c .jobs))) (omega (arith, firsts-length noJob (c .jobs) (min (c .count) 128))))
 
   pub sound-decides : y < min (c .count) 128 → soundDraft (instanceOf c) d ≡ canMove (instanceOf c) d y
-  unfolding instanceOf
   sound-decides h = rw (lt-ltb y (length (firsts (min (c .count) 128) noJob (c .jobs))) (omega (arith, firsts-length noJob (c .jobs) (min (c .count) 128))))
 
   pub movable : (request : List ℕ) → Taken request c → canMove (instanceOf c) d y ≡ true → Movable c d y
@@ -97,20 +95,17 @@ module _ (c : answer.Cycle) (d : Draft) (y : ℕ) where
     in-range = omega (arith, m .known, m .limits .few-jobs)
 
     pub rows-are : (0 < d .f) × (0 < c .h / d .f) × (c .h / d .f ≤ 256)
-    unfolding instanceOf
     rows-are = (test .can .some, quotient-pos (c .h) (d .f) (m .limits .good .some-time) (test .can .divides), test .can .few-rows)
 
     known-there : y < length (instanceOf c .jobs)
     known-there = omega (arith, m .known, jobs-counted c (m .limits .few-jobs))
 
     job-is : getD (c .jobs) y noJob ≡ jobAt (instanceOf c) y
-    unfolding instanceOf
     job-is = sym (getD-firsts noJob (c .jobs) (min (c .count) 128) y (omega (arith, m .known, m .limits .few-jobs)))
 
     -- a placed job's row has it in its load
     pub load-has : isLifted (getD (d .frames) y 0) ≡ false
         → (getD (costs (instanceOf c)) y 0 ≤ getD (d .loads) (getD (d .frames) y 0 % (c .h / d .f)) 0) × (getD (costs (instanceOf c)) y 0 ≤ d .f)
-    unfolding instanceOf
     load-has down =
         let r : ℕ = getD (d .frames) y 0 % (c .h / d .f) in
         let low : r < c .h / d .f = mod-lt (getD (d .frames) y 0) (rows-are .1) in
@@ -119,13 +114,11 @@ module _ (c : answer.Cycle) (d : Draft) (y : ℕ) where
 
     pub lift-is : (row v : ℕ) → row ≡ getD (d .frames) y 0 % (c .h / d .f) → v ≡ getD (costs (instanceOf c)) y 0
         → touched d y lifted row (getD (d .loads) row 0 - v) ≡ afterLift (instanceOf c) d y
-    unfolding afterLift instanceOf
     lift-is row v row-is v-is = rw (row-is, v-is)
 
     module _ (k : ℕ) where
       pub put-is : (row v : ℕ) → row ≡ k % (c .h / d .f) → v ≡ getD (costs (instanceOf c)) y 0
           → touched d y k row (getD (d .loads) row 0 + v) ≡ afterPut (instanceOf c) d y k
-      unfolding afterPut instanceOf
       put-is row v row-is v-is = rw (row-is, v-is)
 
       pub outside : inWindow (d .f) (getD (c .jobs) y noJob) k ≡ false → kept 27 d ≡ putThere (instanceOf c) d y k
@@ -135,7 +128,6 @@ module _ (c : answer.Cycle) (d : Draft) (y : ℕ) where
       module _ (inside : inWindow (d .f) (getD (c .jobs) y noJob) k ≡ true) (row v : ℕ) (row-is : row ≡ k % (c .h / d .f)) (v-is : v ≡ getD (costs (instanceOf c)) y 0) where
         room-is : (b : Bool) → hasRoom (getD (d .loads) row 0) (d .f) v ≡ b
             → hasRoom (getD (d .loads) (k % rowCount (instanceOf c) d) 0) (d .f) (getD (costs (instanceOf c)) y 0) ≡ b
-        unfolding instanceOf
         room-is b e = rw (row-is, v-is) at e
 
         pub full : hasRoom (getD (d .loads) row 0) (d .f) v ≡ false → kept 28 d ≡ putThere (instanceOf c) d y k
@@ -276,7 +268,6 @@ module _ (request bytes : List ℕ) (r : Read) (e : r ≡ readAnswer (answered (
           ap (λ (n : ℕ). firsts n 0 cost) (sym size) ∙ ap (firsts (length (costs x)) 0) cost-list ∙ firsts-padded 128 0 (costs x)
 
       pub rows-fit : r .f ≤ 65535 → RowsFit (r .cycle .h / r .f) (firsts (r .cycle .count) 0 cost) (firsts (r .cycle .count) 0 (r .frames))
-      unfolding instanceOf
       rows-fit wide = record {
         some-row = rows-pos x (plan .taken .limits .good) (r .f) (plan .frames) (plan .is-plan);
         few-rows = plan .is-plan .few-rows;
@@ -285,7 +276,7 @@ module _ (request bytes : List ℕ) (r : Read) (e : r ≡ readAnswer (answered (
 
       pub start-done : (loads : List ℕ) → LoadsAre (r .cycle .h / r .f) (firsts (r .cycle .count) 0 cost) (firsts (r .cycle .count) 0 (r .frames)) loads
           → kept 0 (record { f = r .f; frames = r .frames; loads = loads }) ≡ start request bytes
-      unfolding draftOf instanceOf
+      unfolding draftOf
       start-done loads are =
           let same = loads-listed (r .cycle .h / r .f) (costs x) (plan .frames) (plan .is-plan .few-rows) loads (rw (costs-first, frames-first) at are) in
           (λ i. kept 0 (record { f = r .f; frames = plan .frames-are i; loads = same i })) ∙ sym started
@@ -305,8 +296,7 @@ module _ (request : List ℕ) (d : Draft) (out : List ℕ) where
   Hands w out′ = (w ≡ outcomeAnswer (write request d) out) × (out′ ≡ outcomeBuffer (write request d) out)
 
   refuses : (number : ℕ) → write request d ≡ refusal number → Hands (record { refusal = number; length = 0 }) out
-  unfolding outcomeAnswer outcomeBuffer
-  refuses number e = rw e (refl, refl)
+  refuses number e = rw e (sym (refused-answer number out), sym (refused-buffer number out))
 
   pub write-refused : (number : ℕ) → cycleOf request ≡ noCycle number → Hands (record { refusal = number; length = 0 }) out
   write-refused number e = refuses number (write-none request d number e)

@@ -13,7 +13,7 @@ use Rattle.table.specs.Table.{decode}
 use Rattle.model.specs.Plan.{Instance, jobAt, rowsAt, costs}
 use Rattle.model.specs.Answers.{instance}
 use Rattle.model.specs.Within.{within-good}
-use Rattle.rules.specs.Rules.{inWindow}
+use Rattle.plan_rules.specs.Rules.{inWindow}
 use Rattle.checker.specs.Checked as checker
 use Rattle.checker.specs.Verdicts.{plan-read}
 use Rattle.draft.specs.Draft.{isLifted, frameOf, noDraft, draftOf, startOf, start, kept, touched, afterLift, afterPut, canMove, hasPlace, liftIn, putThere, putIn, liftOf, putOf, lift, put}
@@ -29,7 +29,7 @@ CameTo d made =
 
 module _ (d : Draft) where
   pub lift-came : (request : List ℕ) (y : ℕ) → CameTo d (lift request d y)
-  unfolding lift liftIn afterLift
+  unfolding lift liftIn
   lift-came request y = go (cycleOf request)
     where
       tested : (x : Instance) (a b : Bool) → CameTo d (pick a (pick b (kept 26 d) (kept 0 (afterLift x d y))) (kept 26 d))
@@ -42,7 +42,7 @@ module _ (d : Draft) where
       go (noCycle number) = inl (number, refl)
 
   pub put-came : (request : List ℕ) (y k : ℕ) → CameTo d (put request d y k)
-  unfolding put putIn putThere afterPut
+  unfolding put putIn putThere
   put-came request y k = go (cycleOf request)
     where
       tested : (x : Instance) (a b inside place : Bool)

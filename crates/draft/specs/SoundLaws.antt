@@ -1,5 +1,5 @@
 -- The test of a draft says what Sound says, and nothing else. The rules are tested on the list of the placed jobs, and hold of them exactly if they hold at their places.
-use Prim.Native.Nat.{ℕ, _+_, _*_, _≤_, _<_}
+use Prim.Native.Nat.{ℕ, _≤_, _<_}
 use mathlib.Core.Path.{_≡_, sym, subst, _∙_}
 use mathlib.Core.Bool.{true}
 use native.Mathlib.Omega.{arith}
@@ -10,12 +10,12 @@ use Rattle.cursor.specs.ParsedLaws.{both-true}
 use Rattle.cursor.specs.Padded.{firsts-length, getD-firsts}
 use Rattle.cycle.specs.Planned.{noJob}
 use Rattle.cycle.specs.declared.Job.{Job}
-use Rattle.model.specs.Plan.{Instance, jobAt, pairAt, frameAt, PairsKept}
+use Rattle.model.specs.Plan.{Instance, jobAt, pairAt, frameAt, PairsKept, InWindow}
 use Rattle.model.specs.Good.{Good}
 use Rattle.model.specs.Plausible.{plausible}
 use Rattle.model.specs.PlausibleLaws.{IsPlausible, plausible-says}
-use Rattle.rules.specs.EveryLaws.{says-every}
-use Rattle.rules.specs.RulesSay.{RulesKept, say-rules}
+use Rattle.plan_rules.specs.EveryLaws.{says-every}
+use Rattle.plan_rules.specs.RulesSay.{RulesKept, say-rules}
 use Rattle.draft.specs.Draft.{frameOf, framesHeld, placedPart, placedFrames, rowCount, loadRight, soundDraft}
 use Rattle.draft.specs.Kept.{IsPlaced, LinkedBy, Sound, SoundTheorem}
 use Rattle.draft.specs.PlacedLaws.{of-placed, placed-of}
@@ -45,8 +45,8 @@ module _ (x : Instance) (d : Draft) where
         subst (P (jobAt x y)) (sym (here y known)) (h y (record { known = known; down = λ q. down (here y known ∙ q) })))
 
   -- the window, and the order of a pair
-  abbrev InWindow : Job → ℕ → Type 0
-  InWindow job k = (job .release ≤ k * d .f) × ((k + 1) * d .f ≤ job .due)
+  abbrev Inside : Job → ℕ → Type 0
+  Inside job k = InWindow (d .f) (job .release) (job .due) k
 
   abbrev Behind : ℕ → Job → ℕ → Job → ℕ → Type 0
   Behind u one k other l = one .task ≡ pairAt x u .a → other .task ≡ pairAt x u .b → one .number ≡ other .number → k ≤ l
@@ -64,8 +64,8 @@ module _ (x : Instance) (d : Draft) where
       record {
         plausible-f = both-true (plausible x (d .f)) _ e .0;
         loads-are = t .loads;
-        not-early = λ y p. at-place InWindow (λ i h. t .rules .window i h) y p .0;
-        not-late = λ y p. at-place InWindow (λ i h. t .rules .window i h) y p .1;
+        not-early = λ y p. at-place Inside (t .rules .window) y p .not-early;
+        not-late = λ y p. at-place Inside (t .rules .window) y p .not-late;
         capacity = t .rules .capacity;
         order = order;
       }
@@ -84,7 +84,7 @@ module _ (x : Instance) (d : Draft) where
     rules = record {
       some-row = quotient-pos (x .h) (d .f) (g .some-time) (can .divides);
       few-rows = can .few-rows;
-      window = in-list InWindow (λ y p. (s .not-early y p, s .not-late y p));
+      window = in-list Inside (λ y p. record { not-early = s .not-early y p; not-late = s .not-late y p });
       capacity = s .capacity;
       order = ordered;
     }

@@ -15,9 +15,9 @@ use Rattle.model.specs.PlanLaws.{costs-length}
 use Rattle.model.specs.Plausible.{plausible}
 use Rattle.model.specs.PlausibleLaws.{plausible-says}
 use Rattle.model.specs.Answers.{instanceOf}
-use Rattle.rules.specs.Every.{allFrom, every}
-use Rattle.rules.specs.Rules.{rulesRight}
-use Rattle.rules.specs.RulesSay.{RulesKept, rules-say}
+use Rattle.plan_rules.specs.Every.{allFrom, every}
+use Rattle.plan_rules.specs.Rules.{rulesRight}
+use Rattle.plan_rules.specs.RulesSay.{RulesKept, rules-say}
 use Rattle.draft.specs.Draft.{placedOf, framesHeld, placedPart, placedFrames, loadRight, soundDraft}
 use Rattle.draft.specs.Answers.{placing, withJobs, sameAt, RowsFit, LoadsAre}
 use Rattle.draft.specs.PlacedLaws.{placed-count, placed-few}
@@ -68,11 +68,9 @@ module _ (c : answer.Cycle) (d : Draft) where
       count-is = ap (λ (q : Placing). q .count) so
 
       held-is : framesHeld (instanceOf c) d ≡ firsts n 0 (d .frames)
-      unfolding instanceOf
       held-is = rw (firsts-length noJob (c .jobs) (min (c .count) 128), n-is)
 
       jobs-are : instanceOf c .jobs ≡ firsts n noJob (c .jobs)
-      unfolding instanceOf
       jobs-are = rw n-is
 
       placed-jobs : placedOf (framesHeld (instanceOf c) d) (instanceOf c .jobs) ≡ jobs
@@ -90,7 +88,6 @@ module _ (c : answer.Cycle) (d : Draft) where
       small = omega (arith, count-is, few)
 
       pub part-is : instanceOf part ≡ placedPart (instanceOf c) d
-      unfolding instanceOf
       part-is =
           let same : firsts (min (p .count) 128) noJob (p .jobs) ≡ placedOf (framesHeld (instanceOf c) d) (instanceOf c .jobs) = rw (small, their-jobs) (sym placed-jobs) in
           λ i. record {
@@ -108,10 +105,10 @@ module _ (c : answer.Cycle) (d : Draft) where
       rulesAnswer = rulesRight (instanceOf part) (c .h / d .f) (d .f) (firsts (min (p .count) 128) 0 (p .frames))
 
       answer-is : rulesAnswer ≡ rulesRight (placedPart (instanceOf c) d) (c .h / d .f) (d .f) (placedFrames (instanceOf c) d)
-      answer-is = rw (small, part-is, frames-are)
+      answer-is = rw (part-is, small, frames-are)
 
       pub rules-broken : rulesAnswer ≡ false → false ≡ soundDraft (instanceOf c) d
-      unfolding soundDraft instanceOf
+      unfolding soundDraft
       rules-broken e =
           let broken : rulesRight (placedPart (instanceOf c) d) (c .h / d .f) (d .f) (placedFrames (instanceOf c) d) ≡ false = sym answer-is ∙ e in
           rw (can, broken)
@@ -145,7 +142,7 @@ module _ (c : answer.Cycle) (d : Draft) where
 
           pub loads-decide : (sums : List ℕ) → LoadsAre (c .h / d .f) (firsts (p .count) 0 cost) (firsts (p .count) 0 (p .frames)) sums
               → every (c .h / d .f) (sameAt (d .loads) sums) ≡ soundDraft (instanceOf c) d
-          unfolding soundDraft instanceOf sameAt
+          unfolding soundDraft sameAt
           loads-decide sums are =
               let told = rw (costs-are, frames-are) at (are .sums) in
               let same : every (c .h / d .f) (sameAt (d .loads) sums) ≡ every (c .h / d .f) (loadRight (instanceOf c) d)

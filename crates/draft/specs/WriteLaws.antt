@@ -13,9 +13,9 @@ use Rattle.model.specs.Plan.{Instance, IsPlan}
 use Rattle.model.specs.Answers.{instance}
 use Rattle.model.specs.Within.{Within, within-or-not}
 use Rattle.model.specs.Described.{planTable}
-use Rattle.rules.specs.EveryLaws.{every-says}
-use Rattle.rules.specs.RulesSay.{RulesKept}
-use Rattle.planned_table.specs.Outcome.{handed, refusal}
+use Rattle.plan_rules.specs.EveryLaws.{every-says}
+use Rattle.plan_rules.specs.RulesSay.{RulesKept}
+use Rattle.plan_writer.specs.Outcome.{handed, refusal}
 use Rattle.draft.specs.Draft.{lifted, isDown, placedOf, framesHeld, placedPart, placedFrames, rowCount, soundDraft, noneLifted, writeIn, write}
 use Rattle.draft.specs.MoveLaws.{tests}
 use Rattle.draft.specs.declared.Draft.{Draft}
@@ -53,8 +53,7 @@ module _ (x : Instance) (d : Draft) (none : noneLifted x d ≡ true) (sound : so
         divides = t .can .divides;
         few-rows = t .can .few-rows;
         all = sizes;
-        not-early = λ y h. rules .window y h .0;
-        not-late = λ y h. rules .window y h .1;
+        window = rules .window;
         capacity = rules .capacity;
         order = rules .order;
       }

@@ -12,8 +12,8 @@ ghost use Rattle.cycle.specs.Planned.{noJob};
 ghost use Rattle.search.specs.Placing.{hasRoom};
 ghost use Rattle.model.specs.Plan.{costs};
 ghost use Rattle.model.specs.Answers.{instanceOf};
-ghost use Rattle.rules.specs.Every.{every};
-ghost use Rattle.planned_table.specs.Outcome.{outcomeAnswer, outcomeBuffer};
+ghost use Rattle.plan_rules.specs.Every.{every};
+ghost use Rattle.plan_writer.specs.Outcome.{outcomeAnswer, outcomeBuffer};
 ghost use Rattle.draft.specs.Draft.{isLifted, isDown, soundDraft, noDraft, kept, touched, afterLift, afterPut, canMove, putThere, start, lift, put, write};
 ghost use Rattle.draft.specs.Answers.{placing, withJobs, sameAt, RowsFit, LoadsAre, Movable};
 
@@ -167,7 +167,7 @@ fn is_sound(cycle: Cycle, draft: Draft) -> bool
     let count = standing.count;
     let part = with_jobs(cycle, their_jobs, count);
     let rows = cycle.h / draft.f;
-    if !rules::rules_kept(part, &their_frames, rows, draft.f) {
+    if !plan_rules::rules_kept(part, &their_frames, rows, draft.f) {
         return false;
     }
     let cost = problem::costs(part);
@@ -247,7 +247,7 @@ fn put_there(cycle: Cycle, draft: Draft, y: usize, k: u16) -> Drafted
 {
     let jobs = cycle.jobs;
     let job = jobs[y];
-    if !rules::in_window(job, k, draft.f) {
+    if !plan_rules::in_window(job, k, draft.f) {
         return kept(27, draft);
     }
     let row = row_of(cycle.h, draft.f, k);
@@ -349,5 +349,5 @@ pub fn write(request: &[u8], draft: Draft, out: &mut [u8]) -> Written
             length: 0,
         };
     }
-    planned_table::write(cycle, draft.f, frames, out)
+    plan_writer::write(cycle, draft.f, frames, out)
 }

@@ -17,7 +17,7 @@ use Rattle.model.specs.Good.{Good}
 use Rattle.model.specs.Within.{Within}
 use Rattle.model.specs.Described.{Describes}
 use Rattle.checker.specs.Checked.{accepted, checked, checkNumber}
-use Rattle.planned_table.specs.Outcome.{outcomeAnswer, outcomeBuffer}
+use Rattle.plan_writer.specs.Outcome.{outcomeAnswer, outcomeBuffer}
 use Rattle.draft.specs.Draft.{lifted, frameOf, loadAt, framesHeld, rowCount, sumOf, rowIn, costAt, noDraft, start, lift, put, write}
 use Rattle.draft.specs.Kept.{Sized, IsLifted, IsPlaced, LinkedBy, Sound}
 use Rattle.draft.specs.declared.Draft.{Draft}

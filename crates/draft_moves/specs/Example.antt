@@ -21,11 +21,11 @@ use Rattle.model.specs.Plan.{slot, costOf, costs}
 use Rattle.model.specs.Plausible.{commonRule, phaseRule, frameRule, frameRules, plausibleBy}
 use Rattle.model.specs.Named.{isJob}
 use Rattle.model.specs.Described.{rowFor, entryFor, placesOf, placesFrom, placesByTask, placesIn, planRows, planTable}
-use Rattle.planned_table.specs.Outcome.{outcomeAnswer, outcomeBuffer}
-use Rattle.rules.specs.Every as every
-use Rattle.rules.specs.Rules as rules
+use Rattle.plan_writer.specs.Outcome.{outcomeAnswer, outcomeBuffer}
+use Rattle.plan_rules.specs.Every as every
+use Rattle.plan_rules.specs.Rules as rules
 use Rattle.checker.specs.Checked as checker
-use Rattle.draft.specs.Draft.{lifted, isDown, placedOf, soundDraft, noDraft, loadsFrom, draftOf, start, afterLift, afterPut, liftIn, putThere, putIn}
+use Rattle.draft.specs.Draft.{lifted, isDown, placedOf, soundDraft, noDraft, loadsFrom, draftOf, start, liftIn, putThere, putIn}
 use Rattle.draft.specs.Draft.{noneLifted, writeIn, lift, put, write}
 use Rattle.draft.specs.declared.Draft.{Draft}
 use Rattle.draft_moves.specs.Moves.{Move, lifts, puts, moved, draftAfter}
@@ -141,7 +141,7 @@ unfolding cycleOf reading tasksOf taskOf judgedTask taskRule pairsOf pairOf judg
     checker.entriesRight rules.capacityKept checker.rowsKept checker.rowKept checker.entryKept rules.pairKept rules.oneKept rules.otherKept rules.windowKept
     checker.isThere rules.inWindow checker.isPlaced checker.framesIn checker.frameIn checker.frameFor checker.placeIn checker.placeInRow
     every.someFrom every.allFrom outcomeAnswer outcomeBuffer written buffer firsts
-    placedOf isDown loadsFrom soundDraft draftOf start afterLift afterPut liftIn putThere putIn noneLifted writeIn lift put write draftAfter numbers
+    placedOf isDown loadsFrom soundDraft draftOf start liftIn putThere putIn noneLifted writeIn lift put write draftAfter numbers
 examples = record {
   P1-started = refl;
   P1-refused = refl;

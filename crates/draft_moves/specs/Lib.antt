@@ -1,12 +1,15 @@
--- What the four calls on drafts answer, exactly; and what holds after every list of moves. To be believed, behind draft's Draft and Kept: Exactly, Moves.
+-- What the four calls on drafts answer, exactly; and what holds after every list of moves.
+-- To be believed:
 pub mod Exactly
 pub mod Moves
+-- Theorems:
 pub mod SumsAre
-pub mod StepLaws
-pub mod Decided
-pub mod Ways
 pub mod ExactLaws
 pub mod WrittenLaws
 pub mod StartLaws
 pub mod MoveTheorem
+-- Laws:
+pub mod StepLaws
+pub mod Decided
+pub mod Ways
 pub mod Example

@@ -3,7 +3,7 @@
 use Prim.Native.Nat.{ℕ, _+_, _-_, _≤_, _<_}
 use mathlib.Core.Path.{_≡_, refl, sym, ap, subst, _∙_}
 use mathlib.Core.Bool.{Bool, true, false}
-use mathlib.Core.Logic.{_⊎_, inl, inr, ⊎-elim}
+use mathlib.Core.Logic.{inl, inr, ⊎-elim}
 use mathlib.Core.List.{List}
 use native.Mathlib.Nat.{mod-lt}
 use native.Mathlib.Omega.{arith}
@@ -46,11 +46,9 @@ module _ (x : Instance) (g : Good x) (d : Draft) (sized : Sized d) (y k : ℕ) (
   in-range = omega (arith, up .known, g .few-jobs, sized .frames-are)
 
   there : frameOf x e y ≡ k
-  unfolding afterPut
   there = getD-set-same (d .frames) y k 0 in-range
 
   others : (z : ℕ) → (z ≡ y → ⊥) → frameOf x e z ≡ frameOf x d z
-  unfolding afterPut
   others z ne = getD-set-other (d .frames) y z k 0 ne
 
   now-placed : IsPlaced x e y
@@ -65,11 +63,9 @@ module _ (x : Instance) (g : Good x) (d : Draft) (sized : Sized d) (y k : ℕ) (
       (ne, record { known = p .known; down = λ q. p .down (sym (others z ne) ∙ q) })
 
   sums : (r : ℕ) → sumOf x e r ≡ sumOf x d r + pick (eqb (rowIn x d k) r) (costAt x d y) 0
-  unfolding afterPut
   sums r = sum-theorem x g d sized .one-more e y k r up frame refl refl
 
   loads : rowIn x d k < 256 → (r : ℕ) → loadAt x e r ≡ loadAt x d r + pick (eqb (rowIn x d k) r) (costAt x d y) 0
-  unfolding afterPut
   loads low r = go (eqb (rowIn x d k) r) refl
     where
       go : (b : Bool) → eqb (rowIn x d k) r ≡ b
@@ -84,7 +80,6 @@ module _ (x : Instance) (g : Good x) (d : Draft) (sized : Sized d) (y k : ℕ) (
           ∙ omega arith
 
   pub put-touches : Touched x d e y (rowIn x d k)
-  unfolding afterPut
   put-touches = record {
     same-f = refl;
     sized = record {
@@ -97,7 +92,6 @@ module _ (x : Instance) (g : Good x) (d : Draft) (sized : Sized d) (y k : ℕ) (
 
   -- without the job
   pub without : Sound x e → Sound x d
-  unfolding afterPut
   without s = record {
     plausible-f = s .plausible-f;
     loads-are = λ r low. omega (arith, s .loads-are r low, sums r, loads (omega (arith, row-low x g e s k, few-rows x g e s)) r);
@@ -166,7 +160,6 @@ module _ (x : Instance) (g : Good x) (d : Draft) (sized : Sized d) (y k : ℕ) (
               rw (others z ne) (record { not-early = s .not-early z old; not-late = s .not-late z old })
 
       pub with-it : Sound x e
-      unfolding afterPut
       with-it = record {
         plausible-f = s .plausible-f;
         loads-are = λ r low. omega (arith, s .loads-are r low, sums r, loads row-few r);
@@ -179,7 +172,6 @@ module _ (x : Instance) (g : Good x) (d : Draft) (sized : Sized d) (y k : ℕ) (
     -- a sound draft with the job there has room, and no pair out of order
     module _ (t : Sound x e) where
       pub had-room : RowOver x d y k → ⊥
-      unfolding afterPut
       had-room over =
           let here : eqb (rowIn x d k) (rowIn x d k) ≡ true = eq-eqb (rowIn x d k) (rowIn x d k) refl in
           let sum = rw here at (sums (rowIn x d k)) in
@@ -214,7 +206,6 @@ module _ (x : Instance) (g : Good x) (d : Draft) (sized : Sized d) (s : Sound x 
   job-low = omega (arith, p .known, g .few-jobs, sized .frames-are)
 
   touches : Touched x d lower y row
-  unfolding afterLift
   touches = record {
     same-f = refl;
     sized = record {
@@ -226,11 +217,9 @@ module _ (x : Instance) (g : Good x) (d : Draft) (sized : Sized d) (s : Sound x 
   }
 
   is-up : IsLifted x lower y
-  unfolding afterLift
   is-up = record { known = p .known; up = getD-set-same (d .frames) y lifted 0 job-low }
 
   less : loadAt x lower row ≡ loadAt x d row - costAt x d y
-  unfolding afterLift
   less = getD-set-same (d .loads) row (loadAt x d row - costAt x d y) 0 low
 
   -- a place that is stored into twice holds what it held
@@ -247,7 +236,6 @@ module _ (x : Instance) (g : Good x) (d : Draft) (sized : Sized d) (s : Sound x 
       go j false q = let ne = eqb-false _ _ q in getD-set-other (set l i a) i j b 0 ne ∙ getD-set-other l i j a 0 ne
 
   put-back : afterPut x lower y (frameOf x d y) ≡ d
-  unfolding afterPut afterLift
   put-back =
       let frames : set (set (d .frames) y lifted) y (frameOf x d y) ≡ d .frames = back-again (d .frames) y lifted (frameOf x d y) job-low refl in
       let rest : ℕ = loadAt x d row - costAt x d y in

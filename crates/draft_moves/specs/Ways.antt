@@ -15,9 +15,9 @@ use Rattle.model.specs.Plan.{Instance, jobAt}
 use Rattle.model.specs.Good.{Good}
 use Rattle.model.specs.Within.{Within, within-good, within-limits}
 use Rattle.model.specs.Described.{planTable}
-use Rattle.rules.specs.EveryLaws.{says-every, every-fails}
-use Rattle.rules.specs.Rules.{inWindow}
-use Rattle.planned_table.specs.Outcome.{Outcome, handed, refusal}
+use Rattle.plan_rules.specs.EveryLaws.{says-every, every-fails}
+use Rattle.plan_rules.specs.Rules.{inWindow}
+use Rattle.plan_writer.specs.Outcome.{Outcome, handed, refusal}
 use Rattle.draft.specs.Draft.{lifted, isLifted, isDown, frameOf, loadAt, framesHeld, sumOf, rowIn, costAt, soundDraft}
 use Rattle.draft.specs.Draft.{kept, afterLift, afterPut, liftIn, putThere, putIn, noneLifted, writeIn, lift, put, write}
 use Rattle.draft.specs.Kept.{Sized, IsLifted, IsPlaced, Sound}

@@ -1,15 +1,13 @@
 -- A sound draft with no job lifted holds a plan (PlanTheorem), and what is written is that plan's table, which the check accepts (WriteTheorem).
-use Prim.Native.Nat.{ℕ, _+_, _≤_, _<_}
-use mathlib.Core.Path.{_≡_, refl, sym, ap, _∙_}
+use Prim.Native.Nat.{ℕ, _≤_, _<_}
+use mathlib.Core.Path.{_≡_, sym, ap, _∙_}
 use mathlib.Core.Logic.{_↔_, _⊎_, inl, inr, ⊎-elim}
 use mathlib.Core.List.{List, _++_}
 use native.Mathlib.Omega.{arith}
 use lib.ListN.{length, getD, take, drop}
 use lib.Seq.{take-append-seam}
-use borrow.Author.Tests.{lt-ltb}
 use Rattle.cursor.specs.ChoiceLaws.{lt-or-ge}
 use Rattle.cursor.specs.Padded.{getD-firsts}
-use Rattle.cursor.specs.Written.{written, buffer}
 use Rattle.cursor.specs.declared.Written.{Written}
 use Rattle.cycle.specs.Cycle.{noCycle, cycleOf}
 use Rattle.cycle.specs.LimitLaws.{RequestNumber, request-number-own}
@@ -25,8 +23,8 @@ use Rattle.model.specs.Described.{Describes, planTable}
 use Rattle.model.specs.PlanTable.{plan-table-describes, plan-table-length}
 use Rattle.checker.specs.Checked.{accepted, checked, numberOf}
 use Rattle.checker.specs.Accepts.{accepts-described}
-use Rattle.planned_table.specs.Outcome.{Outcome, handed, refusal, outcomeAnswer, outcomeBuffer}
-use Rattle.planner.specs.TableLaws.{handed-answer, handed-buffer}
+use Rattle.plan_writer.specs.Outcome.{Outcome, handed, refusal, outcomeAnswer, outcomeBuffer}
+use Rattle.plan_writer.specs.OutcomeLaws.{refused-answer, refused-buffer, handed-answer, handed-buffer, short-answer, short-buffer}
 use Rattle.draft.specs.Draft.{lifted, frameOf, framesHeld, rowCount, sumOf, write}
 use Rattle.draft.specs.Kept.{Sized, IsLifted, Sound}
 use Rattle.draft.specs.MoveLaws.{write-none}
@@ -57,13 +55,13 @@ module _ (request : List ℕ) (x : Instance) (within : Within request x) (d : Dr
   pub held-plan : PlanHeld x d → Sound x d × AllPlaced x d
   held-plan (v, loads) =
       let real : (y : ℕ) → y < length (x .jobs) → frameOf x d y ≡ lifted → ⊥
-      = λ y h. frame-real request x within (d .f) y (frameOf x d y) (length-pos x g (d .f) (framesHeld x d) v) h (rw (here y h) at (v .not-late y h)) in
+      = λ y h. frame-real request x within (d .f) y (frameOf x d y) (length-pos x g (d .f) (framesHeld x d) v) h (rw (here y h) at (v .window y h .not-late)) in
       let all : AllPlaced x d = λ y h. record { known = h; down = real y h } in (
         record {
           plausible-f = plausible-needed x g (d .f) (framesHeld x d) v;
           loads-are = λ r low. loads r low ∙ sym (sums all r);
-          not-early = λ y p. rw (here y (p .known)) at (v .not-early y (p .known));
-          not-late = λ y p. rw (here y (p .known)) at (v .not-late y (p .known));
+          not-early = λ y p. rw (here y (p .known)) at (v .window y (p .known) .not-early);
+          not-late = λ y p. rw (here y (p .known)) at (v .window y (p .known) .not-late);
           capacity = λ r low. rw (sums all r) (v .capacity r low);
           order = λ u y z l py pz. rw (here y (py .known), here z (pz .known))
               at (v .order u (l .pair-known) y z (py .known) (pz .known) (l .first) (l .second) (l .same-number));
@@ -76,13 +74,11 @@ plan-theorem request x within d sized = (λ p. plan-held request x within d size
 
 -- what is answered: the number of a refusal, or the table's length
 refused-number : (o : Outcome) (n : ℕ) (out : List ℕ) → o ≡ refusal n → (outcomeAnswer o out ≡ record { refusal = n; length = 0 }) × (outcomeBuffer o out ≡ out)
-unfolding outcomeAnswer outcomeBuffer
-refused-number o n out e = rw e (refl, refl)
+refused-number o n out e = rw e (refused-answer n out, refused-buffer n out)
 
 short-number : (t : Table) (out : List ℕ) → length out < length (encode t)
     → (outcomeAnswer (handed t) out ≡ record { refusal = 11; length = 0 }) × (outcomeBuffer (handed t) out ≡ out)
-unfolding outcomeAnswer outcomeBuffer written buffer
-short-number t out h = rw (lt-ltb (length out) (length (encode t)) h) (refl, refl)
+short-number t out h = (short-answer t out h, short-buffer t out h)
 
 number-of : {a b : Written} → a ≡ b → a .refusal ≡ b .refusal
 number-of e = ap (λ (w : Written). w .refusal) e

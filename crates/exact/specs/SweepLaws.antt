@@ -9,8 +9,8 @@ use native.Mathlib.Omega.{arith}
 use lib.ListN.{getD, set}
 use lib.Dec.{ltb, eqb}
 use borrow.Author.Tests.{le-leb, lt-ltb, ltb-true, ltb-false, ne-eqb, eqb-true, eqb-false}
-use Rattle.exact.specs.Sweep.{Rules, Lawful, Rows, Trace, Better, From, Rest, any-below, any-below-says, more, skips, puts, leaves, load, waiting}
-use Rattle.exact.specs.Sweep.{trace-pass, trace-put, trace-next, one-more, or-false-both, not-is-false}
+use Rattle.exact.specs.Sweep.{Rules, Lawful, Rows, Trace, Better, From, Rest, any-below, more, skips, puts, leaves, load, waiting}
+use Rattle.exact.specs.WitnessLaws.{any-below-says, trace-pass, trace-put, trace-next, one-more, or-false-both, not-is-false}
 use Rattle.exact.specs.Intervals.{waiting-le}
 
 -- putting job x into row p fails

@@ -6,12 +6,14 @@ use lib.ListN.{length, getD}
 use lib.Dec.{ltb}
 use Rattle.cycle.specs.Planned.{IsJob}
 use Rattle.table.specs.Table.{Entry, Table}
+use Rattle.table.specs.TableBytes.{SaysTable}
 use Rattle.model.specs.Plan.{Instance, taskAt, pairAt}
+use Rattle.model.specs.Within.{Within}
 use Rattle.dispatcher.specs.Dispatch.{freshState}
 use Rattle.dispatcher.specs.declared.State.{State}
 use Rattle.flight.specs.Calls.{Call, Answer, dispatch, Plain, begin, height, plainly, answers, final, framesShown}
 use Rattle.flight.specs.Overruns.{overruns}
-use Rattle.flight.specs.Timing.{Served, start, finish, releasedIn, dueIn, Starts, StandsForSome, EndedBy, timesRun}
+use Rattle.flight.specs.Timing.{Served, start, finish, releasedIn, dueIn, Starts, StandsForSome, EndedBy, timesRun, KeepToC}
 
 -- "The list starts from the fresh state.": the dispatcher's answers, its state after the list, and the frames that it served
 module _ (tableBytes : List ℕ) (calls : List Call) where
@@ -83,3 +85,12 @@ module _ (x : Instance) (tableBytes : List ℕ) (t : Table) (calls : List Call) 
     pub due-ran-once : (i j : ℕ) → IsJob (x .tasks) (x .h) i j → (q : ℕ) → dueIn x q i j ≤ plainAfter t calls .m * t .f → runs i j q ≡ 1
     -- no job of any cycle has run twice
     pub none-twice : (i j : ℕ) → IsJob (x .tasks) (x .h) i j → (q : ℕ) → runs i j q ≤ 1
+
+-- the request is within the limits, the bytes have the form of a table, and for every list of calls and all actual times from 0 to C the claim
+-- about the flight holds
+pub record Flies (requestBytes tableBytes : List ℕ) : Type 0 where
+  pub x : Instance
+  pub within : Within requestBytes x
+  pub t : Table
+  pub says : SaysTable tableBytes t
+  pub flies : (calls : List Call) (actual : ℕ → ℕ → ℕ) → KeepToC x (framesFlown tableBytes calls) actual → Flight x tableBytes t calls actual

@@ -10,22 +10,12 @@ use Rattle.model.specs.Plan.{Instance}
 use Rattle.model.specs.Within.{Within}
 use Rattle.model.specs.Described.{Accepted}
 use Rattle.planner.specs.Outcome.{searchedAnswer}
-use Rattle.planner.specs.HandedBytes.{handedBytes, handed-chosen}
+use Rattle.planner.specs.HandedBytes.{handedBytes}
+use Rattle.planner.specs.HandedBytesLaws.{handed-chosen}
 use Rattle.checker.specs.Checked.{checkNumber}
-use Rattle.checker.specs.Exactly.{check-exact}
-use Rattle.flight.specs.Calls.{Call}
-use Rattle.flight.specs.Timing.{KeepToC}
-use Rattle.flight.specs.Flight.{framesFlown, Flight}
+use Rattle.checker.specs.ExactlyLaws.{check-exact}
+use Rattle.flight.specs.Flight.{Flies}
 use Rattle.flight.specs.Theorem.{flight}
-
--- the request is within the limits, the bytes have the form of a table, and for every list of calls and all actual times from 0 to C the claim
--- about the flight holds
-pub record Flies (requestBytes tableBytes : List ℕ) : Type 0 where
-  pub x : Instance
-  pub within : Within requestBytes x
-  pub t : Table
-  pub says : SaysTable tableBytes t
-  pub flies : (calls : List Call) (actual : ℕ → ℕ → ℕ) → KeepToC x (framesFlown tableBytes calls) actual → Flight x tableBytes t calls actual
 
 accepted-flies : (requestBytes tableBytes : List ℕ) (x : Instance) → Within requestBytes x → (t : Table) → SaysTable tableBytes t → Accepted x t
     → Flies requestBytes tableBytes

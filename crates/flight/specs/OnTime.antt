@@ -134,14 +134,14 @@ module _ (x : Instance) (g : Good x) (t : Table) (frames : List ℕ) (v : IsPlan
       pub after-release : releasedIn x q i j ≤ start (x .g) (t .f) actual m p
       after-release =
           let y = started-place in
-          omega (arith, ticks, v .not-early (y .place) (y .within), job-there x g i j y .0, frame-begins (x .g) (t .f) actual m p)
+          omega (arith, ticks, v .window (y .place) (y .within) .not-early, job-there x g i j y .0, frame-begins (x .g) (t .f) actual m p)
 
       -- even with its whole C it ends by its deadline
       pub leaves-time : start (x .g) (t .f) actual m p + taskAt x i .c ≤ dueIn x q i j
       leaves-time =
           let its = meant (m / height t) i j q (servedAt fr m p) (s .stands) .task in
           let y = started-place in
-          omega (arith, ticks, rw its at (room m p (s .served-there)), v .not-late (y .place) (y .within), job-there x g i j y .1)
+          omega (arith, ticks, rw its at (room m p (s .served-there)), v .window (y .place) (y .within) .not-late, job-there x g i j y .1)
 
       pub before-due : finish (x .g) (t .f) actual m p ≤ dueIn x q i j
       before-due =

@@ -65,7 +65,7 @@ module _ (x : Instance) (g : Good x) (bytes : List ℕ) (t : Table) (says : deco
               let w = place-of-job x g i j is in
               let k = frameAt ks (w .place) + q * height t in
               let cycles = ap (λ (z : ℕ). q * z) (whole x g t ks v d) in
-              let by : (k + 1) * t .f ≤ plainAfter t calls .m * t .f = omega (arith, v .not-late (w .place) (w .within), job-there x g i j w .1) in
+              let by : (k + 1) * t .f ≤ plainAfter t calls .m * t .f = omega (arith, v .window (w .place) (w .within) .not-late, job-there x g i j w .1) in
               let served : k + 1 ≤ plainAfter t calls .m = le-of-mul-le-mul-right by (some-length x g t ks v d) in
               omega (arith, runs-are i j w q, m-is);
           none-twice = λ i j is q. omega (arith, runs-are i j (place-of-job x g i j is) q);

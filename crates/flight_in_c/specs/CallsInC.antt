@@ -5,9 +5,10 @@ use mathlib.Core.Bool.{Bool, true, false}
 use mathlib.Core.List.{List, [], _∷_, _++_}
 use Prim.Native.Nat.{ℕ, zero, suc, _+_, _*_, _<_, min}
 use lib.IntN.{ℤ, pos, negsuc}
-use lib.ListN.{length, getD, drop}
+use lib.ListN.{length, getD, take, drop}
 use lib.Dec.{leb}
 use Rattle.cursor.specs.Choice.{keep}
+use Rattle.cursor.specs.Front.{Bytes}
 use Rattle.table.specs.Table.{Entry, Table, entryOf}
 use Rattle.table.specs.TableBytes.{SaysTable}
 use Rattle.model.specs.Plan.{Instance}
@@ -22,6 +23,8 @@ use Rattle.lent.specs.Words.{zeros}
 use Rattle.lent.specs.State.{countIn, stateBytes}
 use Rattle.lent.specs.Entries.{pairBytes}
 use Rattle.bus.specs.Reply.{refused, reply, after}
+use Rattle.bus.specs.Plan.{planReply, planBuffer}
+use Rattle.bus.specs.Check.{checkReply}
 use Rattle.bus.specs.Dispatch.{freshReply, freshBytes, frameReply, frameState, frameEntries, reportReply, reportState}
 
 -- a call of bus_next_frame, with the entries' buffer as it was lent, or of bus_report, with any bytes as its request, any task number and any ticks
@@ -151,3 +154,12 @@ pub record FliesInC (request table : List ℕ) : Type 0 where
   pub t : Table
   pub says : SaysTable table t
   pub in-c : (state : List ℕ) → freshReply state ≡ pos 0 → (calls : List CallInC) → FlightInC x table t state calls
+
+-- of every table to which bus_check answers 0
+abbrev pub CheckedInC : Type 0
+CheckedInC = (request table : List ℕ) → Bytes table → checkReply request table ≡ pos 0 → FliesInC request table
+
+-- and of the bytes that bus_plan handed out: as many as it answered, from the front of the buffer
+abbrev pub PlannedInC : Type 0
+PlannedInC = (allowance : ℕ) (request out tries : List ℕ) (n : ℕ) → planReply allowance request out tries ≡ pos n
+    → FliesInC request (take n (planBuffer allowance request out tries))

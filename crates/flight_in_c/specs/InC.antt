@@ -8,7 +8,7 @@ use Prim.Native.Nat.{ℕ, zero, suc, _+_, _≤_}
 use native.Mathlib.Nat.{zero-add}
 use native.Mathlib.Omega.{arith}
 use lib.IntN.{pos}
-use lib.ListN.{length, getD, take, drop, length-append, length-replicate}
+use lib.ListN.{length, getD, drop, length-append, length-replicate}
 use lib.Dec.{eqb}
 use borrow.Author.Tests.{le-ltb, leb-true, leb-false, eqb-true, eqb-false, ne-eqb}
 use Rattle.cursor.specs.Choice.{keep}
@@ -16,7 +16,6 @@ use Rattle.request.specs.Request.{reading}
 use Rattle.table.specs.Table.{Entry, entryOf, decode}
 use Rattle.table.specs.Answers.{entriesAt}
 use Rattle.table.specs.declared.Row.{Row}
-use Rattle.cursor.specs.Front.{Bytes}
 use Rattle.dispatcher.specs.Dispatch.{freshState, nextFrame, reported, rowShown}
 use Rattle.dispatcher.specs.FrameLaws.{frame-refused-still, frame-few}
 use Rattle.dispatcher.specs.ReportLaws.{report-refused-still}
@@ -24,22 +23,20 @@ use Rattle.dispatcher.specs.declared.State.{State}
 use Rattle.flight.specs.Calls as plain
 use Rattle.flight.specs.Timing.{KeepToC}
 use Rattle.flight.specs.Counted.{as-many}
-use Rattle.flight.specs.Flight.{framesFlown, Flight}
-use Rattle.flight.specs.Joined.{Flies, checked-flight, planned-flight}
+use Rattle.flight.specs.Flight.{framesFlown, Flight, Flies}
+use Rattle.flight.specs.Joined.{checked-flight, planned-flight}
 use Rattle.lent.specs.Words.{zeros}
 use Rattle.lent.specs.State.{stateBytes}
 use Rattle.lent.specs.Entries.{pairBytes}
 use Rattle.bus.specs.Reply.{after}
-use Rattle.bus.specs.Check.{checkReply}
 use Rattle.bus.specs.Dispatch.{freshReply, freshBytes, canServe, frameReply, frameState, frameEntries, reportReply, reportState}
-use Rattle.bus.specs.Plan.{planReply, planBuffer}
 use Rattle.bus.specs.ReplyLaws.{reply-refused, reply-value, after-refusal, after-value}
 use Rattle.bus.specs.DispatchLaws.{fresh-made, no-room}
 use Rattle.bus_laws.specs.RoundTrip.{state-is, count-there, state-read, state-over, pair-there}
 use Rattle.bus_laws.specs.Answered.{check-told, fresh-told, plan-told}
 use Rattle.flight_in_c.specs.CallsInC.{CallInC, next-frame, report, Seen, frame, seen, leaves, allSeen, stateLeft}
 use Rattle.flight_in_c.specs.CallsInC.{entriesRead, withSeen, framesRead, lends, asked, fed, shownInC, sentBack, shownNext, allShown}
-use Rattle.flight_in_c.specs.CallsInC.{framesInC, plainState, FlightInC, FliesInC}
+use Rattle.flight_in_c.specs.CallsInC.{framesInC, plainState, FlightInC, FliesInC, CheckedInC, PlannedInC}
 
 -- The entries of a frame, read off their bytes
 
@@ -194,12 +191,11 @@ in-c request table f = record { x = f .x; within = f .within; t = f .t; says = f
 
 -- THE THEOREM: a table to which bus_check answers 0 flies through C: for every list of calls, on a state to which bus_fresh answered 0, every answer, every byte
 -- of the entries and the state's bytes are the plain dispatcher's, and what the caller reads off keeps the flight's claim.
-pub flight-in-c : (request table : List ℕ) → Bytes table → checkReply request table ≡ pos 0 → FliesInC request table
+pub flight-in-c : CheckedInC
 flight-in-c request table are e = in-c request table (checked-flight request table are (check-told request table e))
 
 -- So do the bytes that bus_plan handed out: as many as it answered, from the front of the buffer.
-pub planned-in-c : (allowance : ℕ) (request out tries : List ℕ) (n : ℕ) → planReply allowance request out tries ≡ pos n
-    → FliesInC request (take n (planBuffer allowance request out tries))
+pub planned-in-c : PlannedInC
 planned-in-c allowance request out tries n e =
     let told = plan-told allowance request out tries n e in
     rw (told .buffer-is, ← told .length-is) (in-c request _ (planned-flight allowance request out (told .handed-out)))

@@ -1,4 +1,5 @@
--- The flight through C. To be believed:
+-- The flight through C.
+-- To be believed:
 pub mod CallsInC
--- the theorem, with its proof:
+-- Theorems:
 pub mod InC

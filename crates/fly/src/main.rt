@@ -10,6 +10,6 @@ fn main() {
         return;
     }
     let mut out = io::large_buffer();
-    let length = flight_listing::list(&input[..n], &mut out);
+    let length = fly_listing::list(&input[..n], &mut out);
     streams::print(&out[..length]);
 }

@@ -1,10 +1,10 @@
 -- Lists of calls of the heater link: what arrives in a call, in R-13's words, and the law over every list and every pattern of losses.
-use Prim.Native.Nat.{ℕ, _+_, _<_}
+use Prim.Native.Nat.{ℕ, _<_}
 use mathlib.Core.Path.{_≡_}
 use mathlib.Core.Bool.{true, false}
 use mathlib.Core.List.{List, [], _∷_}
 use lib.ListN.{length, getD}
-use Rattle.cursor.specs.Choice.{bit}
+use Rattle.heater_link.specs.Machine.{countOf}
 use Rattle.heater_link.specs.Law.{Lawful}
 use Rattle.heater_link.specs.Exchange.{freshLink, refused, exchange}
 use Rattle.heater_link.specs.declared.Link.{Link}
@@ -30,15 +30,6 @@ answersFrom s (q ∷ asks) = exchangeOf s q ∷ answersFrom (exchangeOf s q .lin
 unfoldable pub linkFrom : Link → List Ask → Link
 linkFrom s [] = s
 linkFrom s (q ∷ asks) = linkFrom (exchangeOf s q .link) asks
-
--- how many calls said that the board toggled, and that the command was answered
-unfoldable pub togglesSaid : List Exchange → ℕ
-togglesSaid [] = 0
-togglesSaid (r ∷ rest) = bit (r .toggled) + togglesSaid rest
-
-unfoldable pub answersSaid : List Exchange → ℕ
-answersSaid [] = 0
-answersSaid (r ∷ rest) = bit (r .answered) + answersSaid rest
 
 abbrev pub noAsk : Ask
 noAsk = record { request = []; table = []; a = 0; b = 0; lost = record { command = false; reply = false } }
@@ -80,7 +71,9 @@ module _ (asks : List Ask) where
   Answered m = answerAt m .answered ≡ true
 
   pub record LinkLaw : Type 0 where
-    pub lawful : Lawful (length asks) CommandArrives ReplyArrives Toggled Answered (togglesSaid answersGiven) (answersSaid answersGiven)
+    -- counting the calls that said that the board toggled, and those that said that the command was answered
+    pub lawful : Lawful (length asks) CommandArrives ReplyArrives Toggled Answered
+        (countOf (λ (r : Exchange). r .toggled) answersGiven) (countOf (λ (r : Exchange). r .answered) answersGiven)
     -- "as it is served": in a call that answers both, the command stands before the reply, and neither stands twice
     pub command-before : (m p q : ℕ) → p < answerAt m .count → q < answerAt m .count
         → getD (answerAt m .tasks) p 0 ≡ askAt m .a → getD (answerAt m .tasks) q 0 ≡ askAt m .b → p < q

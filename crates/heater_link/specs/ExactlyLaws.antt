@@ -18,7 +18,8 @@ use Rattle.model.specs.Plan.{Instance}
 use Rattle.model.specs.Within.{Within, within-or-not}
 use Rattle.model.specs.Described.{Accepted}
 use Rattle.checker.specs.Checked.{Verdict, accepted, refusal, checked, checkNumber}
-use Rattle.checker.specs.Exactly.{SizesFit, check-exact}
+use Rattle.checker.specs.Exactly.{SizesFit}
+use Rattle.checker.specs.ExactlyLaws.{check-exact}
 use Rattle.checker.specs.Verdicts.{refusal-number}
 use Rattle.dispatcher.specs.Dispatch.{served, nextFrame}
 use Rattle.dispatcher.specs.declared.Frame.{Frame}

@@ -1,17 +1,19 @@
--- The heater link. To be believed, in this order: the two ends and one call,
+-- The heater link.
+-- To be believed:
+-- the two ends and one call:
 pub mod Machine
 pub mod Exchange
--- and what is claimed of every list of calls, and which number, exactly:
+-- what is claimed of every list of calls, and which number, exactly:
 pub mod Law
 pub mod Exactly
 pub mod Calls
--- the theorems:
+-- Theorems:
 pub mod Theorem
 pub mod ExactlyLaws
+-- Laws:
 -- the law of the two ends, over what arrives:
 pub mod MachineLaws
 pub mod LawLaws
--- laws:
 pub mod StepLaws
 pub mod PairLaws
 pub mod OrderLaws

@@ -55,11 +55,7 @@ unfoldable pub outcomes : Ends → List Arrivals → List Outcome
 outcomes e [] = []
 outcomes e (x ∷ xs) = outcome e x ∷ outcomes (endsNow e x) xs
 
--- how many times the board toggled, and how many commands were answered
-unfoldable pub togglesIn : List Outcome → ℕ
-togglesIn [] = 0
-togglesIn (o ∷ os) = bit (o .toggled) + togglesIn os
-
-unfoldable pub answeredIn : List Outcome → ℕ
-answeredIn [] = 0
-answeredIn (o ∷ os) = bit (o .answered) + answeredIn os
+-- how many of a list say so: that the board toggled, or that the command was answered
+unfoldable pub countOf : {A : Type 0} → (A → Bool) → List A → ℕ
+countOf says [] = 0
+countOf says (x ∷ xs) = bit (says x) + countOf says xs

@@ -11,7 +11,7 @@ use lib.ListN.{length, getD}
 use Rattle.cursor.specs.Choice.{pick, both, bit}
 use Rattle.cursor.specs.ChoiceLaws.{lt-or-ge}
 use Rattle.cursor.specs.ParsedLaws.{both-true}
-use Rattle.heater_link.specs.Machine.{Ends, freshEnds, Arrivals, Outcome, differ, outcome, endsNow, outcomes, togglesIn, answeredIn}
+use Rattle.heater_link.specs.Machine.{Ends, freshEnds, Arrivals, Outcome, differ, outcome, endsNow, outcomes, countOf}
 use Rattle.heater_link.specs.Law.{FirstReply, FirstCopy, UnderWay, Lawful}
 
 abbrev pub noArrivals : Arrivals
@@ -32,7 +32,7 @@ module _ (xs : List Arrivals) where
   abbrev pub EndsLaw : Type 0
   EndsLaw =
       Lawful (length xs) (λ m. arrivalsAt m .command ≡ true) (λ m. arrivalsAt m .reply ≡ true) (λ m. outcomeAt m .toggled ≡ true)
-      (λ m. outcomeAt m .answered ≡ true) (togglesIn (outcomes freshEnds xs)) (answeredIn (outcomes freshEnds xs))
+      (λ m. outcomeAt m .answered ≡ true) (countOf (λ (o : Outcome). o .toggled) (outcomes freshEnds xs)) (countOf (λ (o : Outcome). o .answered) (outcomes freshEnds xs))
 
 -- One frame
 
@@ -97,8 +97,8 @@ ends-next e (x ∷ xs) (suc m) = ends-next (endsNow e x) xs m
 -- Counts
 
 all-counted : (e : Ends) (xs : List Arrivals)
-    → togglesIn (outcomes e xs) + pending e ≡ answeredIn (outcomes e xs) + pending (endsAfter e xs (length xs))
-unfolding outcomes togglesIn answeredIn endsAfter
+    → countOf (λ (o : Outcome). o .toggled) (outcomes e xs) + pending e ≡ countOf (λ (o : Outcome). o .answered) (outcomes e xs) + pending (endsAfter e xs (length xs))
+unfolding outcomes countOf endsAfter
 all-counted e [] = refl
 all-counted e (x ∷ xs) = omega (arith, one-frame e x .counted, all-counted (endsNow e x) xs)
 
@@ -245,10 +245,10 @@ module _ (xs : List Arrivals) where
   IsUnderWay = UnderWay (length xs) (λ k. c k ≡ true) (λ k. r k ≡ true) (λ k. t k ≡ true) (λ k. a k ≡ true)
 
   abbrev done : ℕ
-  done = togglesIn (outcomes freshEnds xs)
+  done = countOf (λ (o : Outcome). o .toggled) (outcomes freshEnds xs)
 
   abbrev answered : ℕ
-  answered = answeredIn (outcomes freshEnds xs)
+  answered = countOf (λ (o : Outcome). o .answered) (outcomes freshEnds xs)
 
   counts : Current (length xs) → ((done ≡ answered) × (IsUnderWay → ⊥)) ⊎ ((done ≡ answered + 1) × IsUnderWay)
   counts (none-yet u none) =

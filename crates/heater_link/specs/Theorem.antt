@@ -12,7 +12,7 @@ use Rattle.cursor.specs.ChoiceLaws.{lt-or-ge}
 use Rattle.cursor.specs.ParsedLaws.{both-true}
 use Rattle.cycle.specs.Cycle.{cycleOf}
 use Rattle.checker.specs.Checked.{checkNumber}
-use Rattle.heater_link.specs.Machine.{Ends, Arrivals, Outcome, outcome, endsNow, outcomes, togglesIn, answeredIn}
+use Rattle.heater_link.specs.Machine.{Ends, Arrivals, Outcome, outcome, endsNow, outcomes, countOf}
 use Rattle.heater_link.specs.MachineLaws.{noArrivals, noOutcome, arrivalsAt, outcomeAt, ends-law}
 use Rattle.heater_link.specs.Law.{Lawful}
 use Rattle.heater_link.specs.LawLaws.{same-law}
@@ -20,7 +20,7 @@ use Rattle.heater_link.specs.Exchange.{freshLink, endsOf, serves, arriva
 use Rattle.heater_link.specs.StepLaws.{passed, exchange-cases}
 use Rattle.heater_link.specs.PairLaws.{is-pair-says, pair-rises, serves-says, says-serves}
 use Rattle.heater_link.specs.OrderLaws.{tasks-rise}
-use Rattle.heater_link.specs.Calls.{Ask, exchangeOf, answersFrom, togglesSaid, answersSaid, noAsk}
+use Rattle.heater_link.specs.Calls.{Ask, exchangeOf, answersFrom, noAsk}
 use Rattle.heater_link.specs.Calls.{askAt, answersGiven, answerAt, TaskServed, CommandArrives, ReplyArrives, Toggled, Answered, LinkHolds}
 use Rattle.heater_link.specs.declared.Link.{Link}
 use Rattle.heater_link.specs.declared.Exchange.{Exchange}
@@ -63,15 +63,10 @@ same-outcomes s (q ∷ asks) =
     let rest = same-outcomes (exchangeOf s q .link) asks ∙ ap (λ (e : Ends). outcomes e (arrivalsFrom (exchangeOf s q .link) asks)) (w .ends) in
     λ i. w .said i ∷ rest i
 
-toggles-same : (rs : List Exchange) → togglesSaid rs ≡ togglesIn (map saidBy rs)
-unfolding togglesSaid togglesIn
-toggles-same [] = refl
-toggles-same (r ∷ rs) = rw (toggles-same rs)
-
-answers-same : (rs : List Exchange) → answersSaid rs ≡ answeredIn (map saidBy rs)
-unfolding answersSaid answeredIn
-answers-same [] = refl
-answers-same (r ∷ rs) = rw (answers-same rs)
+counts-same : (says : Outcome → Bool) (rs : List Exchange) → countOf (λ (r : Exchange). says (saidBy r)) rs ≡ countOf says (map saidBy rs)
+unfolding countOf
+counts-same says [] = refl
+counts-same says (r ∷ rs) = rw (counts-same says rs)
 
 -- what holds of every call and its answer, and of no call, holds at each place of a list
 each-call : (P : Ask → Exchange → Type 0) → ((s : Link) (q : Ask) → P q (exchangeOf s q)) → P noAsk (refused 0 freshLink)
@@ -149,12 +144,17 @@ module _ (asks : List Ask) where
 
   lawful :
       Lawful (length asks) (CommandArrives asks) (ReplyArrives asks) (Toggled asks) (Answered asks)
-      (togglesSaid (answersGiven asks)) (answersSaid (answersGiven asks))
+      (countOf (λ (r : Exchange). r .toggled) (answersGiven asks)) (countOf (λ (r : Exchange). r .answered) (answersGiven asks))
   lawful =
-      rw (toggles-same (answersGiven asks), answers-same (answersGiven asks), same-outcomes freshLink asks, ← arrivals-length freshLink asks)
+      let toggles : countOf (λ (r : Exchange). r .toggled) (answersGiven asks) ≡ countOf (λ (o : Outcome). o .toggled) (map saidBy (answersGiven asks))
+      = counts-same (λ (o : Outcome). o .toggled) (answersGiven asks) in
+      let answers : countOf (λ (r : Exchange). r .answered) (answersGiven asks) ≡ countOf (λ (o : Outcome). o .answered) (map saidBy (answersGiven asks))
+      = counts-same (λ (o : Outcome). o .answered) (answersGiven asks) in
+      rw (toggles, answers, same-outcomes freshLink asks, ← arrivals-length freshLink asks)
       (same-law (length xs) (λ m. arrivalsAt xs m .command ≡ true) (λ m. arrivalsAt xs m .reply ≡ true) (λ m. outcomeAt xs m .toggled ≡ true)
       (λ m. outcomeAt xs m .answered ≡ true) (CommandArrives asks) (ReplyArrives asks) (Toggled asks) (Answered asks) command-same reply-same toggled-same
-      answered-same (togglesIn (outcomes (endsOf freshLink) xs)) (answeredIn (outcomes (endsOf freshLink) xs)) (ends-law xs))
+      answered-same (countOf (λ (o : Outcome). o .toggled) (outcomes (endsOf freshLink) xs)) (countOf (λ (o : Outcome). o .answered) (outcomes (endsOf freshLink) xs))
+      (ends-law xs))
 
   command-before : (m p q : ℕ) → p < answerAt asks m .count → q < answerAt asks m .count
       → getD (answerAt asks m .tasks) p 0 ≡ askAt asks m .a → getD (answerAt asks m .tasks) q 0 ≡ askAt asks m .b → p < q

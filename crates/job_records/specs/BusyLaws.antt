@@ -21,7 +21,7 @@ use Rattle.model.specs.Good.{Good, job-facts}
 use Rattle.model.specs.Described.{rowFor, entryFor, placesByTask, placesIn, planRows, planTable, Describes}
 use Rattle.model.specs.Places.{spread, upFrom, taskFor, Inside, allPlaces, places-are, within, places-within}
 use Rattle.model.specs.PlanTable.{row-below, describes-is}
-use Rattle.listing.specs.Listing.{busyTicks}
+use Rattle.plan_listing.specs.Listing.{busyTicks}
 use Rattle.job_records.specs.Timeline.{recordsOf, busyOf, rowsBusy}
 
 -- the weights of places, added up

@@ -14,10 +14,10 @@ use Rattle.search.specs.Placing.{row-sum}
 use Rattle.model.specs.Plan.{slot, costOf, costs}
 use Rattle.model.specs.Plausible.{commonRule, phaseRule, frameRule, frameRules, plausibleBy}
 use Rattle.model.specs.Named.{isJob}
-use Rattle.rules.specs.Every as every
-use Rattle.rules.specs.Rules as rules
+use Rattle.plan_rules.specs.Every as every
+use Rattle.plan_rules.specs.Rules as rules
 use Rattle.checker.specs.Checked as checker
-use Rattle.listing.specs.Listing.{busyTicks, tasksIn}
+use Rattle.plan_listing.specs.Listing.{busyTicks, tasksIn}
 use Rattle.job_records.specs.declared.JobRecord.{JobRecord}
 use Rattle.job_records.specs.declared.RecordsFilled.{RecordsFilled}
 use Rattle.job_records.specs.Timeline.{noRecord, recordsOf, timeline, timelineOf, timelineFor, fitting, filling, filledAnswer, filledRecords, busyOf, rowsBusy}

@@ -87,7 +87,6 @@ module _ (request bytes : List ℕ) (places : ℕ) where
 
     -- record y is that of the job at place y
     there : (y : ℕ) → y < r .cycle .count → getD records y noRecord ≡ recordOf (getD (r .cycle .jobs) y noJob) (getD (r .frames) y 0)
-    unfolding instanceOf
     there y l =
         let few : r .cycle .count ≤ 128 = plan .taken .limits .few-jobs in
         let count : length (instanceOf (r .cycle) .jobs) ≡ r .cycle .count = jobs-counted (r .cycle) few in

@@ -1,11 +1,13 @@
--- The timeline of an accepted table. To be believed:
+-- The timeline of an accepted table.
+-- To be believed:
 pub mod Timeline
 pub mod Exactly
--- how answers stand in types:
+-- How answers stand in types:
 pub mod Known
--- laws:
+-- Theorems:
+pub mod Theorem
+-- Laws:
 pub mod FillLaws
 pub mod BusyLaws
-pub mod Theorem
 -- computed:
 pub mod Example

@@ -22,7 +22,7 @@ use Rattle.model.specs.Plausible.{plausible}
 use Rattle.model.specs.Answers.{instance}
 use Rattle.model.specs.Within.{Within, within-limits, within-good}
 use Rattle.model.specs.Described.{Describes, Accepted}
-use Rattle.rules.specs.Rules.{rulesRight}
+use Rattle.plan_rules.specs.Rules.{rulesRight}
 use Rattle.checker.specs.Checked as checker
 use Rattle.checker.specs.Checked.{Verdict, framesIn, entriesRight, checked, checkNumber}
 use Rattle.checker.specs.Accepts.{accepts-described}

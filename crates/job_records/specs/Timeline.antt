@@ -11,7 +11,7 @@ use Rattle.cycle.specs.declared.Job.{Job}
 use Rattle.table.specs.Table.{Entry, Decoded, decode}
 use Rattle.checker.specs.Checked as checker
 use Rattle.checker.specs.Checked.{Verdict, checked}
-use Rattle.listing.specs.Listing.{busyTicks}
+use Rattle.plan_listing.specs.Listing.{busyTicks}
 use Rattle.job_records.specs.declared.JobRecord.{JobRecord}
 use Rattle.job_records.specs.declared.RecordsFilled.{RecordsFilled}
 

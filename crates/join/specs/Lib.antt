@@ -1,5 +1,8 @@
+-- To be believed:
 pub mod Joined
-pub mod JoinLaws
 pub mod Parts
 pub mod Valid
+-- Theorems:
 pub mod Associative
+-- Laws:
+pub mod JoinLaws

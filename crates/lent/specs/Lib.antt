@@ -1,24 +1,19 @@
--- words
+-- The layout of the bytes that a caller from C lends.
+-- To be believed:
 pub mod Words
-pub mod WordLaws
--- numbers
 pub mod Numbers
-pub mod NumberLaws
--- state
 pub mod State
-pub mod StateLaws
--- entries
 pub mod Entries
-pub mod EntryLaws
--- draft_bytes
 pub mod DraftBytes
-pub mod DraftByteLaws
--- timer_bytes
 pub mod TimerBytes
-pub mod TimerByteLaws
--- heater_bytes
 pub mod HeaterBytes
-pub mod HeaterByteLaws
--- records
 pub mod Records
+-- Laws:
+pub mod WordLaws
+pub mod NumberLaws
+pub mod StateLaws
+pub mod EntryLaws
+pub mod DraftByteLaws
+pub mod TimerByteLaws
+pub mod HeaterByteLaws
 pub mod RecordLaws

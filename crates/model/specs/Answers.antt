@@ -17,7 +17,7 @@ use Rattle.cycle.specs.declared.Cycle.{Cycle}
 use Rattle.model.specs.Plan.{Instance}
 use Rattle.model.specs.Good.{Good}
 
-unfoldable pub instanceOf : Cycle → Instance
+abbrev pub instanceOf : Cycle → Instance
 instanceOf c = record {
   tasks = firsts (min (c .n) 16) noTask (c .tasks);
   pairs = firsts (min (c .m) 16) noPair (c .pairs);
@@ -28,7 +28,6 @@ instanceOf c = record {
 
 -- there are as many jobs as the answer says
 pub jobs-counted : (c : Cycle) → c .count ≤ 128 → length (instanceOf c .jobs) ≡ c .count
-unfolding instanceOf
 jobs-counted c few = firsts-length noJob (c .jobs) (min (c .count) 128) ∙ omega arith
 
 abbrev pub instance : List Task → List Pair → ℕ → ℕ → List Job → Instance
@@ -46,7 +45,7 @@ module _ (tasks : List Task) (pairs : List Pair) (g h : ℕ) (jobs : List Job) (
   }
 
   pub instance-answered : instanceOf (answered (cycle tasks pairs g h jobs)) ≡ instance tasks pairs g h jobs
-  unfolding instanceOf listed
+  unfolding listed
   instance-answered =
       let n : min (length tasks) 16 ≡ length tasks = omega (arith, w .readable .few-tasks) in
       let m : min (length pairs) 16 ≡ length pairs = omega (arith, w .readable .few-pairs) in

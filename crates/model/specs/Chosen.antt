@@ -1,4 +1,5 @@
--- The chosen plan, in the words of 01's 'Choosing', and what it is to be right.
+-- The chosen plan, in the words of 01's 'Choosing', with the tries that the choice takes, and what it is to be right. One recursion answers the
+-- choice and the tries, those of each length that was tried up to the chosen one. Nothing in it depends on how many tries are allowed.
 use mathlib.Core.Path.{_≡_}
 use mathlib.Core.Bool.{Bool, true, false}
 use mathlib.Core.Logic.{_⊎_}
@@ -8,9 +9,9 @@ use lib.Dec.{eqb}
 use Rattle.cursor.specs.Choice.{pick, both}
 use Rattle.request.specs.declared.Task.{Task}
 use Rattle.cycle.specs.declared.Job.{Job}
-use Rattle.search.specs.Search.{Found, none, at}
+use Rattle.search.specs.Search.{Found, none, at, Walk}
 use Rattle.search.specs.Best.{Earlier}
-use Rattle.search.specs.Placing.{Problem, plan}
+use Rattle.search.specs.Placing.{Problem, planWalk}
 use Rattle.model.specs.Window.{firstFrom}
 use Rattle.model.specs.Plan.{Instance, rowsAt, costs, IsPlan}
 use Rattle.model.specs.Plausible.{phaseRule, plausibleBy, plausible}
@@ -49,27 +50,44 @@ isTriedBy rule x rows = both (eqb (x .h % rows) 0) (plausibleBy rule x (x .h / r
 abbrev pub isTried : Instance → ℕ → Bool
 isTried = isTriedBy phaseRule
 
--- the plan found with the length f, or else what the rest comes to
-unfoldable pub foundOr : ℕ → Found → Choice → Choice
-foundOr f (at frames) rest = chosen f frames
-foundOr f none rest = rest
+-- the choice and the tries that it took
+pub record ChoiceWalk : Type 0 where
+  pub choice : Choice
+  pub tries : ℕ
 
--- n lengths are left, the next is that of F rows; `some`: an earlier one was plausible (a `let` is computed only where it is taken)
-unfoldable pub chooseFromBy : (ℕ → Task → Bool) → Instance → ℕ → ℕ → Bool → Choice
-chooseFromBy rule x zero rows some = pick some noPlan noPlausible
-chooseFromBy rule x (suc n) rows some =
-    let next = chooseFromBy rule x n (rows + 1) some in
-    let after = chooseFromBy rule x n (rows + 1) true in
-    let searched = foundOr (x .h / rows) (plan (problemAt x (x .h / rows)) []) after in
-    pick (isTriedBy rule x rows) searched next
+-- "it ends at the first plan": the length f came to o after t tries, and only where that is none, the lengths behind it follow; one count goes
+-- through all lengths
+unfoldable pub goOnLengths : ℕ → Found → ℕ → ChoiceWalk → ChoiceWalk
+goOnLengths f (at frames) t rest = record { choice = chosen f frames; tries = t }
+goOnLengths f none t rest = record { choice = rest .choice; tries = t + rest .tries }
+
+-- "The search takes lengths .. in 01's order": n lengths are left, the next is that of F rows; `some`: an earlier one was plausible (a `let` is
+-- computed only where it is taken)
+unfoldable pub walkLengthsBy : (ℕ → Task → Bool) → Instance → ℕ → ℕ → Bool → ChoiceWalk
+walkLengthsBy rule x zero rows some = record { choice = pick some noPlan noPlausible; tries = 0 }
+walkLengthsBy rule x (suc n) rows some =
+    let next = walkLengthsBy rule x n (rows + 1) some in
+    let after = walkLengthsBy rule x n (rows + 1) true in
+    let w : Walk = planWalk (problemAt x (x .h / rows)) [] in
+    pick (isTriedBy rule x rows) (goOnLengths (x .h / rows) (w .found) (w .tries) after) next
 
 -- "Plausible lengths are tried from the largest down": those of 1, 2, .., 256 rows. "The table is that of the first length with a plan"
-unfoldable pub chooseBy : (ℕ → Task → Bool) → Instance → Choice
-chooseBy rule x = chooseFromBy rule x 256 1 false
+unfoldable pub chooseWalkBy : (ℕ → Task → Bool) → Instance → ChoiceWalk
+chooseWalkBy rule x = walkLengthsBy rule x 256 1 false
 
--- the planner's choice, by the rule of the phase
+abbrev pub chooseBy : (ℕ → Task → Bool) → Instance → Choice
+chooseBy rule x = chooseWalkBy rule x .choice
+
+-- by the rule of the phase: the planner's choice, with its tries
+abbrev pub chooseWalk : Instance → ChoiceWalk
+chooseWalk = chooseWalkBy phaseRule
+
 abbrev pub choose : Instance → Choice
 choose = chooseBy phaseRule
+
+-- "the full search's tries": how many the choice takes, whatever is allowed
+abbrev pub fullTries : Instance → ℕ
+fullTries x = chooseWalk x .tries
 
 -- "Against every other plan of the request, the chosen one has the larger f, or the same f and the earlier frame at the first job .. where
 -- the two differ."

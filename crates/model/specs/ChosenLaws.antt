@@ -20,29 +20,46 @@ use Rattle.arith.specs.Residue.{quotient-pos}
 use Rattle.request.specs.declared.Task.{Task}
 use Rattle.search.specs.Search.{Found, none, at}
 use Rattle.search.specs.Best.{Earlier}
-use Rattle.search.specs.Placing.{plan}
-use Rattle.search.specs.Plans.{IsPlacing, Right, right}
+use Rattle.search.specs.Placing.{planWalk}
+use Rattle.search.specs.Plans.{IsPlacing, Right}
+use Rattle.search.specs.PlansLaws.{right}
 use Rattle.model.specs.Plan.{Instance, rowsAt, IsPlan}
-use Rattle.model.specs.Plausible.{commonRule, phaseRule, plausibleBy, plausible}
-use Rattle.model.specs.Chosen.{problemAt, Choice, chosen, noPlan, noPlausible, isTriedBy, foundOr, chooseFromBy, chooseBy, choose, IsChosen, NoPlan, RightBy, RightChoice}
+use Rattle.model.specs.Plausible.{commonRule, phaseRule, plausibleBy, plausible, Needed}
+use Rattle.model.specs.Chosen.{problemAt, Choice, chosen, noPlan, noPlausible, isTriedBy, ChoiceWalk, goOnLengths, walkLengthsBy, chooseWalkBy}
+use Rattle.model.specs.Chosen.{chooseBy, choose, IsChosen, NoPlan, RightBy, RightChoice}
+use Rattle.model.specs.ChosenTries.{lengths-end, lengths-skipped, lengths-tried}
 use Rattle.model.specs.Good.{Good}
-use Rattle.model.specs.PlausibleLaws.{PlausibleBy, Needed, plausible-says, plausible-needed, plausible-before}
+use Rattle.model.specs.PlausibleLaws.{PlausibleBy, plausible-says, plausible-needed, plausible-before}
 use Rattle.model.specs.ProblemLaws.{placing-is-plan, plan-is-placing, problem-proper}
+
+-- the plan found with the length f, or else what the rest comes to
+unfoldable pub foundOr : ℕ → Found → Choice → Choice
+foundOr f (at frames) rest = chosen f frames
+foundOr f none rest = rest
+
+on-chooses : (f : ℕ) (o : Found) (t : ℕ) (rest : ChoiceWalk) → goOnLengths f o t rest .choice ≡ foundOr f o (rest .choice)
+unfolding goOnLengths foundOr
+on-chooses f (at frames) t rest = refl
+on-chooses f none t rest = refl
 
 -- the choice, a length at a time
 module _ (rule : ℕ → Task → Bool) (x : Instance) where
-  pub choose-end : (rows : ℕ) (some : Bool) → chooseFromBy rule x 0 rows some ≡ pick some noPlan noPlausible
-  unfolding chooseFromBy
-  choose-end rows some = refl
+  -- that of the n lengths from the one of F rows on
+  abbrev pub chooseFromBy : ℕ → ℕ → Bool → Choice
+  chooseFromBy n rows some = walkLengthsBy rule x n rows some .choice
 
-  pub choose-skipped : (n rows : ℕ) (some : Bool) → isTriedBy rule x rows ≡ false → chooseFromBy rule x (suc n) rows some ≡ chooseFromBy rule x n (rows + 1) some
-  unfolding chooseFromBy
-  choose-skipped n rows some e = rw e
+  pub choose-end : (rows : ℕ) (some : Bool) → chooseFromBy 0 rows some ≡ pick some noPlan noPlausible
+  choose-end rows some = ap (λ (w : ChoiceWalk). w .choice) (lengths-end rule x rows some)
+
+  pub choose-skipped : (n rows : ℕ) (some : Bool) → isTriedBy rule x rows ≡ false → chooseFromBy (suc n) rows some ≡ chooseFromBy n (rows + 1) some
+  choose-skipped n rows some e = ap (λ (w : ChoiceWalk). w .choice) (lengths-skipped rule x n rows some e)
 
   pub choose-tried : (n rows : ℕ) (some : Bool) → isTriedBy rule x rows ≡ true
-      → chooseFromBy rule x (suc n) rows some ≡ foundOr (x .h / rows) (plan (problemAt x (x .h / rows)) []) (chooseFromBy rule x n (rows + 1) true)
-  unfolding chooseFromBy
-  choose-tried n rows some e = rw e
+      → chooseFromBy (suc n) rows some ≡ foundOr (x .h / rows) (planWalk (problemAt x (x .h / rows)) [] .found) (chooseFromBy n (rows + 1) true)
+  choose-tried n rows some e =
+      let w = planWalk (problemAt x (x .h / rows)) [] in
+      ap (λ (w : ChoiceWalk). w .choice) (lengths-tried rule x n rows some e)
+      ∙ on-chooses (x .h / rows) (w .found) (w .tries) (walkLengthsBy rule x n (rows + 1) true)
 
 -- a length is known by its rows
 other-way : (h f rows : ℕ) → 0 < h → f ∣ h → h / f ≡ rows → h / rows ≡ f
@@ -156,12 +173,12 @@ module _ (x : Instance) (g : Good x) (rule : ℕ → Task → Bool) (needed : Ne
       go true e rest =
           let here = problemAt x (x .h / rows) in
           rw (choose-tried rule x n rows some e)
-          (found-or (plan here []) e (right here (problem-proper x g (x .h / rows) (plausible-says x (x .h / rows) (tried-says rows e .1)))) rest)
+          (found-or (planWalk here [] .found) e (right here (problem-proper x g (x .h / rows) (plausible-says x (x .h / rows) (tried-says rows e .1)))) rest)
       go false e rest = rw (choose-skipped rule x n rows some e) (rest some (omega arith) (skipped rows some e v))
 
   -- THE THEOREM: the choice is right.
   pub choose-by-right : RightBy (plausibleBy rule x) x (chooseBy rule x)
-  unfolding chooseBy
+  unfolding chooseWalkBy
   choose-by-right =
       choice-right 256 1 false (omega arith) (record {
         plans = λ f frames p. quotient-pos (x .h) f (g .some-time) (p .divides);

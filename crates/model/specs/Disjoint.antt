@@ -3,7 +3,7 @@
 -- them. One cycle later is H / T jobs and H / f frames later, so two jobs in equal rows become two such numbers with one frame.
 use mathlib.Core.Path.{_≡_, sym, ap, _∙_}
 use mathlib.Core.Logic.{_↔_}
-use Prim.Native.Nat.{ℕ, _+_, _*_, _-_, _/_, _%_, _≤_, _<_, _∣_}
+use Prim.Native.Nat.{ℕ, _+_, _*_, _/_, _%_, _≤_, _<_, _∣_}
 use native.Mathlib.Nat.{
   mod-eq-of-lt,
   mod-eq-sub-mod,
@@ -20,14 +20,18 @@ use native.Mathlib.Nat.{
 }
 use native.Mathlib.Omega.{arith}
 use Rattle.arith.specs.Residue.{congruent, periods-frames}
-use Rattle.model.specs.Window.{InWindow}
+use Rattle.model.specs.Plan.{InWindow}
+
+-- frame k lies in the window of the job n, counted through all cycles
+abbrev pub InJob : ℕ → ℕ → ℕ → ℕ → ℕ → ℕ → Type 0
+InJob f T D P n k = InWindow f (P + n * T) (P + n * T + D) k
 
 module _ (f T D P : ℕ) (f-pos : 0 < f) (short : D ≤ T) where
-  not-later : (n n' k : ℕ) → InWindow f (P + n * T) D k → InWindow f (P + n' * T) D k → n < n' + 1
+  not-later : (n n' k : ℕ) → InJob f T D P n k → InJob f T D P n' k → n < n' + 1
   not-later n n' k w w' = lt-of-mul-lt-mul-right T (omega arith)
 
   -- no frame lies in the windows of two jobs, of whatever cycles
-  pub one-window : (n n' k : ℕ) → InWindow f (P + n * T) D k → InWindow f (P + n' * T) D k → n ≡ n'
+  pub one-window : (n n' k : ℕ) → InJob f T D P n k → InJob f T D P n' k → n ≡ n'
   one-window n n' k w w' = omega (arith, not-later n n' k w w', not-later n' n k w' w)
 
 module _ (H f T D P : ℕ) (pos : 0 < H) (fh : f ∣ H) (th : T ∣ H) where
@@ -35,13 +39,13 @@ module _ (H f T D P : ℕ) (pos : 0 < H) (fh : f ∣ H) (th : T ∣ H) where
   f-pos = pos-of-dvd-of-pos fh pos
 
   -- q cycles later, a job has its window, and each frame in it, q cycles later
-  pub window-later : (j k q : ℕ) → InWindow f (P + j * T) D k → InWindow f (P + (j + q * (H / T)) * T) D (k + q * (H / f))
+  pub window-later : (j k q : ℕ) → InJob f T D P j k → InJob f T D P (j + q * (H / T)) (k + q * (H / f))
   window-later j k q w =
       let whole : q * (H / T * T) ≡ q * (H / f * f) = ap (λ z. q * z) (periods-frames H f T fh th) in
-      record { starts = omega arith; ends = omega arith }
+      record { not-early = omega arith; not-late = omega arith }
 
   -- A row holds a task at most once: two jobs of it with frames in one row are one job in one frame.
-  pub one-job-in-row : (j j' k k' : ℕ) → D ≤ T → j < H / T → j' < H / T → InWindow f (P + j * T) D k → InWindow f (P + j' * T) D k'
+  pub one-job-in-row : (j j' k k' : ℕ) → D ≤ T → j < H / T → j' < H / T → InJob f T D P j k → InJob f T D P j' k'
       → k % (H / f) ≡ k' % (H / f) → (j ≡ j') × (k ≡ k')
   one-job-in-row j j' k k' short early early' w w' row =
       let N = H / T in
@@ -55,7 +59,7 @@ module _ (H f T D P : ℕ) (pos : 0 < H) (fh : f ∣ H) (th : T ∣ H) where
       (job, omega (arith, ap (λ z. z * F) cycle))
 
   -- A frame of a job lies in the first two cycles.
-  pub frame-below : (j k : ℕ) → D ≤ T → P < T → j < H / T → InWindow f (P + j * T) D k → k < 2 * (H / f)
+  pub frame-below : (j k : ℕ) → D ≤ T → P < T → j < H / T → InJob f T D P j k → k < 2 * (H / f)
   frame-below j k short phase early w = lt-of-mul-lt-mul-right f (omega (arith, mul-le-mul-right T early, periods-frames H f T fh th, f-pos))
 
 -- Frame k stands in row k % F with the carry k / F, which is 0 or 1; q cycles later it is the frame of the same row q cycles later.

@@ -1,28 +1,32 @@
 -- The rules of a plan, the chosen plan, and that it is the first of all plans.
+-- To be believed:
 pub mod Plan
 pub mod Slots
 pub mod Plausible
 pub mod Window
-pub mod Phase
-pub mod Disjoint
 pub mod Good
 pub mod Named
-pub mod Answers
-pub mod PhaseExact
-pub mod PlanLaws
-pub mod PlausibleLaws
-pub mod RuleLaws
-pub mod RowLaws
 pub mod Links
-pub mod LinksLaws
 pub mod Chosen
 pub mod MayStand
-pub mod MayStandLaws
-pub mod ProblemLaws
-pub mod ChosenLaws
-pub mod ChosenTries
 pub mod Described
+pub mod Within
+-- How answers stand in types:
+pub mod Answers
+-- Theorems:
+pub mod PhaseExact
+pub mod PlausibleLaws
+pub mod MayStandLaws
+pub mod ChosenLaws
+-- Laws:
+pub mod ChosenTries
+pub mod Phase
+pub mod Disjoint
+pub mod PlanLaws
+pub mod RuleLaws
+pub mod RowLaws
+pub mod LinksLaws
+pub mod ProblemLaws
 pub mod Places
 pub mod PlanTable
 pub mod LayoutPlan
-pub mod Within

@@ -1,18 +1,12 @@
 -- What a try tests, in a plan's words, in R-7's sentences: "one try is one job tested in one frame of its window, passed over or not", and "It
 -- passes over a frame whose row would exceed f or that breaks a pair with a job already placed". Jobs are placed in planning order, so where
--- those already placed stand in the frames p, the job that is tested has the place `length p`.
+-- those already placed stand in the frames p, the job that is tested has the place `length p`. The window is a plan's: `InWindow`.
 use mathlib.Core.Path.{_≡_}
 use mathlib.Core.List.{List}
-use Prim.Native.Nat.{ℕ, _+_, _*_, _%_, _≤_, _<_}
+use Prim.Native.Nat.{ℕ, _+_, _%_, _≤_, _<_}
 use lib.ListN.{length}
 use Rattle.search.specs.Placing.{row-sum}
 use Rattle.model.specs.Plan.{Instance, taskAt, pairAt, jobAt, rowsAt, slot, costs, frameAt}
-
--- "one frame of its window": frame k lies in the window of the job at place y
-pub record FrameOfWindow (x : Instance) (f y k : ℕ) : Type 0 where
-  -- "Window: k·f ≥ r and (k+1)·f ≤ r + D."
-  pub not-early : jobAt x y .release ≤ k * f
-  pub not-late : (k + 1) * f ≤ jobAt x y .due
 
 -- In frame k the job at place y breaks no pair with a job z placed before it: "for a pair a, b the frame of job j of a is at most the frame of
 -- job j of b".

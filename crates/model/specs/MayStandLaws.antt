@@ -12,16 +12,17 @@ use Rattle.cursor.specs.Padded.{map-at}
 use Rattle.cycle.specs.Planned.{noJob}
 use Rattle.search.specs.Placing.{row-sum, linksOf, hasRoom, ordered, fits, windowStart, frameCount}
 use Rattle.search.specs.LoadLaws.{both-true}
-use Rattle.search.specs.Plans.{LinkKept, all-kept-says, says-all-kept}
-use Rattle.model.specs.Window.{starts-from, ends-by}
-use Rattle.model.specs.Plan.{Instance, pairAt, jobAt, rowsAt, costs}
+use Rattle.search.specs.Plans.{LinkKept}
+use Rattle.search.specs.PlansLaws.{all-kept-says, says-all-kept}
+use Rattle.model.specs.Window.{window-frames}
+use Rattle.model.specs.Plan.{Instance, pairAt, jobAt, rowsAt, costs, InWindow}
 use Rattle.model.specs.Plausible.{plausible}
 use Rattle.model.specs.Chosen.{firstFrameOf, endFrameOf, problemAt}
 use Rattle.model.specs.Good.{Good, same-place}
 use Rattle.model.specs.PlanLaws.{cost-at}
 use Rattle.model.specs.PlausibleLaws.{plausible-says}
 use Rattle.model.specs.LinksLaws.{HasJob, LinkBy, to-first, to-second, link-to-first, link-to-second, in-links, by-pair, links-at}
-use Rattle.model.specs.MayStand.{FrameOfWindow, BreaksNoPair, MayStand}
+use Rattle.model.specs.MayStand.{BreaksNoPair, MayStand}
 use Rattle.model.specs.Within.{Within, within-good}
 
 -- the job at place y, in frame k, keeps its links
@@ -42,13 +43,10 @@ module _ (x : Instance) (g : Good x) (f : ℕ) where
   end-is y h = map-at (endFrameOf f) 0 noJob (x .jobs) y h
 
   -- they are those of its window
-  pub window-is : 0 < f → (y k : ℕ) → y < n → FrameOfWindow x f y k ↔ ((getD (problemAt x f .first) y 0 ≤ k) × (k < getD (problemAt x f .end) y 0))
+  pub window-is : 0 < f → (y k : ℕ) → y < n
+      → InWindow f (jobAt x y .release) (jobAt x y .due) k ↔ ((getD (problemAt x f .first) y 0 ≤ k) × (k < getD (problemAt x f .end) y 0))
   unfolding firstFrameOf endFrameOf
-  window-is pos y k h =
-      let from = starts-from f (jobAt x y .release) k pos in
-      let by = ends-by f (jobAt x y .due) k pos in
-      rw (first-is y h, end-is y h)
-      (λ w. (from .0 (w .not-early), by .0 (w .not-late)), λ w. record { not-early = from .1 (w .0); not-late = by .1 (w .1) })
+  window-is pos y k h = rw (first-is y h, end-is y h) (window-frames f (jobAt x y .release) (jobAt x y .due) k pos)
 
   -- It keeps its links exactly if it breaks no pair.
   pub links-say : (p : List ℕ) (y k : ℕ) → y < n → KeepsLinks x f p y k ↔ BreaksNoPair x p y k
@@ -120,7 +118,8 @@ module _ (request : List ℕ) (x : Instance) (within : Within request x) (f : �
 
   -- the frames walked for a job, from the first of them on, are those "of its window"
   pub frames-walked : plausible x f ≡ true → (y k : ℕ) → y < length (x .jobs)
-      → ((windowStart (problemAt x f) y ≤ k) × (k < windowStart (problemAt x f) y + frameCount (problemAt x f) y)) ↔ FrameOfWindow x f y k
+      → ((windowStart (problemAt x f) y ≤ k) × (k < windowStart (problemAt x f) y + frameCount (problemAt x f) y))
+      ↔ InWindow f (jobAt x y .release) (jobAt x y .due) k
   frames-walked p y k h =
       let w = window-is x (within-good request x within) f (plausible-says x f p .some) y k h in
       (λ b. w .1 (b .0, omega (arith, b .0, b .1)), λ v. let b = w .0 v in (b .0, omega (arith, b .0, b .1)))

@@ -8,11 +8,12 @@ use native.Mathlib.Nat.{mod-lt, mod-le, mod-mod, mod-mod-of-dvd, div-mul-cancel,
 use native.Mathlib.Omega.{arith}
 use Rattle.arith.specs.Gcd.{gcdOf, gcd-dvd}
 use Rattle.arith.specs.Residue.{congruent, residues-reached}
-use Rattle.model.specs.Window.{InWindow, since, since-is, window-holds}
+use Rattle.model.specs.Plan.{InWindow}
+use Rattle.model.specs.Window.{since, since-is, window-holds}
 
 -- every job of the task has a whole frame in its window
 abbrev pub EveryWindowHolds : ℕ → ℕ → ℕ → ℕ → ℕ → Type 0
-EveryWindowHolds H f T D P = (j : ℕ) → j < H / T → (k : ℕ) × InWindow f (P + j * T) D k
+EveryWindowHolds H f T D P = (j : ℕ) → j < H / T → (k : ℕ) × InWindow f (P + j * T) (P + j * T + D) k
 
 -- for the residue modulo g it is the same to go back one from a multiple f of g as from g
 back-one : (g f m : ℕ) → 0 < f → g ∣ f → (m + (f - 1)) % g ≡ (m + (g - 1)) % g

@@ -15,13 +15,8 @@ use Rattle.request.specs.declared.Task.{Task}
 use Rattle.model.specs.Window.{since, since-le, since-multiple, since-other}
 use Rattle.model.specs.Phase.{EveryWindowHolds, windows-hold}
 use Rattle.model.specs.Plan.{Instance, taskAt, jobAt}
-use Rattle.model.specs.Plausible.{commonRule, phaseRule}
+use Rattle.model.specs.Plausible.{commonRule, phaseRule, WindowsHold}
 use Rattle.model.specs.Good.{Good, JobFacts, job-facts, PlaceOf, place-of}
-
--- "each of its windows holds a whole frame": every job of task i in the cycle has a frame k with "k·f ≥ r and (k+1)·f ≤ r + D"
-abbrev pub WindowsHold : Instance → ℕ → ℕ → Type 0
-WindowsHold x f i = (y : ℕ) → y < length (x .jobs) → jobAt x y .task ≡ i
-    → (k : ℕ) × (jobAt x y .release ≤ k * f) × ((k + 1) * f ≤ jobAt x y .due)
 
 -- the rule where p is 0, and where it is not
 module _ (f : ℕ) (task : Task) (common : ℕ) (is : common ≡ gcdOf f (task .t)) where
@@ -64,19 +59,19 @@ module _ (x : Instance) (g : Good x) (f : ℕ) (divides : f ∣ x .h) (i : ℕ) 
       numbers all j early =
           let there : PlaceOf x i j = place-of x g i j known early in
           let facts : JobFacts x (there .place) = job-facts x g (there .place) (there .within) in
-          let (k, starts, ends) = all (there .place) (there .within) (there .task) in
+          let (k, w) = all (there .place) (there .within) (there .task) in
           let r : jobAt x (there .place) .release ≡ task .p + j * task .t = rw (there .task, there .number) at (facts .released) in
           let due : jobAt x (there .place) .due ≡ task .p + j * task .t + task .d = rw (there .task, r) at (facts .due) in
-          (k, record { starts = rw r at starts; ends = rw due at ends })
+          (k, rw (r, due) at w)
 
       places : EveryWindowHolds (x .h) f (task .t) (task .d) (task .p) → WindowsHold x f i
       places all y h e =
           let facts : JobFacts x y = job-facts x g y h in
           let (k, w) = all (jobAt x y .number) (rw e at (facts .early)) in
-          (k, rw (facts .released, e) (w .starts), rw (facts .due, facts .released, e) (w .ends))
+          (k, rw (facts .due, facts .released, e) w)
 
   -- THE THEOREM: "a task passes exactly if each of its windows holds a whole frame"
-  pub phase-exact : (phaseRule f task ≡ true) ↔ WindowsHold x f i
+  pub phase-exact : (phaseRule f (taskAt x i) ≡ true) ↔ WindowsHold x f i
   phase-exact =
       let rule = rule-since f task in
       let hold = windows-hold (x .h) f (task .t) (task .d) (task .p) (g .some-time) divides (g .whole-periods i known) in

@@ -47,6 +47,15 @@ costs x = map (costOf (x .g) (x .tasks)) (x .jobs)
 abbrev pub frameAt : List ℕ → ℕ → ℕ
 frameAt frames y = getD frames y 0
 
+-- "Window: k·f ≥ r and (k+1)·f ≤ r + D.": frame k of length f lies in the window from r to e
+pub record InWindow (f r e k : ℕ) : Type 0 where
+  pub not-early : r ≤ k * f
+  pub not-late : (k + 1) * f ≤ e
+
+-- "Capacity: the C of the jobs in a row, carried ones included, add up to at most f.", each C as C + g. A job stands in row k mod F.
+abbrev pub Capacity : Instance → ℕ → List ℕ → Type 0
+Capacity x f frames = (r : ℕ) → r < rowsAt x f → row-sum (rowsAt x f) (costs x) frames r ≤ f
+
 -- "Order: for a pair a, b the frame of job j of a is at most the frame of job j of b.": y is the place of the one, z of the other
 abbrev pub PairsKept : Instance → List ℕ → Type 0
 PairsKept x frames = (u : ℕ) → u < length (x .pairs) → (y z : ℕ) → y < length (x .jobs) → z < length (x .jobs)
@@ -59,9 +68,7 @@ pub record IsPlan (x : Instance) (f : ℕ) (frames : List ℕ) : Type 0 where
   pub few-rows : rowsAt x f ≤ 256
   -- "Each job has one frame k, counted from time 0."
   pub all : length frames ≡ length (x .jobs)
-  -- "Window: k·f ≥ r and (k+1)·f ≤ r + D."
-  pub not-early : (y : ℕ) → y < length (x .jobs) → jobAt x y .release ≤ frameAt frames y * f
-  pub not-late : (y : ℕ) → y < length (x .jobs) → (frameAt frames y + 1) * f ≤ jobAt x y .due
-  -- "Capacity: the C of the jobs in a row, carried ones included, add up to at most f.", each C as C + g. A job stands in row k mod F.
-  pub capacity : (r : ℕ) → r < rowsAt x f → row-sum (rowsAt x f) (costs x) frames r ≤ f
+  -- its window
+  pub window : (y : ℕ) → y < length (x .jobs) → InWindow f (jobAt x y .release) (jobAt x y .due) (frameAt frames y)
+  pub capacity : Capacity x f frames
   pub order : PairsKept x frames

@@ -10,7 +10,7 @@ use Rattle.arith.specs.Residue.{quotient-pos}
 use Rattle.cursor.specs.Padded.{map-at}
 use Rattle.cycle.specs.Planned.{noJob}
 use Rattle.search.specs.Placing.{row-sum}
-use Rattle.model.specs.Window.{InWindow}
+use Rattle.model.specs.Disjoint.{InJob}
 use Rattle.model.specs.Plan.{Instance, taskAt, jobAt, rowsAt, slot, costOf, costs, frameAt, IsPlan}
 use Rattle.model.specs.Good.{Good, JobFacts, job-facts, PlaceOf, first-job}
 
@@ -38,10 +38,12 @@ module _ (x : Instance) (g : Good x) (f : ℕ) (frames : List ℕ) (v : IsPlan x
   rows-pos = quotient-pos (x .h) f (g .some-time) (v .divides)
 
   pub in-window : (y : ℕ) → y < length (x .jobs)
-      → InWindow f (taskAt x (jobAt x y .task) .p + jobAt x y .number * taskAt x (jobAt x y .task) .t) (taskAt x (jobAt x y .task) .d) (frameAt frames y)
+      → InJob f (taskAt x (jobAt x y .task) .t) (taskAt x (jobAt x y .task) .d) (taskAt x (jobAt x y .task) .p) (jobAt x y .number) (frameAt frames y)
   in-window y h =
       let facts : JobFacts x y = job-facts x g y h in
-      record { starts = omega (arith, v .not-early y h, facts .released); ends = omega (arith, v .not-late y h, facts .released, facts .due) }
+      let due : jobAt x y .due ≡ taskAt x (jobAt x y .task) .p + jobAt x y .number * taskAt x (jobAt x y .task) .t + taskAt x (jobAt x y .task) .d
+      = rw (facts .released) at (facts .due) in
+      rw (facts .released, due) at (v .window y h)
 
   -- a plan's frames have room for every task, since every task has a job
   pub slot-fits : (i : ℕ) → i < length (x .tasks) → slot (x .g) (taskAt x i) ≤ f

@@ -1,12 +1,14 @@
--- Plausible frame lengths, in the words of 01's 'Choosing' and of R-5.
+-- Plausible frame lengths, in the words of 01's 'Choosing' and of R-5; and what it is that they are necessary and that the rule is exact.
+use mathlib.Core.Path.{_≡_}
 use mathlib.Core.Bool.{Bool, true}
 use mathlib.Core.List.{List, [], _∷_}
-use Prim.Native.Nat.{ℕ, _+_, _*_, _%_}
+use Prim.Native.Nat.{ℕ, _+_, _*_, _%_, _<_}
+use lib.ListN.{length}
 use lib.Dec.{leb, ltb, eqb}
 use Rattle.cursor.specs.Choice.{pick, both}
 use Rattle.arith.specs.Gcd.{gcdOf}
 use Rattle.request.specs.declared.Task.{Task}
-use Rattle.model.specs.Plan.{Instance, rowsAt, slot}
+use Rattle.model.specs.Plan.{Instance, jobAt, rowsAt, slot, InWindow, IsPlan}
 
 -- 01's rule on the windows of a task: "2f − gcd(f, T) ≤ D"
 unfoldable pub commonRule : ℕ → Task → Bool
@@ -32,3 +34,12 @@ plausibleBy rule x f = both (ltb 0 f) (both (eqb (x .h % f) 0) (both (leb (rowsA
 -- "The per-task test becomes exact .. Planner and check both use it"
 abbrev pub plausible : Instance → ℕ → Bool
 plausible = plausibleBy phaseRule
+
+-- "This is necessary for a plan"
+abbrev pub Needed : (ℕ → Task → Bool) → Instance → Type 0
+Needed rule x = (f : ℕ) (frames : List ℕ) → IsPlan x f frames → plausibleBy rule x f ≡ true
+
+-- "each of its windows holds a whole frame": every job of task i in the cycle has a frame k with "k·f ≥ r and (k+1)·f ≤ r + D"
+abbrev pub WindowsHold : Instance → ℕ → ℕ → Type 0
+WindowsHold x f i = (y : ℕ) → y < length (x .jobs) → jobAt x y .task ≡ i
+    → (k : ℕ) × InWindow f (jobAt x y .release) (jobAt x y .due) k

@@ -15,8 +15,8 @@ use Rattle.cursor.specs.Choice.{both}
 use Rattle.cursor.specs.ParsedLaws.{both-true}
 use Rattle.request.specs.Request.{noTask}
 use Rattle.request.specs.declared.Task.{Task}
-use Rattle.model.specs.Plan.{Instance, taskAt, rowsAt, slot, frameAt, IsPlan}
-use Rattle.model.specs.Plausible.{commonRule, phaseRule, frameRule, frameRules, plausibleBy, plausible}
+use Rattle.model.specs.Plan.{Instance, taskAt, rowsAt, slot, frameAt}
+use Rattle.model.specs.Plausible.{commonRule, phaseRule, frameRule, frameRules, plausibleBy, plausible, Needed}
 use Rattle.model.specs.PhaseExact.{phase-common, phase-exact}
 use Rattle.model.specs.Good.{Good}
 use Rattle.model.specs.PlanLaws.{length-pos, slot-fits}
@@ -87,10 +87,6 @@ module _ {rule : ℕ → Task → Bool} (x : Instance) (f : ℕ) where
       rw (lt-ltb 0 f (v .some), eq-eqb (x .h % f) 0 (mod-eq-zero-of-dvd f (v .divides)), le-leb (rowsAt x f) 256 (v .few-rows))
       (say-rules rule (x .g) f (x .tasks) (v .rules))
 
--- "This is necessary for a plan"
-abbrev pub Needed : (ℕ → Task → Bool) → Instance → Type 0
-Needed rule x = (f : ℕ) (frames : List ℕ) → IsPlan x f frames → plausibleBy rule x f ≡ true
-
 pub plausible-needed : (x : Instance) → Good x → Needed phaseRule x
 plausible-needed x g f frames v =
     says-plausible x f (record {
@@ -99,7 +95,7 @@ plausible-needed x g f frames v =
       few-rows = v .few-rows;
       rules = λ i known. record {
         room = slot-fits x g f frames v i known;
-        windows = phase-exact x g f (v .divides) i known .1 (λ y h e. (frameAt frames y, v .not-early y h, v .not-late y h));
+        windows = phase-exact x g f (v .divides) i known .1 (λ y h e. (frameAt frames y, v .window y h));
       };
     })
 

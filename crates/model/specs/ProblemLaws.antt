@@ -19,7 +19,6 @@ use Rattle.model.specs.Good.{Good, job-facts}
 use Rattle.model.specs.PlanLaws.{costs-length, cost-at, length-pos}
 use Rattle.model.specs.PlausibleLaws.{PlausibleBy}
 use Rattle.model.specs.LinksLaws.{counts-length, links-linked}
-use Rattle.model.specs.MayStand.{FrameOfWindow}
 use Rattle.model.specs.MayStandLaws.{KeepsLinks, window-is, links-say}
 
 abbrev LinksKept : Instance → ℕ → List ℕ → Type 0
@@ -52,14 +51,11 @@ module _ (x : Instance) (g : Good x) (f : ℕ) where
   unfolding problemAt
   placing-is-plan pos divides few frames v =
       let size = costs-length x in
-      let window : (y : ℕ) → y < n → FrameOfWindow x f y (frameAt frames y) =
-      λ y h. window-is x g f pos y (frameAt frames y) h .1 (v .window y (omega arith)) in
       record {
         divides = divides;
         few-rows = few;
         all = v .all ∙ size;
-        not-early = λ y h. window y h .not-early;
-        not-late = λ y h. window y h .not-late;
+        window = λ y h. window-is x g f pos y (frameAt frames y) h .1 (v .window y (omega arith));
         capacity = v .room;
         order = links-order frames (λ y h. v .order y (omega arith));
       }
@@ -71,8 +67,7 @@ module _ (x : Instance) (g : Good x) (f : ℕ) where
       let size = costs-length x in
       record {
         all = v .all ∙ sym size;
-        window = λ y h. window-is x g f (length-pos x g f frames v) y (frameAt frames y) (omega arith) .0
-            (record { not-early = v .not-early y (omega arith); not-late = v .not-late y (omega arith) });
+        window = λ y h. window-is x g f (length-pos x g f frames v) y (frameAt frames y) (omega arith) .0 (v .window y (omega arith));
         room = v .capacity;
         order = λ y h. order-links frames (v .order) y (omega arith);
       }

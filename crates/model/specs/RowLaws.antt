@@ -2,11 +2,10 @@
 -- twice. It is `Disjoint`, said of a plan.
 use mathlib.Core.Path.{_≡_}
 use mathlib.Core.List.{List}
-use Prim.Native.Nat.{ℕ, _+_, _*_, _/_, _%_, _<_}
+use Prim.Native.Nat.{ℕ, _*_, _/_, _%_, _<_}
 use lib.ListN.{length}
 use Rattle.request.specs.Readable.{TaskKept}
-use Rattle.model.specs.Window.{InWindow}
-use Rattle.model.specs.Disjoint.{one-job-in-row, frame-below}
+use Rattle.model.specs.Disjoint.{InJob, one-job-in-row, frame-below}
 use Rattle.model.specs.Plan.{Instance, taskAt, jobAt, rowsAt, frameAt, IsPlan}
 use Rattle.model.specs.Good.{Good, JobFacts, job-facts, same-place}
 use Rattle.model.specs.PlanLaws.{in-window}
@@ -29,7 +28,7 @@ module _ (x : Instance) (g : Good x) (f : ℕ) (frames : List ℕ) (v : IsPlan x
       let facts' : JobFacts x z = job-facts x g z hz in
       let i : ℕ = jobAt x y .task in
       let early : jobAt x z .number < x .h / taskAt x i .t = rw (← same) at (facts' .early) in
-      let window : InWindow f (taskAt x i .p + jobAt x z .number * taskAt x i .t) (taskAt x i .d) (frameAt frames z)
+      let window : InJob f (taskAt x i .t) (taskAt x i .d) (taskAt x i .p) (jobAt x z .number) (frameAt frames z)
       = rw (← same) at (in-window x g f frames v z hz) in
       let one = one-job-in-row (x .h) f (taskAt x i .t) (taskAt x i .d) (taskAt x i .p) (g .some-time) (v .divides) (g .whole-periods i (facts .known))
       (jobAt x y .number) (jobAt x z .number) (frameAt frames y) (frameAt frames z) (g .readable .task i (facts .known) .due) (facts .early) early

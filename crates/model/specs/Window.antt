@@ -7,11 +7,7 @@ use Prim.Native.Nat.{ℕ, zero, suc, _+_, _*_, _-_, _/_, _%_, _≤_, _<_}
 use native.Mathlib.Nat.{mod-lt, mod-eq-of-lt, div-add-mod', mul-le-mul-right, div-lt-iff-lt-mul, le-div-iff-mul-le, eq-zero-or-pos}
 use native.Mathlib.Omega.{arith}
 use Rattle.arith.specs.Residue.{congruent}
-
--- frame k of length f lies in the window of length D that opens at r
-pub record InWindow (f r D k : ℕ) : Type 0 where
-  pub starts : r ≤ k * f
-  pub ends : (k + 1) * f ≤ r + D
+use Rattle.model.specs.Plan.{InWindow}
 
 -- the first frame that starts at r or later
 unfoldable pub firstFrom : ℕ → ℕ → ℕ
@@ -30,12 +26,12 @@ ends-by f e k pos =
     let high = le-div-iff-mul-le {x = suc k} {y = e} pos in
     (λ h. high .1 (omega arith), λ h. omega (arith, high .0 h))
 
--- the frames of a window are those from firstFrom f r up to, and without, (r + D) / f
-pub window-frames : (f r D k : ℕ) → 0 < f → InWindow f r D k ↔ ((firstFrom f r ≤ k) × (k < (r + D) / f))
-window-frames f r D k pos =
+-- the frames of the window from r to e are those from firstFrom f r up to, and without, e / f
+pub window-frames : (f r e k : ℕ) → 0 < f → InWindow f r e k ↔ ((firstFrom f r ≤ k) × (k < e / f))
+window-frames f r e k pos =
     let from = starts-from f r k pos in
-    let by = ends-by f (r + D) k pos in
-    (λ w. (from .0 (w .starts), by .0 (w .ends)), λ b. record { starts = from .1 (b .0); ends = by .1 (b .1) })
+    let by = ends-by f e k pos in
+    (λ w. (from .0 (w .not-early), by .0 (w .not-late)), λ b. record { not-early = from .1 (b .0); not-late = by .1 (b .1) })
 
 or-whole : ℕ → ℕ → ℕ
 or-whole n zero = n
@@ -72,11 +68,11 @@ since-is n m pos = go (eq-zero-or-pos (m % n))
 pub since-le : (n m : ℕ) → 0 < n → since n m ≤ n
 since-le n m pos = rw (since-is n m pos) (mod-lt (m + (n - 1)) pos)
 
-pub window-holds : (f r D : ℕ) → 0 < f → ((k : ℕ) × InWindow f r D k) ↔ (2 * f ≤ D + since f r)
+pub window-holds : (f r D : ℕ) → 0 < f → ((k : ℕ) × InWindow f r (r + D) k) ↔ (2 * f ≤ D + since f r)
 unfolding firstFrom
 window-holds f r D pos =
     let first = firstFrom f r in
     let split : first * f + since f r ≡ r + f = omega (arith, since-is f r pos, div-add-mod' (r + (f - 1)) f) in (
-      λ w. omega (arith, w .1, mul-le-mul-right f (window-frames f r D (w .0) pos .0 (w .1) .0)),
-      λ h. (first, record { starts = omega (arith, since-le f r pos); ends = omega arith }),
+      λ w. omega (arith, w .1, mul-le-mul-right f (window-frames f r (r + D) (w .0) pos .0 (w .1) .0)),
+      λ h. (first, record { not-early = omega (arith, since-le f r pos); not-late = omega arith }),
     )

@@ -60,7 +60,7 @@ module _ (tasks : List Task) (n g : ℕ) (entries : List ℕ) (count i : ℕ) wh
 
 same-slots : (c : Cycle) (entries jobs : List ℕ) (k p : ℕ)
     → slots (ofTasks (c .tasks) (c .n) (c .g)) (entriesAt entries [] k p) ≡ slots (instanceOf c) (entriesAt entries jobs k p)
-unfolding instanceOf entriesAt
+unfolding entriesAt
 same-slots c entries jobs zero p = refl
 same-slots c entries jobs (suc k) p =
     rw (task-of-byte (getD entries p 0) (getD {A = ℕ} [] p 0), task-of-byte (getD entries p 0) (getD jobs p 0), same-slots c entries jobs k (p + 1))
@@ -144,7 +144,7 @@ module _ (L s e : ℕ) (c : Cycle) (bytes : List ℕ) (z : Sizes) (o : Formed by
 
   -- the used time is that of the frame's row
   pub frame-decided : (r : Bool) → r ≡ fitsBy L s e (z .f) (c .g) (getD times (k % z .height) 0) k → FitsIn L s e (instanceOf c) bytes k r
-  unfolding fitsBy frameFits instanceOf
+  unfolding fitsBy frameFits
   frame-decided r q = record {
     of = λ t is.
         let same = same-table bytes z o t is in
@@ -224,12 +224,12 @@ module _ (L s e : ℕ) (request bytes : List ℕ) where
 
       -- 21
       pub badly-asked : wellAsked L s e (c .h) ≡ false → spec.refusal 21 ≡ oneOff L s e request bytes
-      unfolding offered instanceOf
+      unfolding offered
       badly-asked q = sym (offered-is ∙ rw q)
 
       pub earliest-answers : wellAsked L s e (c .h) ≡ true → (r : FrameFound) → EarliestIn L s e (instanceOf c) bytes r
           → r ≡ offerAnswer (oneOff L s e request bytes)
-      unfolding offered instanceOf
+      unfolding offered
       earliest-answers q r found =
           let all : oneOff L s e request bytes ≡ earliest L s e (instanceOf c) (passed .read .t) = offered-is ∙ rw q in
           rw all (found .of (passed .read .t) (passed .read .read))

@@ -8,7 +8,7 @@ use Rattle.request.specs.declared.Request.{Request}
 use Rattle.cycle.specs.Answers.{AsRead, cycleFor, answered}
 use Rattle.cycle.specs.PhaseLaws.{requestWith}
 use Rattle.model.specs.Answers.{instanceOf}
-use Rattle.model.specs.ChosenTries.{chooseWalk}
+use Rattle.model.specs.Chosen.{chooseWalk}
 use Rattle.planner.specs.Choices.{choiceWithin}
 use Rattle.phases.specs.declared.PhaseCounts.{PhaseCounts}
 

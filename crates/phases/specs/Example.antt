@@ -12,17 +12,14 @@ use Rattle.request.specs.Encode.{taskBytes, pairBytes, sectionBytes, silentByte
 use Rattle.request.specs.declared.Task.{Task}
 use Rattle.request.specs.declared.Pair.{Pair}
 use Rattle.cycle.specs.Cycle.{lcmWith, hyperperiod, jobsIn, jobOf, jobsFrom, jobsOf, allJobs, before, insert, inOrder, planned, cycleOf}
-use Rattle.search.specs.Walk.{goOn, oneTry, walkFrames, walk}
-use Rattle.search.specs.Counting.{planWalk}
-use Rattle.search.specs.Search.{orElse, when, firstOf, search}
-use Rattle.search.specs.Placing.{row-sum, all-kept, fits, plan}
+use Rattle.search.specs.Search.{goOn, oneTry, walkFrames, walk}
+use Rattle.search.specs.Placing.{row-sum, all-kept, fits, planWalk}
 use Rattle.model.specs.Window.{firstFrom}
 use Rattle.model.specs.Plan.{slot, costOf, costs}
 use Rattle.model.specs.Plausible.{commonRule, phaseRule, frameRule, frameRules, plausibleBy}
 use Rattle.model.specs.Named.{isJob}
 use Rattle.model.specs.Links.{placeFrom, placeBefore, linkIf, linkBy, linksBy, linksOfJob, linksFrom, allLinks, inPlaces, linkCounts, linkPlaces}
-use Rattle.model.specs.Chosen.{firstFrameOf, endFrameOf, problemAt, isTriedBy, foundOr, chooseFromBy, chooseBy}
-use Rattle.model.specs.ChosenTries.{goOnLengths, walkLengths, chooseWalk}
+use Rattle.model.specs.Chosen.{firstFrameOf, endFrameOf, problemAt, isTriedBy, goOnLengths, walkLengthsBy, chooseWalkBy}
 use Rattle.planner.specs.Outcome.{outcome, requestTries, outcomeWithin}
 use Rattle.phases.specs.Phases.{withPhase, leadsTo, howMany, counted, uncounted, phases}
 use Rattle.phases.specs.declared.PhaseCounts.{PhaseCounts}
@@ -71,10 +68,9 @@ pub record Examples : Type 0 where
 pub examples : Examples
 unfolding outcome requestTries outcomeWithin cycleOf reading tasksOf taskOf judgedTask taskRule pairsOf pairOf judgedPair pairRule silentOf records byteOf wordOf
     requestBytes sectionBytes taskBytes pairBytes silentBytes wordBytes flatMap
-    chooseBy chooseFromBy isTriedBy foundOr problemAt firstFrameOf endFrameOf firstFrom costs costOf slot plausibleBy frameRules frameRule phaseRule commonRule
+    isTriedBy problemAt firstFrameOf endFrameOf firstFrom costs costOf slot plausibleBy frameRules frameRule phaseRule commonRule
     linkCounts linkPlaces inPlaces allLinks linksFrom linksOfJob linksBy linkBy linkIf placeBefore placeFrom isJob padded
-    plan search firstOf when orElse fits all-kept row-sum
-    chooseWalk walkLengths goOnLengths planWalk walk walkFrames oneTry goOn
+    chooseWalkBy walkLengthsBy goOnLengths planWalk walk walkFrames oneTry goOn fits all-kept row-sum
     planned inOrder insert before allJobs jobsOf jobsFrom jobOf jobsIn hyperperiod lcmWith lcmOf gcdOf gcdSteps
     withPhase leadsTo howMany counted phases
 examples = record {

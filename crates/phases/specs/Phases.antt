@@ -8,7 +8,7 @@ use Rattle.cursor.specs.Choice.{pick, bit}
 use Rattle.cursor.specs.Fields.{wordBytes}
 use Rattle.request.specs.Request.{periodOf}
 use Rattle.cycle.specs.Cycle.{Cycle, cycle, noCycle, cycleOf}
-use Rattle.planned_table.specs.Outcome.{Outcome, handed, refusal}
+use Rattle.plan_writer.specs.Outcome.{Outcome, handed, refusal}
 use Rattle.planner.specs.Outcome.{outcomeWithin}
 use Rattle.phases.specs.declared.PhaseCounts.{PhaseCounts}
 

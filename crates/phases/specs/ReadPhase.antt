@@ -25,9 +25,8 @@ use Rattle.cycle.specs.declared.Cycle as answer
 use Rattle.model.specs.Plan.{Instance}
 use Rattle.model.specs.Answers.{instanceOf, instance, instance-answered}
 use Rattle.model.specs.Within.{Within, within-limits, InLimits, of-in-limits}
-use Rattle.model.specs.Chosen.{Choice, chosen, noPlan, noPlausible, choose}
-use Rattle.model.specs.ChosenTries.{chooseWalk, fullTries, walk-chooses}
-use Rattle.planned_table.specs.Outcome.{refusal}
+use Rattle.model.specs.Chosen.{Choice, chosen, noPlan, noPlausible, choose, chooseWalk, fullTries}
+use Rattle.plan_writer.specs.Outcome.{refusal}
 use Rattle.planner.specs.Outcome.{byChoice, outcome, requestTries, outcomeWithin}
 use Rattle.planner.specs.Choices.{noneChosen, choiceAnswer, choiceWithin}
 use Rattle.phases.specs.Phases.{withPhase, numberOf, leadsTo}
@@ -37,7 +36,7 @@ use Rattle.phases.specs.PhaseCycle.{jobsWith, after-with, phase-within}
 -- the choice of a request's instance has the number of the planner's outcome
 pub choice-number : (a : ℕ) (s : List ℕ) (x : Instance) → Within s x → choiceWithin a (chooseWalk x) .refusal ≡ numberOf (outcomeWithin a s)
 unfolding choiceWithin choiceAnswer outcomeWithin outcome requestTries
-choice-number a s x within = rw (within, walk-chooses x) (go (ltb a (fullTries x)) (choose x))
+choice-number a s x within = rw within (go (ltb a (fullTries x)) (choose x))
   where
     go : (b : Bool) (o : Choice) → pick b (noneChosen 23 a) (choiceAnswer o (fullTries x)) .refusal ≡ numberOf (pick b (refusal 23) (byChoice x o))
     go true o = refl

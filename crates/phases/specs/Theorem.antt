@@ -24,11 +24,12 @@ use Rattle.model.specs.Answers.{instance}
 use Rattle.model.specs.Within.{Within, within-limits, within-or-not}
 use Rattle.model.specs.Chosen.{Choice, chosen, noPlan, noPlausible, choose}
 use Rattle.cursor.specs.declared.Written.{Written}
-use Rattle.planned_table.specs.Outcome.{Outcome, handed, refusal, outcomeAnswer}
+use Rattle.plan_writer.specs.Outcome.{Outcome, handed, refusal, outcomeAnswer}
 use Rattle.planner.specs.Outcome.{byChoice, inCycle, outcome, requestTries, outcomeWithin, searchedAnswer}
 use Rattle.planner.specs.PlanLaws.{within-reached, within-exceeded}
-use Rattle.planner.specs.Handed.{table-handed}
-use Rattle.planner.specs.TableLaws.{GoodOutcome, outcome-within-good, handed-answer}
+use Rattle.planner.specs.HandedLaws.{table-handed}
+use Rattle.plan_writer.specs.OutcomeLaws.{refused-answer, handed-answer}
+use Rattle.planner.specs.TableLaws.{GoodOutcome, outcome-within-good}
 use Rattle.phases.specs.Phases.{withPhase, numberOf, leadsTo, howMany, counted, uncounted, phasesIn, phases}
 use Rattle.phases.specs.HowMany.{how-many-same, how-many-le}
 use Rattle.phases.specs.PhaseBytes.{phase-inside, own-with}
@@ -66,12 +67,12 @@ four-add-up number (suc n) each = omega (arith, four-add-up number n (λ p h. ea
 -- The planner's public answer into a buffer of 519 bytes or more is the number of its outcome
 
 says-number : (allowance : ℕ) (s out : List ℕ) → 519 ≤ length out → searchedAnswer allowance s out .refusal ≡ numberOf (outcomeWithin allowance s)
-unfolding searchedAnswer outcomeAnswer
+unfolding searchedAnswer
 says-number allowance s out room = go (outcomeWithin allowance s) (outcome-within-good allowance s)
   where
     go : (o : Outcome) → GoodOutcome o → outcomeAnswer o out .refusal ≡ numberOf o
     go (handed t) good = ap (λ (w : Written). w .refusal) (handed-answer t out (omega (arith, good .short)))
-    go (refusal number) good = refl
+    go (refusal number) good = ap (λ (w : Written). w .refusal) (refused-answer number out)
 
 -- and of a request within the limits it is one of four
 number-of-four : (allowance : ℕ) (s : List ℕ) (x : Instance) → Within s x → OneOfFour (numberOf (outcomeWithin allowance s))

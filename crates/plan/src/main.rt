@@ -10,6 +10,6 @@ fn main() {
         return;
     }
     let mut out = io::buffer();
-    let length = listing::plan(&input[..n], &mut out);
+    let length = plan_listing::plan(&input[..n], &mut out);
     streams::print(&out[..length]);
 }

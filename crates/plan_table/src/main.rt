@@ -5,7 +5,7 @@ use libc::STDIN_FILENO;
 use planner::Searched;
 ghost use mathlib.Core.Path.{_≡_};
 ghost use Rattle.io.specs.Counts.{Counts};
-ghost use Rattle.planned_table.specs.Outcome.{outcomeBuffer};
+ghost use Rattle.plan_writer.specs.Outcome.{outcomeBuffer};
 ghost use Rattle.planner.specs.Outcome.{programTries, outcomeWithin, searchedAnswer};
 
 // The planner's answer and buffer within the tries that a program allows; the answer's length is within the buffer.
@@ -27,7 +27,7 @@ fn main() {
     let mut out = io::buffer();
     let planned = plan(&input[..n], &mut out);
     if planned.refusal != 0 {
-        let end = listing::refused(planned.refusal, &mut out);
+        let end = plan_listing::refused(planned.refusal, &mut out);
         io::write_all(STDERR_FILENO, &out[..end]);
         return;
     }

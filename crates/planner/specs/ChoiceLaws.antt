@@ -12,20 +12,19 @@ use Rattle.cursor.specs.Choice.{pick, both}
 use Rattle.cursor.specs.ParsedLaws.{both-true}
 use Rattle.cursor.specs.Padded.{padded}
 use Rattle.cycle.specs.declared.Cycle.{Cycle}
-use Rattle.search.specs.Search.{Found, none, at}
-use Rattle.search.specs.Walk.{Walk}
-use Rattle.search.specs.Counting.{planWalk}
+use Rattle.search.specs.Search.{Found, none, at, Walk}
+use Rattle.search.specs.Placing.{planWalk}
 use Rattle.model.specs.Plan.{Instance, costs}
 use Rattle.model.specs.Answers.{instanceOf}
 use Rattle.model.specs.Within.{InLimits}
-use Rattle.model.specs.Plausible.{plausibleBy, plausible}
+use Rattle.model.specs.Plausible.{phaseRule, plausibleBy, plausible}
 use Rattle.model.specs.Chosen.{chosen, noPlan, noPlausible, isTriedBy, isTried, problemAt}
-use Rattle.model.specs.ChosenTries.{ChoiceWalk, goOnLengths, walkLengths, chooseWalk, fullTries, walkWith}
-use Rattle.model.specs.ChosenTries.{lengths-end, lengths-skipped, lengths-tried, lengths-found, lengths-none, lengths-more}
+use Rattle.model.specs.Chosen.{ChoiceWalk, goOnLengths, walkLengthsBy, chooseWalk, chooseWalkBy, fullTries}
+use Rattle.model.specs.ChosenTries.{walkWith, lengths-end, lengths-skipped, lengths-tried, lengths-found, lengths-none, lengths-more}
 use Rattle.problem.specs.Answers.{linksAnswer}
 use Rattle.problem.specs.declared.JobLinks.{JobLinks}
-use Rattle.place.specs.Arrays.{placedAnswer, placedWithin}
-use Rattle.place.specs.declared.Placed.{Placed}
+use Rattle.searcher.specs.Arrays.{placedAnswer, placedWithin}
+use Rattle.searcher.specs.declared.Placed.{Placed}
 use Rattle.planner.specs.Choices.{Searchable, noneChosen, choiceAnswer, choiceWithin}
 use Rattle.planner.specs.declared.choose.ChosenPlan.{ChosenPlan}
 
@@ -44,7 +43,6 @@ tried-plausible x rows e = both-true (eqb (x .h % rows) 0) (plausible x (x .h / 
 
 pub searchable : (c : Cycle) (cost : List ℕ) (links : JobLinks) (rows : ℕ) → InLimits c
     → cost ≡ padded 128 0 (costs (instanceOf c)) → links ≡ linksAnswer (instanceOf c) → isTried (instanceOf c) rows ≡ true → Searchable c cost links (c .h / rows)
-unfolding instanceOf
 searchable c cost links rows p e l t = record { planned = p; plausible-is = tried-plausible (instanceOf c) rows t; cost-is = e; links-are = l }
 
 -- what an answer within an allowance says of the search
@@ -80,16 +78,16 @@ pub record Choosing (x : Instance) (allowed left rows : ℕ) (some : Bool) : Typ
   pub begun : 1 ≤ rows
   pub most : rows ≤ 257
   pub within : left ≤ allowed
-  pub rest : chooseWalk x .choice ≡ walkLengths x (257 - rows) rows some .choice
-  pub spent : left + fullTries x ≡ allowed + walkLengths x (257 - rows) rows some .tries
+  pub rest : chooseWalk x .choice ≡ walkLengthsBy phaseRule x (257 - rows) rows some .choice
+  pub spent : left + fullTries x ≡ allowed + walkLengthsBy phaseRule x (257 - rows) rows some .tries
 
 pub choosing-start : (x : Instance) (allowed : ℕ) → Choosing x allowed allowed 1 false
-unfolding chooseWalk
+unfolding chooseWalkBy
 choosing-start x allowed = record { begun = omega arith; most = omega arith; within = omega arith; rest = refl; spent = refl }
 
 module _ {x : Instance} {allowed left rows : ℕ} {some : Bool} (v : Choosing x allowed left rows some) where
   abbrev here : ChoiceWalk
-  here = walkLengths x (257 - rows) rows some
+  here = walkLengthsBy phaseRule x (257 - rows) rows some
 
   module _ (few : rows ≤ 256) where
     count : 257 - rows ≡ suc (257 - (rows + 1))
@@ -98,7 +96,7 @@ module _ {x : Instance} {allowed left rows : ℕ} {some : Bool} (v : Choosing x 
     -- a length that is not tried
     pub skipped : isTried x rows ≡ false → Choosing x allowed left (rows + 1) some
     skipped e =
-        let d : here ≡ walkLengths x (257 - (rows + 1)) (rows + 1) some = rw count (lengths-skipped x (257 - (rows + 1)) rows some e) in
+        let d : here ≡ walkLengthsBy phaseRule x (257 - (rows + 1)) (rows + 1) some = rw count (lengths-skipped phaseRule x (257 - (rows + 1)) rows some e) in
         record {
           begun = omega arith;
           most = omega arith;
@@ -112,10 +110,10 @@ module _ {x : Instance} {allowed left rows : ℕ} {some : Bool} (v : Choosing x 
       w = walkWith x rows
 
       abbrev after : ChoiceWalk
-      after = walkLengths x (257 - (rows + 1)) (rows + 1) true
+      after = walkLengthsBy phaseRule x (257 - (rows + 1)) (rows + 1) true
 
       turn : here ≡ goOnLengths (x .h / rows) (w .found) (w .tries) after
-      turn = rw count (lengths-tried x (257 - (rows + 1)) rows some tried)
+      turn = rw count (lengths-tried phaseRule x (257 - (rows + 1)) rows some tried)
 
       -- what is left after it
       pub left-less : (r .answer ≡ 2 → ⊥) → r .left ≤ allowed
@@ -160,7 +158,7 @@ module _ {x : Instance} {allowed left rows : ℕ} {some : Bool} (v : Choosing x 
   -- all lengths are passed
   module _ (all : 256 < rows) where
     passed : here ≡ record { choice = pick some noPlan noPlausible; tries = 0 }
-    passed = let none-left : 257 - rows ≡ 0 = omega arith in rw none-left (lengths-end x rows some)
+    passed = let none-left : 257 - rows ≡ 0 = omega arith in rw none-left (lengths-end phaseRule x rows some)
 
     tries-are : allowed - left ≡ fullTries x
     tries-are = let t : here .tries ≡ 0 = ap (λ (y : ChoiceWalk). y .tries) passed in omega (arith, v .spent, v .within)

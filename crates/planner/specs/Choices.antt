@@ -12,8 +12,7 @@ use Rattle.model.specs.Plan.{costs}
 use Rattle.model.specs.Answers.{instanceOf}
 use Rattle.model.specs.Within.{InLimits}
 use Rattle.model.specs.Plausible.{plausible}
-use Rattle.model.specs.Chosen.{Choice, chosen, noPlan, noPlausible}
-use Rattle.model.specs.ChosenTries.{ChoiceWalk}
+use Rattle.model.specs.Chosen.{Choice, chosen, noPlan, noPlausible, ChoiceWalk}
 use Rattle.problem.specs.Answers.{linksAnswer}
 use Rattle.problem.specs.declared.JobLinks.{JobLinks}
 use Rattle.planner.specs.declared.choose.ChosenPlan.{ChosenPlan}

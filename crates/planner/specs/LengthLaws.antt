@@ -17,8 +17,8 @@ use Rattle.model.specs.Chosen.{firstFrameOf, endFrameOf, problemAt}
 use Rattle.model.specs.ProblemLaws.{problem-proper}
 use Rattle.problem.specs.Answers.{linksAnswer}
 use Rattle.problem.specs.declared.JobLinks.{JobLinks}
-use Rattle.place.specs.Arrays.{problemOf, Placeable}
-use Rattle.place.specs.declared.Given.{Given}
+use Rattle.searcher.specs.Arrays.{problemOf, Placeable}
+use Rattle.searcher.specs.declared.Given.{Given}
 use Rattle.planner.specs.Choices.{Searchable}
 
 -- a list of n numbers in an array
@@ -76,7 +76,7 @@ module _ {c : Cycle} {cost : List ℕ} {links : JobLinks} {f : ℕ} (s : Searcha
 
     -- what is handed over is the problem of the length
     pub problem-is : problemOf given ≡ problemAt x f
-    unfolding problemAt instanceOf
+    unfolding problemAt
     problem-is =
         let a = ap (take n) (s .cost-is) ∙ exact 128 n (costs x) cost-size in
         let b = ap (take n) first-is ∙ exact 128 n firsts firsts-size in
@@ -86,7 +86,6 @@ module _ {c : Cycle} {cost : List ℕ} {links : JobLinks} {f : ℕ} (s : Searcha
         λ i. record { cost = a i; first = b i; end = d i; counts = e i; links = g i; rows = c .h / f; f = f }
 
     pub placeable : f ≤ 65535 → Placeable given
-    unfolding instanceOf
     placeable short = record {
       few = few;
       costs = omega (arith, ap length (s .cost-is), padded-length 128 0 (costs x) (omega (arith, cost-size, few)), few);

@@ -4,22 +4,15 @@
 -- another answer. Nothing is said of the tries: by 01's rule more lengths may be tried, so an allowance may end that search earlier.
 use Prim.Native.Nat.{ℕ}
 use mathlib.Core.Path.{_≡_, refl, sym, ap, _∙_}
-use mathlib.Core.Bool.{Bool}
 use mathlib.Core.Logic.{_⊎_, inl, inr, ⊎-elim}
 use mathlib.Core.List.{List}
-use Rattle.request.specs.declared.Task.{Task}
-use Rattle.cycle.specs.Cycle.{cycleOf}
 use Rattle.model.specs.Plan.{Instance}
 use Rattle.model.specs.Plausible.{commonRule, phaseRule}
 use Rattle.model.specs.Within.{Within, within-good, within-or-not}
 use Rattle.model.specs.Chosen.{noPlan, noPlausible, chooseBy, choose}
 use Rattle.model.specs.ChosenLaws.{choice-moved}
-use Rattle.planned_table.specs.Outcome.{Outcome, refusal}
-use Rattle.planner.specs.Outcome.{outcome, inCycleBy, byChoice}
-
--- what the full search comes to by a rule on the windows
-unfoldable pub outcomeBy : (ℕ → Task → Bool) → List ℕ → Outcome
-outcomeBy rule request = inCycleBy rule (cycleOf request)
+use Rattle.plan_writer.specs.Outcome.{refusal}
+use Rattle.planner.specs.Outcome.{outcome, outcomeBy, inCycleBy, byChoice}
 
 module _ (request : List ℕ) where
   -- by the rule of the phase it is the planner's outcome

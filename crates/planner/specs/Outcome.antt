@@ -10,10 +10,9 @@ use Rattle.cursor.specs.declared.Written.{Written}
 use Rattle.model.specs.Plan.{Instance}
 use Rattle.model.specs.Answers.{instance}
 use Rattle.model.specs.Plausible.{phaseRule}
-use Rattle.model.specs.Chosen.{Choice, chosen, noPlan, noPlausible, chooseBy}
-use Rattle.model.specs.ChosenTries.{fullTries}
+use Rattle.model.specs.Chosen.{Choice, chosen, noPlan, noPlausible, chooseBy, fullTries}
 use Rattle.model.specs.Described.{planTable}
-use Rattle.planned_table.specs.Outcome.{Outcome, handed, refusal, outcomeAnswer}
+use Rattle.plan_writer.specs.Outcome.{Outcome, handed, refusal, outcomeAnswer}
 use Rattle.planner.specs.declared.Searched.{Searched}
 
 -- 9: no plausible f; 10: some plausible f, no plan
@@ -33,6 +32,10 @@ inCycle = inCycleBy phaseRule
 -- what the full search comes to
 unfoldable pub outcome : List ℕ → Outcome
 outcome request = inCycle (cycleOf request)
+
+-- what the full search comes to by a rule on the windows
+unfoldable pub outcomeBy : (ℕ → Task → Bool) → List ℕ → Outcome
+outcomeBy rule request = inCycleBy rule (cycleOf request)
 
 -- "the full search's tries"; "The count is 0 with 1 to 9 and 17": without a cycle nothing is searched
 abbrev pub triesIn : Cycle → ℕ

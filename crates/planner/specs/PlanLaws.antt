@@ -13,12 +13,13 @@ use Rattle.cursor.specs.declared.Written.{Written}
 use Rattle.model.specs.Plan.{Instance}
 use Rattle.model.specs.Answers.{instanceOf}
 use Rattle.model.specs.Within.{Taken}
-use Rattle.model.specs.Chosen.{Choice, chosen, noPlan, noPlausible, choose, RightBy, RightChoice}
+use Rattle.model.specs.Chosen.{Choice, chosen, noPlan, noPlausible, choose, RightBy, RightChoice, chooseWalk, fullTries}
 use Rattle.model.specs.ChosenLaws.{choose-right}
-use Rattle.model.specs.ChosenTries.{chooseWalk, fullTries, walk-chooses}
-use Rattle.planned_table.specs.Written.{planWritten, planBuffer}
-use Rattle.planned_table.specs.WriteLaws.{plan-written}
-use Rattle.planned_table.specs.Outcome.{refusal, outcomeAnswer, outcomeBuffer}
+use Rattle.model.specs.Described.{planTable}
+use Rattle.plan_writer.specs.Written.{planWritten, planBuffer}
+use Rattle.plan_writer.specs.WriteLaws.{plan-written}
+use Rattle.plan_writer.specs.Outcome.{refusal, outcomeAnswer, outcomeBuffer}
+use Rattle.plan_writer.specs.OutcomeLaws.{refused-answer, refused-buffer, table-answer, table-buffer}
 use Rattle.planner.specs.Outcome.{byChoice, inCycle, outcome, triesIn, requestTries, outcomeWithin, searchedAnswer}
 use Rattle.planner.specs.Choices.{noneChosen, choiceAnswer, choiceWithin}
 use Rattle.planner.specs.declared.Searched.{Searched}
@@ -41,8 +42,9 @@ Hands a s out r out′ = (r ≡ searchedAnswer a s out) × (out′ ≡ outcomeBu
 -- a refusal's answer, from its parts
 refusal-handed : (a : ℕ) (s : List ℕ) (number tries : ℕ) → outcomeWithin a s ≡ refusal number → tries ≡ min a (requestTries s)
     → (r : Searched) → (r .refusal ≡ number) × (r .length ≡ 0) × (r .tries ≡ tries) → (out : List ℕ) → Hands a s out r out
-unfolding outcomeAnswer outcomeBuffer searchedAnswer
-refusal-handed a s number tries e t r parts out = rw e (λ i. record { refusal = parts .0 i; length = parts .1 i; tries = (parts .2 ∙ t) i }, refl)
+unfolding searchedAnswer
+refusal-handed a s number tries e t r parts out =
+    rw (e, refused-answer number out, refused-buffer number out) (λ i. record { refusal = parts .0 i; length = parts .1 i; tries = (parts .2 ∙ t) i }, refl)
 
 -- the request is refused
 pub not-within : (a : ℕ) (s : List ℕ) (number : ℕ) → cycleOf s ≡ noCycle number
@@ -69,7 +71,7 @@ module _ (s : List ℕ) (d : c.Cycle) (t : Taken s d) where
     -- the choice was searched to its end
     reached-is : fullTries x ≤ a → p ≡ choiceAnswer (choose x) (fullTries x)
     unfolding choiceWithin
-    reached-is h = p-is ∙ rw (le-ltb a (fullTries x) h, walk-chooses x)
+    reached-is h = p-is ∙ rw (le-ltb a (fullTries x) h)
 
     -- 9, 10 or 23
     pub none-chosen : (p .refusal ≡ 0 → ⊥) → (r : Searched) → (r .refusal ≡ p .refusal) × (r .length ≡ 0) × (r .tries ≡ p .tries)
@@ -99,14 +101,18 @@ module _ (s : List ℕ) (d : c.Cycle) (t : Taken s d) where
     -- the chosen plan is written
     pub plan-chosen : p .refusal ≡ 0 → (out : List ℕ) {w : Written} {out′ : List ℕ} → w ≡ planWritten x (p .f) (p .frames) out
         → out′ ≡ planBuffer x (p .f) (p .frames) out → Hands a s out (record { refusal = w .refusal; length = w .length; tries = p .tries }) out′
-    unfolding choiceAnswer choiceWithin searchedAnswer outcomeAnswer outcomeBuffer RightBy
+    unfolding choiceAnswer choiceWithin searchedAnswer RightBy
     plan-chosen z out {w} {out′} w-is out-is = go (ltb a (fullTries x)) refl
       where
         by-choice : (o : Choice) → p ≡ choiceAnswer o (fullTries x) → RightChoice x o
             → (w ≡ outcomeAnswer (byChoice x o) out) × (out′ ≡ outcomeBuffer (byChoice x o) out) × (p .tries ≡ fullTries x)
         by-choice (chosen f frames) q r =
             let written = plan-written x (t .limits .good) f frames out (r .is-plan .all) in
-            (w-is ∙ rw q (written .0), out-is ∙ rw q (written .1), ap (λ (y : ChosenPlan). y .tries) q)
+            let table = planTable x f frames in (
+              w-is ∙ rw q (written .0) ∙ sym (table-answer table out),
+              out-is ∙ rw q (written .1) ∙ sym (table-buffer table out),
+              ap (λ (y : ChosenPlan). y .tries) q,
+            )
         by-choice noPlan q r = absurd (omega (arith, ap (λ (y : ChosenPlan). y .refusal) q))
         by-choice noPlausible q r = absurd (omega (arith, ap (λ (y : ChosenPlan). y .refusal) q))
 

@@ -3,19 +3,17 @@
 use Prim.Native.Nat.{ℕ, _≤_, _<_}
 use mathlib.Core.Path.{_≡_, refl, sym, ap, _∙_}
 use mathlib.Core.Bool.{Bool, true, false}
-use mathlib.Core.List.{List, _++_}
+use mathlib.Core.List.{List}
 use native.Mathlib.Omega.{arith}
-use lib.ListN.{length, take, drop}
+use lib.ListN.{length, take}
 use lib.Seq.{take-append-seam}
 use lib.Dec.{ltb}
-use borrow.Author.Tests.{le-ltb, ltb-false}
 use Rattle.cursor.specs.Choice.{pick}
 use Rattle.cursor.specs.ParsedLaws.{never}
 use Rattle.cycle.specs.Cycle.{Cycle, cycle, noCycle, cycleOf}
 use Rattle.cycle.specs.LimitLaws.{cycle-within, no-cycle-number, request-number-pos, request-number-few}
 use Rattle.table.specs.Table.{Table, encode}
 use Rattle.table.specs.WellFormed.{WellFormed}
-use Rattle.cursor.specs.Written.{written, buffer}
 use Rattle.table.specs.LengthLaws.{entryCount}
 use Rattle.cursor.specs.declared.Written.{Written}
 use Rattle.model.specs.Plan.{Instance}
@@ -25,7 +23,8 @@ use Rattle.model.specs.Chosen.{Choice, chosen, noPlan, noPlausible, choose, Rig
 use Rattle.model.specs.ChosenLaws.{choose-right}
 use Rattle.model.specs.PlanTable.{plan-entries, plan-table-describes, plan-table-length}
 use Rattle.model.specs.Within.{Within}
-use Rattle.planned_table.specs.Outcome.{Outcome, handed, refusal, outcomeAnswer, outcomeBuffer}
+use Rattle.plan_writer.specs.Outcome.{Outcome, handed, refusal, outcomeAnswer, outcomeBuffer}
+use Rattle.plan_writer.specs.OutcomeLaws.{refused-answer, handed-answer, handed-buffer, answer-within}
 use Rattle.planner.specs.Outcome.{byChoice, inCycle, outcome, requestTries, outcomeWithin, searchedAnswer}
 use Rattle.planner.specs.declared.Searched.{Searched}
 
@@ -79,16 +78,6 @@ handed-within allowance request t e = go (ltb allowance (requestTries request)) 
     go true q = absurd (never (cc))
     go false q = q
 
--- a table that fits is written, with the old bytes behind it
-module _ (t : Table) (out : List ℕ) (fits : length (encode t) ≤ length out) where
-  pub handed-answer : outcomeAnswer (handed t) out ≡ record { refusal = 0; length = length (encode t) }
-  unfolding outcomeAnswer written
-  handed-answer = rw (le-ltb (length out) (length (encode t)) fits)
-
-  pub handed-buffer : outcomeBuffer (handed t) out ≡ encode t ++ drop (length (encode t)) out
-  unfolding outcomeBuffer buffer
-  handed-buffer = rw (le-ltb (length out) (length (encode t)) fits)
-
 -- the table that was handed out stands in the first bytes of the buffer
 pub record ReadBack (o : Outcome) (size : ℕ) (bytes : List ℕ) : Type 0 where
   pub t : Table
@@ -99,7 +88,6 @@ pub record ReadBack (o : Outcome) (size : ℕ) (bytes : List ℕ) : Type 0 where
 
 module _ (out : List ℕ) (room : 519 ≤ length out) (w : Written) where
   pub read-back : (o : Outcome) → GoodOutcome o → w ≡ outcomeAnswer o out → w .refusal ≡ 0 → ReadBack o (w .length) (outcomeBuffer o out)
-  unfolding outcomeAnswer
   read-back (handed t) good e z =
       let fits : length (encode t) ≤ length out = omega (arith, good .short) in
       let size : w .length ≡ length (encode t) = ap (λ (x : Written). x .length) (e ∙ handed-answer t out fits) in
@@ -110,23 +98,11 @@ module _ (out : List ℕ) (room : 519 ≤ length out) (w : Written) where
         few = omega (arith, good .short);
         front = rw (size, handed-buffer t out fits) (take-append-seam (encode t) _);
       }
-  read-back (refusal number) good e z = absurd (omega (arith, ap (λ (x : Written). x .refusal) e, good .0))
+  read-back (refusal number) good e z = absurd (omega (arith, ap (λ (x : Written). x .refusal) (e ∙ refused-answer number out), good .0))
 
   pub not-handed : (o : Outcome) → GoodOutcome o → w ≡ outcomeAnswer o out → (w .refusal ≡ 0 → ⊥) → o ≡ refusal (w .refusal)
-  unfolding outcomeAnswer
   not-handed (handed t) good e ne = absurd (ne (ap (λ (x : Written). x .refusal) (e ∙ handed-answer t out (omega (arith, good .short)))))
-  not-handed (refusal number) good e ne = ap refusal (sym (ap (λ (x : Written). x .refusal) e))
-
--- the answer's length is within the buffer
-pub answer-within : (o : Outcome) (out : List ℕ) → outcomeAnswer o out .length ≤ length out
-unfolding outcomeAnswer written
-answer-within (refusal number) out = omega arith
-answer-within (handed t) out = go (ltb (length out) (length (encode t))) refl
-  where
-    go : (b : Bool) → ltb (length out) (length (encode t)) ≡ b
-        → pick {A = Written} b (record { refusal = 11; length = 0 }) (record { refusal = 0; length = length (encode t) }) .length ≤ length out
-    go true e = omega arith
-    go false e = ltb-false (length out) (length (encode t)) e
+  not-handed (refusal number) good e ne = ap refusal (sym (ap (λ (x : Written). x .refusal) (e ∙ refused-answer number out)))
 
 -- what is handed out belongs to a request within the limits
 pub handed-cycle : (request : List ℕ) (t : Table) → outcome request ≡ handed t → (x : Instance) × Within request x

@@ -1,17 +1,16 @@
 // The choice of the frame length: plausible lengths are tried from the largest down, that is by 1, 2, .. 256 rows. One allowance of tries goes
 // through all of them.
 use cycle::Cycle;
-use place::Given;
-use place::Placed;
 use problem::JobLinks;
+use searcher::Given;
+use searcher::Placed;
 ghost use mathlib.Core.Path.{_≡_};
 ghost use mathlib.Core.List.{[]};
 ghost use Rattle.model.specs.Answers.{instanceOf};
 ghost use Rattle.model.specs.Within.{InLimits};
-ghost use Rattle.model.specs.Chosen.{problemAt, isTried};
-ghost use Rattle.model.specs.ChosenTries.{chooseWalk};
-ghost use Rattle.search.specs.Counting.{planWalk};
-ghost use Rattle.place.specs.Arrays.{Placeable, problemOf, placedWithin};
+ghost use Rattle.model.specs.Chosen.{problemAt, isTried, chooseWalk};
+ghost use Rattle.search.specs.Placing.{planWalk};
+ghost use Rattle.searcher.specs.Arrays.{Placeable, problemOf, placedWithin};
 ghost use Rattle.planner.specs.Choices.{Searchable, choiceWithin, noneChosen};
 
 // The frame length and the frame of each job of the chosen plan; or 9, 10 or 23. And the tries that were made.
@@ -49,7 +48,7 @@ fn plan_with(cycle: Cycle, cost: [u32; 128], links: JobLinks, f: u16, allowed: u
     ensures { λ r. ⌜ r ≡ placedWithin allowed (planWalk (problemAt (instanceOf cycle) f) []) ⌝ }
 {
     let given = given_at(cycle, cost, links, f);
-    place::place_all(given, allowed)
+    searcher::place_all(given, allowed)
 }
 
 // Whether H/rows is a plausible length.

@@ -2,7 +2,7 @@
 pub mod choose;
 
 ghost use mathlib.Core.Path.{_≡_};
-ghost use Rattle.planned_table.specs.Outcome.{outcomeBuffer};
+ghost use Rattle.plan_writer.specs.Outcome.{outcomeBuffer};
 ghost use Rattle.planner.specs.Outcome.{outcomeWithin, searchedAnswer};
 
 // What a program that plans a request from its standard input allows.
@@ -41,7 +41,7 @@ pub fn plan(request: &[u8], allowance: u64, out: &mut [u8]) -> Searched
         return refused(chosen.refusal, chosen.tries);
     }
     let frames = chosen.frames;
-    let written = planned_table::write(cycle, chosen.f, frames, out);
+    let written = plan_writer::write(cycle, chosen.f, frames, out);
     Searched {
         refusal: written.refusal,
         length: written.length,

@@ -233,7 +233,7 @@ module _ (jobs : List Job) (n : ℕ) (pairs : List Pair) (m : ℕ) where
 pub all-linked : (cycle : Cycle) (n m : ℕ) → n ≡ min (cycle .count) 128 → m ≡ min (cycle .m) 16 → (y : ℕ) (counts places : List ℕ)
     → LinksSoFar (linking (cycle .jobs) n (cycle .pairs) m) y counts places → y ≤ n → n ≤ y
     → _≡_ {A = JobLinks} (record { counts = counts; places = places }) (linksAnswer (instanceOf cycle))
-unfolding instanceOf linksAnswer linkCounts linkPlaces allLinks
+unfolding linksAnswer linkCounts linkPlaces allLinks
 all-linked cycle n m jobs pairs y counts places s l g =
     let x = instanceOf cycle in
     let e : y ≡ length (x .jobs) = omega (arith, firsts-length noJob (cycle .jobs) (min (cycle .count) 128)) in

@@ -10,10 +10,11 @@ use lib.ListN.{length, getD, set, replicate, take, length-set, length-replicate}
 use lib.Seq.{getD-set-same, getD-set-other, getD-take}
 use lib.Dec.{ltb, eqb}
 use borrow.Author.Tests.{ltb-true, lt-ltb, eq-eqb, ne-eqb, eqb-true, eqb-false}
-use Rattle.place.specs.Arrays.{partIn, rowsIn, jobsIn, problemIn}
+use Rattle.searcher.specs.Arrays.{partIn, rowsIn, jobsIn, problemIn}
 use Rattle.exact.specs.Sweep.{sum}
 use Rattle.exact.specs.Intervals.{sum-le, sum-add, sum-snoc}
-use Rattle.exact.specs.Arcs.{stepOf, roomOf, lastIn, arcNeed, none-arc}
+use Rattle.exact.specs.Arcs.{stepOf, roomOf, lastIn, arcNeed}
+use Rattle.exact.specs.ArcsLaws.{none-arc}
 use Rattle.exact.specs.None.{None}
 use Rattle.prune.specs.Arrays.{Packed, domains, Filled}
 use Rattle.prune.specs.Arcs.{stepBy, lastBy, weightBy, Light, Needed, Over, SomeOver}

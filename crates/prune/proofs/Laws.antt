@@ -13,8 +13,8 @@ use lib.Dec.{ltb, eqb}
 use borrow.Author.Tests.{le-leb, lt-leb, ltb-true, ltb-false, lt-ltb, le-ltb, eq-eqb, ne-eqb, eqb-true, eqb-false}
 use Rattle.search.specs.Placing.{Problem, linksAt, linksOf}
 use Rattle.search.specs.PlacingLaws.{part, link-in}
-use Rattle.place.specs.Arrays.{partIn, countsIn, rowsIn, jobsIn, problemIn, LinksBack}
-use Rattle.place.proofs.Laws as place-laws
+use Rattle.searcher.specs.Arrays.{partIn, countsIn, rowsIn, jobsIn, problemIn, LinksBack}
+use Rattle.searcher.proofs.Laws as place-laws
 use Rattle.exact.specs.Domains.{Domains}
 use Rattle.exact.specs.Sweep.{From}
 use Rattle.exact.specs.Sided.{sideIn, fromSide, Stated}

@@ -7,7 +7,7 @@ use Prim.Native.Nat.{ℕ, _-_, _≤_, _<_, min, max}
 use lib.ListN.{length, getD, set}
 use lib.Dec.{ltb}
 use Rattle.search.specs.Placing.{Problem, linksAt, Proper}
-use Rattle.place.specs.Arrays.{rowsIn, jobsIn, problemIn}
+use Rattle.searcher.specs.Arrays.{rowsIn, jobsIn, problemIn}
 use Rattle.exact.specs.Domains.{Domains}
 use Rattle.exact.specs.Sided.{sideIn, fromSide}
 use Rattle.exact.specs.None.{None}

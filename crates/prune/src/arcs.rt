@@ -3,7 +3,7 @@
 ghost use mathlib.Core.Path.{_≡_};
 ghost use mathlib.Core.Bool.{true};
 ghost use Prim.Native.Nat.{_-_, _≤_, _<_};
-ghost use Rattle.place.specs.Arrays.{partIn, problemIn};
+ghost use Rattle.searcher.specs.Arrays.{partIn, problemIn};
 ghost use Rattle.exact.specs.None.{None};
 ghost use Rattle.exact.specs.Arcs.{stepOf, roomOf, lastIn};
 ghost use Rattle.prune.specs.Arrays.{Packed, domains, Filled};
@@ -43,7 +43,7 @@ fn weights_of(given: &[[u16; 128]; 5], n: usize, f: u16, k: u16) -> [u32; 128]
     let mut out = [0u32; 128];
     let mut i = 0;
     while i < n {
-        let c = place::entry(given, 0, i);
+        let c = searcher::entry(given, 0, i);
         out[i] = weight(c, f, k);
         i += 1;
     }

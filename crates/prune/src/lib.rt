@@ -8,7 +8,7 @@ mod tighten;
 ghost use mathlib.Core.Path.{_≡_};
 ghost use mathlib.Core.Bool.{true, false};
 ghost use Prim.Native.Nat.{_+_};
-ghost use Rattle.place.specs.Arrays.{countsIn, jobsIn, problemIn, LinksBack};
+ghost use Rattle.searcher.specs.Arrays.{countsIn, jobsIn, problemIn, LinksBack};
 ghost use Rattle.exact.specs.None.{None};
 ghost use Rattle.prune.specs.Arrays.{Packed, domains, markedBy, Marked};
 

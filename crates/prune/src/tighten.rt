@@ -2,7 +2,7 @@
 ghost use mathlib.Core.Path.{_≡_};
 ghost use mathlib.Core.Bool.{true};
 ghost use Prim.Native.Nat.{_≤_, _<_};
-ghost use Rattle.place.specs.Arrays.{jobsIn, problemIn};
+ghost use Rattle.searcher.specs.Arrays.{jobsIn, problemIn};
 ghost use Rattle.prune.specs.Arrays.{Packed, domains, raised, lowered, Tied, Linked, Tightened, Empty};
 
 fn either(a: bool, b: bool) -> bool {

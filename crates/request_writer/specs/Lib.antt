@@ -1,4 +1,6 @@
+-- To be believed:
 pub mod Written
-pub mod WriteLaws
 pub mod FileLaws
+-- Laws:
+pub mod WriteLaws
 pub mod Places

@@ -8,6 +8,7 @@ use native.Mathlib.Omega.{arith}
 use lib.ListN.{length, getD, take, drop, set, length-append, length-drop, drop-of-length-le}
 use lib.Seq.{drop-cons, drop-drop, drop-set-lt, set-split, sets, sets-eq}
 use Rattle.cursor.specs.Fields.{wordBytes}
+use Rattle.cursor.specs.WordBytesLaws.{word-parts, four-stored}
 use Rattle.cursor.specs.Padded.{firsts, firsts-length, getD-firsts}
 use Rattle.cursor.specs.Pieces.{Placed, PartWay, part-start, part-more, part-end, two-stored}
 use Rattle.request.specs.Request.{noTask, noPair}
@@ -73,8 +74,8 @@ module _ {A : Type 0} (write : A → List ℕ) (width : ℕ) (wide : (x : A) →
         record { whole = done .whole ∙ rw kept; ends = done .ends }
 
 pub task-wide : (x : Task) → length (taskBytes x) ≡ 8
-unfolding taskBytes wordBytes
-task-wide x = refl
+unfolding taskBytes
+task-wide x = rw (word-parts (x .c), word-parts (x .t), word-parts (x .d), word-parts (x .p))
 
 pub pair-wide : (q : Pair) → length (pairBytes q) ≡ 2
 unfolding pairBytes
@@ -87,8 +88,8 @@ pair-stored out at q h = two-stored out at (q .a) (q .b) h
 
 pub task-stored : (out : List ℕ) (x : Task) → 8 ≤ length out
     → sets (sets (sets (sets out 0 (wordBytes (x .c))) 2 (wordBytes (x .t))) 4 (wordBytes (x .d))) 6 (wordBytes (x .p)) ≡ taskBytes x ++ drop 8 out
-unfolding taskBytes wordBytes
-task-stored out x h = sets-eq (taskBytes x) out 0 h
+unfolding taskBytes
+task-stored out x h = four-stored out (x .c) (x .t) (x .d) (x .p) h
 
 -- The third section.
 

@@ -1,4 +1,7 @@
+-- To be believed:
 pub mod Rewritten
-pub mod RewriteLaws
-pub mod SameBytes
 pub mod ReadBack
+-- Theorems:
+pub mod SameBytes
+-- Laws:
+pub mod RewriteLaws

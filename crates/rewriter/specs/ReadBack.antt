@@ -13,9 +13,10 @@ use Rattle.model.specs.Plan.{Instance}
 use Rattle.model.specs.Within.{Within}
 use Rattle.model.specs.Chosen.{IsChosen}
 use Rattle.model.specs.Described.{Accepted}
-use Rattle.planned_table.specs.Outcome.{outcomeAnswer, outcomeBuffer}
+use Rattle.plan_writer.specs.Outcome.{outcomeAnswer, outcomeBuffer}
 use Rattle.planner.specs.Outcome.{searchedAnswer}
-use Rattle.planner.specs.HandedBytes.{handedBytes, handed-chosen}
+use Rattle.planner.specs.HandedBytes.{handedBytes}
+use Rattle.planner.specs.HandedBytesLaws.{handed-chosen}
 use Rattle.checker.specs.Checked as checker
 use Rattle.checker.specs.Accepts.{accepts-described}
 use Rattle.checker.specs.Answers.{readAnswer}

@@ -10,9 +10,10 @@ use Rattle.model.specs.Plan.{Instance}
 use Rattle.model.specs.Answers.{instanceOf}
 use Rattle.model.specs.Within.{InLimits}
 use Rattle.model.specs.Described.{planTable}
-use Rattle.planned_table.specs.Written.{planWritten, planBuffer}
-use Rattle.planned_table.specs.WriteLaws.{plan-written}
-use Rattle.planned_table.specs.Outcome.{handed, refusal, outcomeAnswer, outcomeBuffer}
+use Rattle.plan_writer.specs.Written.{planWritten, planBuffer}
+use Rattle.plan_writer.specs.WriteLaws.{plan-written}
+use Rattle.plan_writer.specs.Outcome.{handed, refusal, outcomeAnswer, outcomeBuffer}
+use Rattle.plan_writer.specs.OutcomeLaws.{refused-answer, refused-buffer, table-answer, table-buffer}
 use Rattle.checker.specs.Checked as checker
 use Rattle.checker.specs.Answers.{readAnswer}
 use Rattle.checker.specs.Verdicts.{plan-read, HandedOn, handed-on}
@@ -37,7 +38,6 @@ module _ (request bytes : List ℕ) where
   module _ (r : Read) (e : r ≡ readAnswer (answered (cycleOf request)) (checker.checked (cycleOf request) (decode bytes))) where
     -- the check refuses
     pub not-read : (out : List ℕ) → (r .refusal ≡ 0 → ⊥) → Hands out (record { refusal = r .refusal; length = 0 }) out
-    unfolding outcomeAnswer outcomeBuffer
     not-read out ne = go (checker.checked (cycleOf request) (decode bytes)) refl e
       where
         go : (v : checker.Verdict) → checker.checked (cycleOf request) (decode bytes) ≡ v → r ≡ readAnswer (answered (cycleOf request)) v
@@ -45,7 +45,7 @@ module _ (request bytes : List ℕ) where
         go (checker.accepted f frames) is q = absurd (ne (ap (λ (y : Read). y .refusal) q))
         go (checker.refusal n) is q =
             let number : r .refusal ≡ n = ap (λ (y : Read). y .refusal) q in
-            rw (rewritten-refused n is) (λ i. record { refusal = number i; length = 0 }, refl)
+            rw (rewritten-refused n is, refused-answer n out, refused-buffer n out) (λ i. record { refusal = number i; length = 0 }, refl)
 
     module _ (z : r .refusal ≡ 0) where
       abbrev x : Instance
@@ -64,5 +64,7 @@ module _ (request bytes : List ℕ) where
 
       -- the plan is written
       pub was-read : (out : List ℕ) → Hands out (planWritten x (r .f) (r .frames) out) (planBuffer x (r .f) (r .frames) out)
-      unfolding outcomeAnswer outcomeBuffer
-      was-read out = rw (plan .frames-are, table-is) (plan-written x (plan .taken .limits .good) (r .f) (plan .frames) out (plan .is-plan .all))
+      was-read out =
+          let table = planTable x (r .f) (plan .frames) in
+          rw (plan .frames-are, table-is, table-answer table out, table-buffer table out)
+          (plan-written x (plan .taken .limits .good) (r .f) (plan .frames) out (plan .is-plan .all))

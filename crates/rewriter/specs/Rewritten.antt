@@ -5,7 +5,7 @@ use Rattle.cycle.specs.Cycle.{Cycle, cycle, noCycle, cycleOf}
 use Rattle.table.specs.Table.{decode}
 use Rattle.model.specs.Answers.{instance}
 use Rattle.model.specs.Described.{planTable}
-use Rattle.planned_table.specs.Outcome.{Outcome, handed, refusal}
+use Rattle.plan_writer.specs.Outcome.{Outcome, handed, refusal}
 use Rattle.checker.specs.Checked as checker
 
 -- the table of the plan that was read, or the number of the check's refusal

@@ -4,17 +4,16 @@ use Prim.Native.Nat.{ℕ, _≤_}
 use mathlib.Core.Path.{_≡_, refl, sym, ap, ap₂, _∙_}
 use mathlib.Core.List.{List, _++_}
 use lib.ListN.{length, drop}
-use borrow.Author.Tests.{le-ltb}
 use Rattle.cycle.specs.Cycle.{cycleOf}
 use Rattle.table.specs.Table.{Table, table, decode, encode}
 use Rattle.cursor.specs.Front.{Bytes}
 use Rattle.table.specs.Inverse.{decode-encode, encode-decode}
-use Rattle.cursor.specs.Written.{written, buffer}
 use Rattle.model.specs.Plan.{Instance, IsPlan}
 use Rattle.model.specs.Within.{Within, within-good}
 use Rattle.model.specs.Described.{Describes, Accepted}
 use Rattle.model.specs.PlanTable.{describes-is}
-use Rattle.planned_table.specs.Outcome.{handed, outcomeAnswer, outcomeBuffer}
+use Rattle.plan_writer.specs.Outcome.{handed, outcomeAnswer, outcomeBuffer}
+use Rattle.plan_writer.specs.OutcomeLaws.{handed-answer, handed-buffer}
 use Rattle.checker.specs.Checked as checker
 use Rattle.checker.specs.Accepts.{accepts-described}
 use Rattle.rewriter.specs.Rewritten.{planRead, rewritten}
@@ -34,8 +33,9 @@ module _ (request : List ℕ) (x : Instance) (within : Within request x) where
     pub own-bytes : encode t ≡ bytes → (out : List ℕ) → length bytes ≤ length out
         → (outcomeAnswer (rewritten request bytes) out ≡ record { refusal = 0; length = length bytes })
         × (outcomeBuffer (rewritten request bytes) out ≡ bytes ++ drop (length bytes) out)
-    unfolding outcomeAnswer outcomeBuffer written buffer
-    own-bytes own out room = rw (rewritten-is, own, le-ltb (length out) (length bytes) room) (refl, refl)
+    own-bytes own out room =
+        let fits : length (encode t) ≤ length out = rw own room in
+        rw (rewritten-is, handed-answer t out fits, handed-buffer t out fits, own) (refl, refl)
 
     -- An accepted table is written again with the same bytes, and the bytes behind it keep their content.
     pub same-bytes : Bytes bytes → (out : List ℕ) → length bytes ≤ length out

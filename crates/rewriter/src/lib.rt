@@ -1,7 +1,7 @@
 // Rewriting: a table is checked against its request, and the plan read from it is written again.
 use cursor::Written;
 ghost use mathlib.Core.Path.{_≡_};
-ghost use Rattle.planned_table.specs.Outcome.{outcomeAnswer, outcomeBuffer};
+ghost use Rattle.plan_writer.specs.Outcome.{outcomeAnswer, outcomeBuffer};
 ghost use Rattle.rewriter.specs.Rewritten.{rewritten};
 
 // The table of the plan that was read, written into `out`; the answer holds its length. A refusal leaves `out` as it was.
@@ -18,5 +18,5 @@ pub fn rewrite(request: &[u8], table: &[u8], out: &mut [u8]) -> Written
     }
     let cycle = read.cycle;
     let frames = read.frames;
-    planned_table::write(cycle, read.f, frames, out)
+    plan_writer::write(cycle, read.f, frames, out)
 }

@@ -1,17 +1,27 @@
--- The search of a problem with its tries counted, and its laws: the frames of a job one after the other. Assumes nothing.
+-- The laws of the search and of its tries: the frames of a job one after the other. Assumes nothing.
 use mathlib.Core.Path.{_≡_, refl, ap, fun-ext}
-use mathlib.Core.Bool.{true, false}
+use mathlib.Core.Bool.{Bool, true, false}
 use mathlib.Core.List.{List, [], _∷_, _++_}
 use Prim.Native.Nat.{ℕ, suc, _+_, _-_, _≤_, _<_}
 use native.Mathlib.Omega.{arith}
 use lib.ListN.{length, getD, length-append}
-use Rattle.search.specs.Search.{none, at}
-use Rattle.search.specs.Walk.{Walk, goOn, oneTry, walkFrames, walk, walk-finds}
-use Rattle.search.specs.Placing.{Problem, fits, windowStart, frameCount, plan}
+use Rattle.search.specs.Search.{Found, none, at, Walk, goOn, oneTry, walkFrames, walk}
+use Rattle.search.specs.Placing.{Problem, fits, windowStart, frameCount, planWalk}
 
--- the first placing that begins with p, and the tries that the search for it takes
-unfoldable pub planWalk : Problem → List ℕ → Walk
-planWalk x p = walk (fits x) (windowStart x) (frameCount x) (length (x .cost) - length p) p
+-- what goes on, and what ends
+pub on-none : {a : Found} (t : ℕ) (b : Walk) → a ≡ none → goOn a t b ≡ record { found = b .found; tries = t + b .tries }
+unfolding goOn
+on-none t b e = rw e
+
+pub on-found : {a : Found} {p : List ℕ} (t : ℕ) (b : Walk) → a ≡ at p → goOn a t b ≡ record { found = at p; tries = t }
+unfolding goOn
+on-found t b e = rw e
+
+-- a test is a try
+pub one-more : (b : Bool) (w : Walk) → 1 ≤ oneTry b w .tries
+unfolding oneTry
+one-more true w = omega arith
+one-more false w = omega arith
 
 -- one try, of the next job in frame k, and those of the jobs after it where it may stand there
 unfoldable pub attemptWalk : Problem → List ℕ → ℕ → Walk
@@ -22,11 +32,6 @@ unfoldable pub fromWalk : Problem → List ℕ → ℕ → Walk
 fromWalk x p k = walkFrames (attemptWalk x p) (getD (x .end) (length p) 0 - k) k
 
 module _ (x : Problem) (p : List ℕ) where
-  -- the placing is the plan
-  pub walk-plan : planWalk x p .found ≡ plan x p
-  unfolding planWalk plan
-  walk-plan = walk-finds (fits x) (windowStart x) (frameCount x) (length (x .cost) - length p) p
-
   pub walk-end : (k : ℕ) → getD (x .end) (length p) 0 ≤ k → fromWalk x p k ≡ record { found = none; tries = 0 }
   unfolding fromWalk walkFrames
   walk-end k h = let z : getD (x .end) (length p) 0 - k ≡ 0 = omega arith in rw z

@@ -15,7 +15,7 @@ use lib.Pow.{shr-shr, shl-shr, shl-exact}
 use borrow.Author.Tests.{ltb-true, ltb-false, eqb-true, eqb-false}
 use Rattle.exact.specs.Sweep.{Rules, skips}
 use Rattle.exact.specs.Words.{word, wordAt}
-use Rattle.place.specs.Arrays.{partIn}
+use Rattle.searcher.specs.Arrays.{partIn}
 use Rattle.sweep.specs.Arrays.{rulesIn, bit, withBit, Begun, Beginning, Unfree}
 
 -- the bits of the half

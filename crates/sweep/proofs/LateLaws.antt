@@ -13,7 +13,7 @@ use borrow.Author.Tests.{le-leb, lt-leb, leb-true, leb-false, eq-eqb, ne-eqb, eq
 use Rattle.exact.specs.Sweep.{Rules, sum, waiting, From}
 use Rattle.exact.specs.Intervals.{sum-snoc, dueAt, waiting-more}
 use Rattle.exact.specs.SweepLaws.{row-late}
-use Rattle.place.specs.Arrays.{partIn}
+use Rattle.searcher.specs.Arrays.{partIn}
 use Rattle.sweep.specs.Arrays.{rulesIn, dueShare, Due, addedAt, takenAt}
 
 -- one place more, or none

@@ -12,7 +12,7 @@ use borrow.Author.Tests.{le-leb, ltb-false, lt-ltb, le-ltb, eq-eqb, ne-eqb, leb-
 use Rattle.search.specs.Placing.{partner, linksAt}
 use Rattle.search.specs.PlacingLaws.{part, link-in}
 use Rattle.search.specs.LoadLaws.{both-true}
-use Rattle.place.specs.Arrays.{partIn, countsIn, LinksBack}
+use Rattle.searcher.specs.Arrays.{partIn, countsIn, LinksBack}
 use Rattle.exact.specs.Sweep.{Rules, more, skips, puts, leaves, inOrder}
 use Rattle.exact.specs.Sided.{all-in, put-by, leave-by}
 use Rattle.sweep.specs.Arrays.{sidesIn, tiedIn, rulesIn}

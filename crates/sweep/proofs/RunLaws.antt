@@ -9,8 +9,9 @@ use native.Mathlib.Nat.{eq-or-lt-of-le}
 use native.Mathlib.Omega.{arith}
 use lib.ListN.{length, getD, set, replicate, length-set, length-replicate}
 use lib.Seq.{set-set, set-getD}
-use Rattle.place.specs.Arrays.{partIn, jobsIn}
-use Rattle.exact.specs.Sweep.{Rules, any-below, more, skips, puts, leaves, From, Rest, Ordered, ordered-first, ordered-put, Fewer, from-fewer}
+use Rattle.searcher.specs.Arrays.{partIn, jobsIn}
+use Rattle.exact.specs.Sweep.{Rules, any-below, more, skips, puts, leaves, From, Rest, Ordered, Fewer}
+use Rattle.exact.specs.WitnessLaws.{ordered-first, ordered-put, from-fewer}
 use Rattle.exact.specs.SweepLaws.{Putting, row-begun, rest-full, rest-next, rest-skip, rest-beyond, rest-stuck, rest-left}
 use Rattle.exact.specs.Words.{word, wordAt}
 use Rattle.sweep.specs.Memo.{Knows, Noted, sound-first, sound-noted}

@@ -9,7 +9,7 @@ use lib.Seq.{getD-set-same, getD-set-other}
 use lib.Dec.{eqb}
 use borrow.Author.Tests.{eq-eqb, ne-eqb, eqb-true, eqb-false}
 use Rattle.exact.specs.Sweep.{Rules}
-use Rattle.place.specs.Arrays.{partIn}
+use Rattle.searcher.specs.Arrays.{partIn}
 use Rattle.sweep.specs.Arrays.{rulesIn, firstsWith, endsWith, Spanning, Spanned}
 
 -- the first row of a job

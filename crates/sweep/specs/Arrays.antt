@@ -7,7 +7,7 @@ use lib.ListN.{length, getD, set}
 use lib.Bits.{bitOr}
 use lib.Dec.{leb, eqb}
 use Rattle.search.specs.Placing.{linksAt}
-use Rattle.place.specs.Arrays.{partIn, countsIn, rowsIn, jobsIn, LinksBack}
+use Rattle.searcher.specs.Arrays.{partIn, countsIn, rowsIn, jobsIn, LinksBack}
 use Rattle.exact.specs.Sweep.{Rules, sum, skips, From, Rest, Ordered}
 use Rattle.exact.specs.Sided.{Jobs, rulesOf}
 use Rattle.exact.specs.SweepLaws.{Putting}

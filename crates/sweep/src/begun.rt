@@ -4,7 +4,7 @@ ghost use mathlib.Core.Path.{_≡_};
 ghost use mathlib.Core.Bool.{true};
 ghost use Prim.Native.Nat.{ℕ, _*_, _≤_, _<_};
 ghost use lib.ListN.{length};
-ghost use Rattle.place.specs.Arrays.{rowsIn, jobsIn};
+ghost use Rattle.searcher.specs.Arrays.{rowsIn, jobsIn};
 ghost use Rattle.exact.specs.Sweep.{skips};
 ghost use Rattle.exact.specs.Words.{wordAt};
 ghost use Rattle.sweep.specs.Arrays.{rulesIn, Sweepable, Begun, Beginning, Unfree, withBit};

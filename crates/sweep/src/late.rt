@@ -4,7 +4,7 @@ ghost use mathlib.Core.Path.{_≡_};
 ghost use mathlib.Core.Bool.{true, false};
 ghost use Prim.Native.Nat.{_+_, _≤_, _<_};
 ghost use lib.ListN.{getD, replicate};
-ghost use Rattle.place.specs.Arrays.{rowsIn, jobsIn};
+ghost use Rattle.searcher.specs.Arrays.{rowsIn, jobsIn};
 ghost use Rattle.exact.specs.Sweep.{From};
 ghost use Rattle.sweep.specs.Arrays.{rulesIn, Sweepable, Due, addedAt, takenAt};
 
@@ -51,7 +51,7 @@ pub(super) fn due_times(
     let mut due = [0u32; 257];
     let mut i = 0;
     while i < n {
-        let c = place::entry(given, 0, i);
+        let c = searcher::entry(given, 0, i);
         add_at(&mut due, swept[1][i], c);
         i += 1;
     }
@@ -95,7 +95,7 @@ pub(super) fn is_late(
 {
     let rows = given[4][0];
     let stop = stop_row(rows, p, space, reach);
-    let f = place::entry(given, 4, 1) as u32;
+    let f = searcher::entry(given, 4, 1) as u32;
     let mut e = p;
     let mut sum: u32 = 0;
     let mut room: u32 = 0;

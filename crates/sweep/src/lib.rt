@@ -17,7 +17,7 @@ ghost use mathlib.Core.Path.{_≡_};
 ghost use mathlib.Core.Bool.{true, false};
 ghost use Prim.Native.Nat.{_≤_, _<_};
 ghost use lib.ListN.{replicate};
-ghost use Rattle.place.specs.Arrays.{countsIn, rowsIn, jobsIn, LinksBack};
+ghost use Rattle.searcher.specs.Arrays.{countsIn, rowsIn, jobsIn, LinksBack};
 ghost use Rattle.exact.specs.Words.{wordAt};
 ghost use Rattle.exact.specs.Sweep.{any-below, more, skips, puts, leaves, From, Ordered};
 ghost use Rattle.sweep.specs.Arrays.{rulesIn, Sweepable, Spanned, Begun, Next, Going, Failed, NotPut, tiedIn};
@@ -358,7 +358,7 @@ fn put(
     if !may_put(given, links, swept, flags, room, i) {
         return false;
     }
-    let c = place::entry(given, 0, i);
+    let c = searcher::entry(given, 0, i);
     let lows = memory::with_flag(flags, i, low, 0);
     let highs = memory::with_flag(flags, i, high, 64);
     let still = still_kept(swept, i, kept);

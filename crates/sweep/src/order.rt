@@ -3,7 +3,7 @@ ghost use mathlib.Core.Path.{_≡_};
 ghost use mathlib.Core.Bool.{true};
 ghost use Prim.Native.Nat.{_<_};
 ghost use Rattle.search.specs.Placing.{linksAt};
-ghost use Rattle.place.specs.Arrays.{countsIn, LinksBack};
+ghost use Rattle.searcher.specs.Arrays.{countsIn, LinksBack};
 ghost use Rattle.exact.specs.Sweep.{inOrder, AllInOrder};
 ghost use Rattle.exact.specs.Sided.{all-in, put-by, leave-by};
 ghost use Rattle.sweep.specs.Arrays.{sidesIn, rulesIn, Sweepable};

@@ -3,7 +3,7 @@
 ghost use mathlib.Core.Path.{_≡_};
 ghost use Prim.Native.Nat.{_+_, _<_, min};
 ghost use lib.ListN.{getD};
-ghost use Rattle.place.specs.Arrays.{partIn, rowsIn, jobsIn};
+ghost use Rattle.searcher.specs.Arrays.{partIn, rowsIn, jobsIn};
 ghost use Rattle.sweep.specs.Arrays.{rulesIn, Sweepable, firstsWith, endsWith, Spanning, Spanned};
 
 // Job i may stand in this row.

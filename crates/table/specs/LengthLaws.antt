@@ -5,11 +5,12 @@ use mathlib.Core.List.{List, [], _∷_, flatMap}
 use mathlib.Core.Bool.{Bool, true, false}
 use native.Mathlib.Omega.{arith}
 use native.Mathlib.Nat.{add-zero, zero-add}
-use lib.ListN.{length, getD, length-append, length-map}
+use lib.ListN.{length, getD, drop, length-append, length-map}
+use lib.Seq.{drop-at}
 use lib.Dec.{leb, ltb, eqb}
 use borrow.Author.Tests.{leb-true, leb-false, eqb-true, eqb-false, le-leb, lt-leb, lt-ltb, le-ltb}
 use Rattle.cursor.specs.Choice.{both, bit, keep}
-use Rattle.cursor.specs.Fields.{wordBytes}
+use Rattle.cursor.specs.WordBytesLaws.{word-parts}
 use Rattle.table.specs.Left.{less-one, none-left}
 use Rattle.table.specs.Table.{Entry, Table, entriesBytes, rowBytes, rowsBytes, headBytes, encode}
 use Rattle.table.specs.Layout.{indicesIn, entryAt, rowIn, rowsIn, entryTotal, tableOf}
@@ -32,8 +33,15 @@ rows-length [] = refl
 rows-length (es ∷ rows) = omega (arith, length-append (rowBytes es) (rowsBytes rows), entries-length es, rows-length rows)
 
 pub head-length : (f h height : ℕ) → length (headBytes f h height) ≡ 7
-unfolding headBytes wordBytes
-head-length f h height = refl
+unfolding headBytes
+head-length f h height = rw (word-parts f, word-parts h, word-parts height)
+
+-- the rows stand behind the sizes and F
+pub rows-behind : (t : Table) → drop 7 (encode t) ≡ rowsBytes (t .rows)
+unfolding encode
+rows-behind t =
+    let height = length (t .rows) in
+    drop-at (headBytes (t .f) (t .h) height) (rowsBytes (t .rows)) 7 (head-length (t .f) (t .h) height)
 
 -- "7 + F + 2·(number of jobs) bytes"
 pub encode-length : (t : Table) → length (encode t) ≡ 7 + length (t .rows) + 2 * entryCount (t .rows)

@@ -1,16 +1,20 @@
+-- To be believed:
 pub mod Table
 pub mod WellFormed
+pub mod TableBytes
+-- How answers stand in types:
 pub mod Answers
+-- Theorems:
+pub mod Inverse
+-- Laws:
 pub mod Layout
 pub mod Promises
 pub mod Left
 pub mod EntryLaws
 pub mod RisingLaws
-pub mod Inverse
 pub mod AnswerLaws
 pub mod ReadLaws
 pub mod LengthLaws
 pub mod ChainLaws
 pub mod WriteLaws
-pub mod TableBytes
 pub mod RowsLeft

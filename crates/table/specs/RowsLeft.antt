@@ -6,12 +6,11 @@ use native.Mathlib.Numerals.{add-one}
 use native.Mathlib.Omega.{arith}
 use lib.ListN.{length, drop}
 use lib.Seq.{drop-cons, drop-at, drop-drop}
-use Rattle.cursor.specs.Fields.{wordBytes}
 use Rattle.cursor.specs.Parsed.{got}
 use Rattle.cursor.specs.Front.{Bytes}
-use Rattle.table.specs.Table.{Table, table, decode, encode, headBytes, rowFrom, rowBytes, rowsBytes, rowOf}
+use Rattle.table.specs.Table.{Table, table, decode, rowFrom, rowBytes, rowsBytes, rowOf}
 use Rattle.table.specs.RisingLaws.{row-rises}
-use Rattle.table.specs.LengthLaws.{entries-length}
+use Rattle.table.specs.LengthLaws.{entries-length, rows-behind}
 use Rattle.table.specs.Inverse.{row-read, decode-wellformed, encode-decode}
 use Rattle.table.specs.Answers.{rowAnswer, rowAt}
 use Rattle.table.specs.AnswerLaws.{row-answered}
@@ -23,8 +22,7 @@ pub record RowsLeft (s : List ℕ) (at k : ℕ) : Type 0 where
 
 -- all, at the first place
 pub rows-begin : (s : List ℕ) → RowsLeft s 7 0
-unfolding encode headBytes wordBytes
-rows-begin s = record { of = λ are t is. rw (← encode-decode s t are is) }
+rows-begin s = record { of = λ are t is. rw (← encode-decode s t are is) (rows-behind t) }
 
 module _ (s : List ℕ) (at k : ℕ) (so : RowsLeft s at k) (are : Bytes s) (t : Table) (is : decode s ≡ table t) (below : k < length (t .rows)) where
   split : drop at s ≡ rowBytes (rowOf t k) ++ rowsBytes (drop (k + 1) (t .rows))

@@ -1,2 +1,4 @@
+-- To be believed:
 pub mod Text
+-- Laws:
 pub mod TextLaws

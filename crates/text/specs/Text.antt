@@ -1,5 +1,5 @@
 -- Text as bytes, a number's decimal digits, and a buffer that is filled from the front.
-use Prim.Native.Nat.{ℕ, zero, suc, _+_, _/_, _%_, min}
+use Prim.Native.Nat.{ℕ, zero, suc, _+_, _/_, _%_, _≤_, min}
 use Prim.Native.Char.{code}
 use Prim.Native.String.{String, [] as empty, _∷_ as before}
 use mathlib.Core.Path.{_≡_}
@@ -46,3 +46,8 @@ laid text out = take (length out) text ++ drop (length text) out
 -- that the proof that Rattle makes of `&out[..end]` finds it.
 abbrev pub PutIn : List ℕ → List ℕ → ℕ → List ℕ → Type 0
 PutIn text old end new = (end ≡ min (length text) (length old)) × (new ≡ laid text old) × (end ≡ length (take end new))
+
+-- the text has at most so many bytes, and a buffer with room for these holds it whole, with the old bytes behind it
+abbrev pub NeverCut : ℕ → List ℕ → Type 0
+NeverCut room text = (length text ≤ room)
+    × ((out new : List ℕ) (end : ℕ) → room ≤ length out → PutIn text out end new → (end ≡ length text) × (new ≡ text ++ drop (length text) out))

@@ -5,7 +5,7 @@ use Rattle.cursor.specs.Parsed.{records}
 use Rattle.cursor.specs.Fields.{byteOf, wordOf}
 use Rattle.request.specs.Request.{taskRule, judgedTask, taskOf, tasksOf, pairsOf, silentOf, reading}
 use Rattle.text.specs.Text.{ascii, decimalSteps, decimalOf}
-use Rattle.listing.specs.Listing.{tasksIn, refusedLine}
+use Rattle.plan_listing.specs.Listing.{tasksIn, refusedLine}
 use Rattle.job_records.specs.Timeline.{timeline, refusal, busyOf}
 use Rattle.job_records.specs.Example.{P1-request, P1-records, P7-request, P7-record}
 use Rattle.timeline_listing.specs.Printed.{recordLine, recordLines, busyLine, printed}

@@ -1,9 +1,11 @@
--- What `timeline` prints. To be believed:
+-- What `timeline` prints.
+-- To be believed:
 pub mod Printed
--- laws:
+-- Theorems:
+pub mod Theorem
+pub mod ShortLaws
+-- Laws:
 pub mod PutLaws
 pub mod PrintedLaws
-pub mod ShortLaws
-pub mod Theorem
 -- computed:
 pub mod Example

@@ -8,11 +8,11 @@ use Rattle.request.specs.Request.{reading}
 use Rattle.request.specs.declared.Task.{Task}
 use Rattle.cycle.specs.Cycle.{Cycle, cycleOf}
 use Rattle.table.specs.Table.{Table, table, encode}
-use Rattle.planned_table.specs.Outcome as outcome
-use Rattle.planned_table.specs.Outcome.{Outcome}
+use Rattle.plan_writer.specs.Outcome as outcome
+use Rattle.plan_writer.specs.Outcome.{Outcome}
 use Rattle.planner.specs.Outcome.{programOutcome}
 use Rattle.text.specs.Text.{ascii, decimalOf}
-use Rattle.listing.specs.Listing.{refusedLine, tasksIn}
+use Rattle.plan_listing.specs.Listing.{refusedLine, tasksIn}
 use Rattle.job_records.specs.Timeline.{Timeline, timeline, refusal, noRecord, timelineOf, filling, filledAnswer, filledRecords, busyOf, rowsBusy}
 use Rattle.job_records.specs.declared.JobRecord.{JobRecord}
 use Rattle.job_records.specs.declared.RecordsFilled.{RecordsFilled}

@@ -17,16 +17,16 @@ use Rattle.model.specs.Chosen.{Choice, chosen, noPlan, noPlausible, choose, Rig
 use Rattle.model.specs.ChosenLaws.{choose-right}
 use Rattle.model.specs.Described.{planTable, Describes}
 use Rattle.model.specs.PlanTable.{plan-table-describes}
-use Rattle.planned_table.specs.Outcome as outcome
-use Rattle.planned_table.specs.Outcome.{Outcome}
+use Rattle.plan_writer.specs.Outcome as outcome
+use Rattle.plan_writer.specs.Outcome.{Outcome}
 use Rattle.planner.specs.Outcome as planned
 use Rattle.planner.specs.Outcome.{byChoice, inCycle, programTries, programOutcome}
 use Rattle.planner.specs.TableLaws.{handed-within}
 use Rattle.checker.specs.Checked as checker
 use Rattle.checker.specs.Checked.{checked}
 use Rattle.checker.specs.Accepts.{accepts-described}
-use Rattle.listing.specs.Listing.{refusedLine, tasksIn}
-use Rattle.listing.specs.Answers.{tableIn}
+use Rattle.plan_listing.specs.Listing.{refusedLine, tasksIn}
+use Rattle.plan_listing.specs.Answers.{tableIn}
 use Rattle.job_records.specs.Timeline.{timeline, refusal, recordsOf, timelineOf, filling, recordsIn}
 use Rattle.job_records.specs.Theorem.{long-enough}
 use Rattle.job_records.specs.declared.JobRecord.{JobRecord}

@@ -10,8 +10,8 @@ use Rattle.request.specs.declared.Task.{Task}
 use Rattle.request.specs.declared.Request.{Request}
 use Rattle.text.specs.Text.{Filled, putAllOf}
 use Rattle.text.specs.TextLaws.{put-none, put-append}
-use Rattle.listing.specs.Listing.{tasksIn}
-use Rattle.listing.specs.ListingLaws.{tasks-are}
+use Rattle.plan_listing.specs.Listing.{tasksIn}
+use Rattle.plan_listing.specs.ListingLaws.{tasks-are}
 use Rattle.job_records.specs.Timeline.{Timeline, recordsIn, busyOf}
 use Rattle.job_records.specs.Known.{recordHere, KnownFor, recordsFrom, recordsKnown, records-more, records-none, known-are}
 use Rattle.job_records.specs.declared.JobRecord.{JobRecord}

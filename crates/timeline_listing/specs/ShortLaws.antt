@@ -16,13 +16,13 @@ use Rattle.model.specs.PlanLaws.{length-pos}
 use Rattle.model.specs.Good.{Good, job-facts}
 use Rattle.model.specs.Places.{number-small}
 use Rattle.model.specs.Within.{within-limits, within-good}
-use Rattle.planned_table.specs.Outcome.{Outcome, handed, refusal}
+use Rattle.plan_writer.specs.Outcome.{Outcome, handed, refusal}
 use Rattle.planner.specs.Outcome.{programTries, programOutcome}
 use Rattle.planner.specs.TableLaws.{GoodOutcome, outcome-within-good}
 use Rattle.text.specs.Text.{PutIn}
 use Rattle.text.specs.TextLaws.{decimal-length, put-whole}
-use Rattle.listing.specs.Listing.{tasksIn}
-use Rattle.listing.specs.ShortLaws.{refused-length}
+use Rattle.plan_listing.specs.Listing.{tasksIn}
+use Rattle.plan_listing.specs.ShortLaws.{refused-length}
 use Rattle.job_records.specs.Timeline.{recordOf, noRecord, busyOf}
 use Rattle.job_records.specs.Known.{records-count, record-at}
 use Rattle.job_records.specs.declared.JobRecord.{JobRecord}
@@ -94,7 +94,7 @@ module _ (request : List ℕ) (t : Table) (p : Planned request t) where
           job = omega (arith, number-small (p .x) good y h);
           release = omega (arith, release, w .release-below i j is, w .h-few);
           due = omega (arith, due, w .due-below i j is, w .h-few);
-          frame = omega (arith, ends, p .is-plan .not-late y h, due, w .due-below i j is, w .h-few);
+          frame = omega (arith, ends, p .is-plan .window y h .not-late, due, w .due-below i j is, w .h-few);
         }
 
     -- C is at most D, T and H

@@ -7,9 +7,9 @@ use lib.Seq.{take-append-seam}
 use Rattle.request.specs.Request.{reading}
 use Rattle.table.specs.Table.{Table, encode}
 use Rattle.model.specs.Within.{within-good}
-use Rattle.planned_table.specs.Outcome.{handed}
+use Rattle.plan_writer.specs.Outcome.{handed}
 use Rattle.planner.specs.Outcome.{programOutcome}
-use Rattle.listing.specs.Listing.{tasksIn}
+use Rattle.plan_listing.specs.Listing.{tasksIn}
 use Rattle.job_records.specs.Timeline.{Timeline, timeline, noRecord, filling, filledAnswer, filledRecords, busyOf, rowsBusy}
 use Rattle.job_records.specs.BusyLaws.{busy-same}
 use Rattle.job_records.specs.declared.JobRecord.{JobRecord}

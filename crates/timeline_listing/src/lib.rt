@@ -9,7 +9,7 @@ ghost use mathlib.Core.List.{_++_};
 ghost use lib.ListN.{length, getD};
 ghost use Rattle.request.specs.Request.{reading, noTask};
 ghost use Rattle.text.specs.Text.{ascii, decimalOf, filledTo, putAllOf, PutIn};
-ghost use Rattle.listing.specs.Listing.{tasksIn};
+ghost use Rattle.plan_listing.specs.Listing.{tasksIn};
 ghost use Rattle.job_records.specs.Timeline.{filling, recordsIn, busyOf};
 ghost use Rattle.job_records.specs.Known.{recordsKnown};
 ghost use Rattle.timeline_listing.specs.Printed.{recordLine, recordLines, busyLine, timelineLines, timelineText};
@@ -103,7 +103,7 @@ pub fn list(request: &[u8], out: &mut [u8]) -> usize
     let mut table = [0u8; 519];
     let planned = planner::plan(request, planner::PROGRAM_TRIES, &mut table);
     if planned.refusal != 0 {
-        return listing::refused(planned.refusal, out);
+        return plan_listing::refused(planned.refusal, out);
     }
     let length = planned.length;
     put_timeline(out, request, &table[..length])

@@ -1,4 +1,5 @@
--- to be believed
+-- To be believed:
 pub mod Registers
--- laws
+-- Laws:
 pub mod RegisterLaws
+pub mod ShownLaws

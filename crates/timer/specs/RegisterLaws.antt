@@ -1,15 +1,15 @@
 -- The laws of the registers: each way out of a call, as its definition has it.
-use Prim.Native.Nat.{ℕ, _+_, _-_, _≤_, _<_}
+use Prim.Native.Nat.{ℕ, _+_, _-_, _%_, _/_, _≤_, _<_}
 use mathlib.Core.Path.{_≡_, refl, sym}
 use mathlib.Core.Bool.{Bool, true, false, not}
-use mathlib.Core.List.{List}
+use mathlib.Core.List.{List, [], _∷_}
 use native.Mathlib.Omega.{arith}
 use lib.ListN.{length, getD}
 use lib.Dec.{ltb, eqb}
 use borrow.Author.Tests.{lt-ltb, le-ltb, eq-eqb, ne-eqb, ltb-false, eqb-true, eqb-false}
 use mir.Val.{boolByte}
 use Rattle.cursor.specs.Choice.{pick, both, bit}
-use Rattle.cursor.specs.Fields.{wordBytes}
+use Rattle.cursor.specs.WordBytesLaws.{word-parts}
 use Rattle.request.specs.Request.{noTask, reading}
 use Rattle.request.specs.AnswerLaws.{WasRead, not-read}
 use Rattle.request.specs.Answers.{answered}
@@ -19,7 +19,7 @@ use Rattle.table.specs.Table.{Decoded, decode}
 use Rattle.dispatcher.specs.Dispatch.{nextFrame}
 use Rattle.dispatcher.specs.FrameLaws.{frame-few, frame-refused-still}
 use Rattle.dispatcher.specs.declared.Frame.{Frame}
-use Rattle.timer.specs.Registers.{controlByte, statusByte, sumFrom, registers, registerRead, withControl, withStatus, controlOf, statusOf, clearedBy, changed, written}
+use Rattle.timer.specs.Registers.{controlByte, statusByte, sumFrom, sumShown, registers, registerRead, withControl, withStatus, controlOf, statusOf, clearedBy, changed, written}
 use Rattle.timer.specs.Registers.{dueOrMissed, afterEvent, servedOnce, dueServed, noneServed, serving, aboveC}
 use Rattle.timer.specs.declared.Control.{Control}
 use Rattle.timer.specs.declared.Status.{Status}
@@ -77,6 +77,17 @@ status-few s = omega (arith, bit-is (s .due), bit-is (s .overrun), bit-is (s .mi
 abbrev pub aByte : ℕ → RegisterRead
 aByte value = record { refusal = 0; value = value }
 
+-- the eight bytes, one by one
+abbrev pub eightBytes : Timer → List ℕ
+eightBytes t =
+    let row = t .state .row in
+    let sum = sumShown (t .state .counts) in
+    controlByte (t .control) ∷ statusByte (t .status) ∷ (row % 256) ∷ (row / 256) ∷ (sum % 256) ∷ (sum / 256) ∷ 0 ∷ 0 ∷ []
+
+pub registers-are : (t : Timer) → registers t ≡ eightBytes t
+unfolding registers
+registers-are t = rw (word-parts (t .state .row), word-parts (sumShown (t .state .counts)))
+
 module _ (address : ℕ) (t : Timer) where
   pub read-eight : address < 8 → registerRead address t ≡ aByte (getD (registers t) address 0)
   unfolding registerRead
@@ -87,13 +98,12 @@ module _ (address : ℕ) (t : Timer) where
   unfolding registerRead
   read-no-more h = rw (le-ltb address 8 h)
 
-  pub read-at : (i value : ℕ) → address ≡ i → i < 8 → value ≡ getD (registers t) i 0 → aByte value ≡ registerRead address t
+  pub read-at : (i value : ℕ) → address ≡ i → i < 8 → value ≡ getD (eightBytes t) i 0 → aByte value ≡ registerRead address t
   unfolding registerRead
-  read-at i value e h v = rw (e, lt-ltb i 8 h, v)
+  read-at i value e h v = rw (e, lt-ltb i 8 h, v, registers-are t)
 
   -- "6 and 7 read 0."
   pub read-free : 6 ≤ address → address < 8 → aByte 0 ≡ registerRead address t
-  unfolding registers wordBytes
   read-free l h = go (eqb address 6) refl
     where
       go : (b : Bool) → eqb address 6 ≡ b → aByte 0 ≡ registerRead address t

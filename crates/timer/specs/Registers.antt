@@ -135,7 +135,7 @@ marked over s = record { due = s .due; overrun = either over (s .overrun); misse
 abbrev pub heardOf : Bool → Reported → Timer → Changed
 heardOf over a t = changed (a .refusal) (record { state = a .state; control = t .control; status = marked over (t .status) })
 
-unfoldable pub reporting : Reading → ℕ → ℕ → Timer → Changed
+abbrev pub reporting : Reading → ℕ → ℕ → Timer → Changed
 reporting r task ticks t = heardOf (aboveC r task ticks) (reported r task ticks (t .state)) t
 
 -- line

@@ -1,9 +1,8 @@
 -- What is given is the problem of the length, so what the search finds is what the definition's walk finds.
 use mathlib.Core.Path.{ap, _∙_}
 use mathlib.Core.List.{[]}
-use Rattle.search.specs.Placing.{Problem}
-use Rattle.search.specs.Counting.{planWalk}
-use Rattle.exact_place.specs.Arrays.{foundAnswer}
+use Rattle.search.specs.Placing.{Problem, planWalk}
+use Rattle.exact_searcher.specs.Arrays.{foundAnswer}
 use borrow.Author.Needs.{needs}
 use Rattle.decider.proofs.plan_with.Statement.{statement}
 use Rattle.decider.proofs.plan_with.Tie as tie

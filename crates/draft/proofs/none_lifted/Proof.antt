@@ -6,7 +6,7 @@ use mathlib.Core.Bool.{not}
 use native.Mathlib.Nat.{sub-zero}
 use native.Mathlib.Omega.{arith}
 use borrow.Author.Tests.{eq-eqb, ne-eqb}
-use Rattle.rules.specs.EveryLaws.{AllLeft, all-next, all-fails, all-done}
+use Rattle.plan_rules.specs.EveryLaws.{AllLeft, all-next, all-fails, all-done}
 use Rattle.draft.specs.Draft.{isDown}
 use Rattle.draft.proofs.none_lifted.Statement.{statement}
 use Rattle.draft.proofs.none_lifted.Tie as tie

@@ -5,7 +5,7 @@ use mathlib.Core.Path.{_∙_}
 use native.Mathlib.Nat.{sub-zero}
 use native.Mathlib.Omega.{arith}
 use borrow.Author.Tests.{eq-eqb, ne-eqb}
-use Rattle.rules.specs.EveryLaws.{AllLeft, all-next, all-fails, all-done}
+use Rattle.plan_rules.specs.EveryLaws.{AllLeft, all-next, all-fails, all-done}
 use Rattle.draft.specs.Answers.{sameAt}
 use Rattle.draft.proofs.same_loads.Statement.{statement}
 use Rattle.draft.proofs.same_loads.Tie as tie

@@ -5,7 +5,6 @@ use native.Mathlib.Omega.{arith}
 use Rattle.cursor.specs.Padded.{firsts}
 use Rattle.request.specs.Request.{noTask}
 use Rattle.model.specs.Plan.{costOf, costs}
-use Rattle.model.specs.Answers.{instanceOf}
 use Rattle.problem.specs.JobLaws.{numbers, no-number, one-number, all-numbers}
 use borrow.Author.Needs.{needs}
 use Rattle.problem.proofs.costs.Statement.{statement}
@@ -39,7 +38,7 @@ loop-again c =
     )
 
 returns : tie.Need-returns Inv-loop μ-loop
-unfolding costs instanceOf
+unfolding costs
 returns c =
     let l = c .before .loop in
     l .inv .1 ∙ all-numbers _ _ (l .y) _ (l .inv .0) (c .loop-test .left) ∙ rw (c .before .before .at-most .ensures)

@@ -3,7 +3,6 @@ use Prim.Native.Nat.{_≤_, _<_, _-_}
 use mathlib.Core.Path.{_≡_, _∙_}
 use native.Mathlib.Omega.{arith}
 use Rattle.model.specs.Chosen.{firstFrameOf}
-use Rattle.model.specs.Answers.{instanceOf}
 use Rattle.problem.specs.JobLaws.{numbers, no-number, one-number, all-numbers}
 use borrow.Author.Needs.{needs}
 use Rattle.problem.proofs.first_frames.Statement.{statement}
@@ -33,7 +32,6 @@ loop-again c =
     (omega arith, rw (l .inv .1, c .first-frame .ensures) (one-number (firstFrameOf (a .f)) (a .cycle .jobs) (l .y) room))
 
 returns : tie.Need-returns Inv-loop μ-loop
-unfolding instanceOf
 returns c =
     let l = c .before .loop in
     l .inv .1 ∙ all-numbers _ _ (l .y) _ (l .inv .0) (c .loop-test .left) ∙ rw (c .before .before .at-most .ensures)

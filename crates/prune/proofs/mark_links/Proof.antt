@@ -1,7 +1,7 @@
 -- The links of job y one after the other: each is left, or its job is marked.
 use native.Mathlib.Omega.{arith}
 use Prim.Native.Nat.{_-_}
-use Rattle.place.specs.Arrays.{countsIn}
+use Rattle.searcher.specs.Arrays.{countsIn}
 use Rattle.prune.proofs.Laws.{Marking, marking-start, marking-turn, marking-stop}
 use borrow.Author.Needs.{needs}
 use Rattle.prune.proofs.mark_links.Statement.{statement}

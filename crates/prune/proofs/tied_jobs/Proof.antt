@@ -2,7 +2,7 @@
 use native.Mathlib.Omega.{arith}
 use Prim.Native.Nat.{_≤_, _-_}
 use mathlib.Core.Path.{_≡_, sym}
-use Rattle.place.specs.Arrays.{countsIn, jobsIn}
+use Rattle.searcher.specs.Arrays.{countsIn, jobsIn}
 use Rattle.prune.specs.Arrays.{Marked}
 use Rattle.prune.proofs.Laws.{links-back, marked-none}
 use borrow.Author.Needs.{needs}

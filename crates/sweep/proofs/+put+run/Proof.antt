@@ -8,7 +8,7 @@ use mathlib.Core.Bool.{Bool, false≢true}
 use mathlib.Core.List.{List}
 use borrow.Author.Tests.{not-true, not-false}
 use Rattle.exact.specs.Sweep.{Ordered}
-use Rattle.place.specs.Arrays.{rowsIn}
+use Rattle.searcher.specs.Arrays.{rowsIn}
 use Rattle.sweep.specs.Arrays.{rulesIn}
 use Rattle.sweep.proofs.Laws.{cost-within, not-skipped, free-of}
 use Rattle.sweep.proofs.LateLaws.{end-of, cost-of, sided-of}
@@ -23,7 +23,7 @@ use Rattle.sweep.proofs.+put+run.Lts-put as put-lts
 use Rattle.sweep.proofs.run.Reads as run
 use Rattle.sweep.proofs.run.Kinds as run-kinds
 use Rattle.sweep.proofs.+put+run.Lts-run as run-lts
-use Rattle.place.proofs.entry.Reads as entry-reads
+use Rattle.searcher.proofs.entry.Reads as entry-reads
 use Rattle.sweep.proofs.is_kept.Reads as is-kept-reads
 use Rattle.sweep.proofs.next_job.Reads as next-job-reads
 use Rattle.sweep.proofs.is_worth_noting.Reads as is-worth-noting-reads

@@ -1,5 +1,5 @@
 -- The order was kept, or is tested.
-use Rattle.exact.specs.Sweep.{ordered-tested}
+use Rattle.exact.specs.WitnessLaws.{ordered-tested}
 use Rattle.sweep.proofs.is_kept.Statement.{statement}
 use Rattle.sweep.proofs.is_kept.Tie as tie
 

@@ -3,8 +3,9 @@ use borrow.Author.Needs.{needs}
 use native.Mathlib.Omega.{arith}
 use Prim.Native.Nat.{_≤_, _-_}
 use mathlib.Core.Bool.{false≢true}
-use Rattle.exact.specs.Sweep.{more, any-below-from}
-use Rattle.place.specs.Arrays.{jobsIn}
+use Rattle.exact.specs.Sweep.{more}
+use Rattle.exact.specs.WitnessLaws.{any-below-from}
+use Rattle.searcher.specs.Arrays.{jobsIn}
 use Rattle.sweep.specs.Arrays.{rulesIn}
 use Rattle.sweep.proofs.RunLaws.{n-is}
 use Rattle.sweep.proofs.one_more.Statement.{statement}

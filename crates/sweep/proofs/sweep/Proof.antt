@@ -3,7 +3,7 @@ use native.Mathlib.Omega.{arith}
 use mathlib.Core.Path.{sym}
 use mathlib.Core.Bool.{false≢true}
 use borrow.Author.Tests.{leb-false}
-use Rattle.place.specs.Arrays.{rowsIn}
+use Rattle.searcher.specs.Arrays.{rowsIn}
 use Rattle.sweep.specs.Arrays.{rulesIn}
 use Rattle.sweep.proofs.RunLaws.{n-is, f-is, going-first, swept-false}
 use borrow.Author.Needs.{needs}

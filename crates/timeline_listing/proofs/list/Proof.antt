@@ -6,7 +6,7 @@ use lib.ListN.{length}
 use lib.Seq.{length-take-le}
 use borrow.Author.Needs.{needs}
 use Rattle.text.specs.TextLaws.{put-front}
-use Rattle.listing.specs.HandedLaws.{refused-is, table-is, written-few}
+use Rattle.plan_listing.specs.HandedLaws.{refused-is, table-is, written-few}
 use Rattle.timeline_listing.specs.PrintedLaws.{timeline-refused, timeline-handed}
 use Rattle.timeline_listing.proofs.list.Statement.{statement}
 use Rattle.timeline_listing.proofs.list.Tie as tie

@@ -3,7 +3,7 @@ use mathlib.Core.Path.{sym, ap, _∙_}
 use borrow.Author.Needs.{needs}
 use Rattle.text.specs.Text.{filledTo, putAllOf}
 use Rattle.text.specs.TextLaws.{put-append}
-use Rattle.listing.specs.ListingLaws.{tasks-size}
+use Rattle.plan_listing.specs.ListingLaws.{tasks-size}
 use Rattle.timeline_listing.specs.PutLaws.{lines-are}
 use Rattle.timeline_listing.proofs.put_timeline.Statement.{statement}
 use Rattle.timeline_listing.proofs.put_timeline.Tie as tie

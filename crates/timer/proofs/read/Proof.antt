@@ -3,8 +3,6 @@ use Prim.Native.Nat.{_≤_, _<_}
 use mathlib.Core.Path.{refl}
 use native.Mathlib.Omega.{arith}
 use borrow.Author.Needs.{needs}
-use Rattle.cursor.specs.Fields.{wordBytes}
-use Rattle.timer.specs.Registers.{registers}
 use Rattle.timer.specs.RegisterLaws.{read-no-more, read-at, read-free}
 use Rattle.timer.proofs.read.Statement.{statement}
 use Rattle.timer.proofs.read.Tie as tie
@@ -13,27 +11,21 @@ returns : tie.Need-returns
 returns c = rw (read-no-more (c .before .args .address) (c .before .args .timer) (omega (arith, c .if1 .taken)))
 
 returns-2 : tie.Need-returns-2
-unfolding registers
 returns-2 c = read-at _ _ 0 _ (c .before .match .keys1) (omega arith) (c .control-byte .ensures)
 
 returns-3 : tie.Need-returns-3
-unfolding registers
 returns-3 c = read-at _ _ 1 _ (c .before .match .keys2) (omega arith) (c .status-byte .ensures)
 
 returns-4 : tie.Need-returns-4
-unfolding registers wordBytes
 returns-4 c = read-at _ _ 2 _ (c .before .match .keys3) (omega arith) refl
 
 returns-5 : tie.Need-returns-5
-unfolding registers wordBytes
 returns-5 c = read-at _ _ 3 _ (c .before .match .keys4) (omega arith) refl
 
 returns-6 : tie.Need-returns-6
-unfolding registers wordBytes
 returns-6 c = read-at _ _ 4 _ (c .before .match .keys5) (omega arith) (rw (c .sum-shown .ensures))
 
 returns-7 : tie.Need-returns-7
-unfolding registers wordBytes
 returns-7 c = read-at _ _ 5 _ (c .before .match .keys6) (omega arith) (rw (c .sum-shown2 .ensures))
 
 returns-8 : tie.Need-returns-8

@@ -4,12 +4,11 @@ use mathlib.Core.Bool.{Bool}
 use borrow.Author.Needs.{needs}
 use Rattle.request.specs.Request.{reading}
 use Rattle.dispatcher.specs.Dispatch.{reported}
-use Rattle.timer.specs.Registers.{aboveC, marked, reporting}
+use Rattle.timer.specs.Registers.{aboveC, marked}
 use Rattle.timer.proofs.report.Statement.{statement}
 use Rattle.timer.proofs.report.Tie as tie
 
 returns : tie.Need-returns
-unfolding reporting
 returns c =
     let r = c .before .before .before in
     let a = r .before .before .before .args in

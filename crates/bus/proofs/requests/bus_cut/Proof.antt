@@ -1,7 +1,8 @@
 -- The cut request's answer, of which a refusal is negated and a length is small.
 use mathlib.Core.Path.{_∙_}
 use Rattle.bus.specs.ReplyLaws.{kept, written-refused, written-length}
-use Rattle.bus.specs.Cut.{cutReply, cutBuffer, cut-few}
+use Rattle.bus.specs.Cut.{cutReply, cutBuffer}
+use Rattle.bus.specs.CutLaws.{cut-few}
 use borrow.Author.Needs.{needs}
 use Rattle.bus.proofs.requests.bus_cut.Statement.{statement}
 use Rattle.bus.proofs.requests.bus_cut.Tie as tie

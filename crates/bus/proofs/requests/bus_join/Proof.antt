@@ -1,7 +1,8 @@
 -- The joined request's answer, of which a refusal is negated and a length is small.
 use mathlib.Core.Path.{_∙_}
 use Rattle.bus.specs.ReplyLaws.{kept, written-refused, written-length}
-use Rattle.bus.specs.Join.{joinReply, joinBuffer, join-few}
+use Rattle.bus.specs.Join.{joinReply, joinBuffer}
+use Rattle.bus.specs.JoinLaws.{join-few}
 use borrow.Author.Needs.{needs}
 use Rattle.bus.proofs.requests.bus_join.Statement.{statement}
 use Rattle.bus.proofs.requests.bus_join.Tie as tie

@@ -1,7 +1,7 @@
 -- 99 comes first. Then a refusal is negated and changes nothing, and else the counts are written.
 use mathlib.Core.Path.{_∙_}
 use Rattle.bus.specs.ReplyLaws.{kept}
-use Rattle.bus.specs.Phases.{no-room, phases-refused, phases-counted}
+use Rattle.bus.specs.PhaseLaws.{no-room, phases-refused, phases-counted}
 use borrow.Author.Needs.{needs}
 use Rattle.bus.proofs.requests.bus_phases.Statement.{statement}
 use Rattle.bus.proofs.requests.bus_phases.Tie as tie

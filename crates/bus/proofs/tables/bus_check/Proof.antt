@@ -1,7 +1,7 @@
 -- The check's number, negated where it is not 0.
 use mathlib.Core.Path.{_∙_}
 use Rattle.bus.specs.ReplyLaws.{kept}
-use Rattle.bus.specs.Check.{check-refused, check-passed}
+use Rattle.bus.specs.CheckLaws.{check-refused, check-passed}
 use borrow.Author.Needs.{needs}
 use Rattle.bus.proofs.tables.bus_check.Statement.{statement}
 use Rattle.bus.proofs.tables.bus_check.Tie as tie

@@ -1,7 +1,8 @@
 -- The exact planner's answer, of which a refusal is negated and a length is small.
 use mathlib.Core.Path.{_∙_}
 use Rattle.bus.specs.ReplyLaws.{kept, written-refused, written-length}
-use Rattle.bus.specs.Decide.{decideReply, decideBuffer, decide-few}
+use Rattle.bus.specs.Decide.{decideReply, decideBuffer}
+use Rattle.bus.specs.DecideLaws.{decide-few}
 use borrow.Author.Needs.{needs}
 use Rattle.bus.proofs.tables.bus_decide.Statement.{statement}
 use Rattle.bus.proofs.tables.bus_decide.Tie as tie

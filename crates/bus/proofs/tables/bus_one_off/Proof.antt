@@ -1,7 +1,7 @@
 -- The frame that is found, a small number, or a refusal, which is negated.
 use mathlib.Core.Path.{_∙_}
 use Rattle.bus.specs.ReplyLaws.{kept}
-use Rattle.bus.specs.OneOff.{one-off-refused, one-off-found}
+use Rattle.bus.specs.OneOffLaws.{one-off-refused, one-off-found}
 use borrow.Author.Needs.{needs}
 use Rattle.bus.proofs.tables.bus_one_off.Statement.{statement}
 use Rattle.bus.proofs.tables.bus_one_off.Tie as tie

@@ -1,7 +1,7 @@
 -- 99 comes first. Then the planner's answer: its count is written, a refusal is negated, and a length is small.
 use mathlib.Core.Path.{_∙_}
 use Rattle.bus.specs.ReplyLaws.{kept}
-use Rattle.bus.specs.Plan.{no-count, plan-few, plan-refused, plan-written}
+use Rattle.bus.specs.PlanLaws.{no-count, plan-few, plan-refused, plan-written}
 use borrow.Author.Needs.{needs}
 use Rattle.bus.proofs.tables.bus_plan.Statement.{statement}
 use Rattle.bus.proofs.tables.bus_plan.Tie as tie

@@ -1,7 +1,8 @@
 -- The rewriter's answer, of which a refusal is negated and a length is small.
 use mathlib.Core.Path.{_∙_}
 use Rattle.bus.specs.ReplyLaws.{kept, written-refused, written-length}
-use Rattle.bus.specs.Rewrite.{rewriteReply, rewriteBuffer, rewrite-few}
+use Rattle.bus.specs.Rewrite.{rewriteReply, rewriteBuffer}
+use Rattle.bus.specs.RewriteLaws.{rewrite-few}
 use borrow.Author.Needs.{needs}
 use Rattle.bus.proofs.tables.bus_rewrite.Statement.{statement}
 use Rattle.bus.proofs.tables.bus_rewrite.Tie as tie

@@ -8,7 +8,7 @@ use borrow.Author.Tests.{eq-eqb, ne-eqb}
 use Rattle.cursor.specs.Padded.{firsts}
 use Rattle.cycle.specs.Planned.{noJob}
 use Rattle.checker.specs.Checked.{isThere}
-use Rattle.rules.specs.EveryLaws.{SomeLeft, some-next, some-here, some-none}
+use Rattle.plan_rules.specs.EveryLaws.{SomeLeft, some-next, some-here, some-none}
 use Rattle.checker.specs.LoopLaws.{there-at}
 use borrow.Author.Needs.{needs}
 use Rattle.checker.proofs.walk.is_there.Statement.{statement}

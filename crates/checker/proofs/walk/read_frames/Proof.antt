@@ -7,7 +7,7 @@ use Rattle.cycle.specs.Planned.{noJob}
 use Rattle.cursor.specs.Padded.{padded, firsts}
 use Rattle.checker.specs.Checked.{isPlaced, framesIn}
 use Rattle.checker.specs.Answers.{rowsOf, framesAnswer}
-use Rattle.rules.specs.EveryLaws.{AllLeft, all-next, all-fails, all-done}
+use Rattle.plan_rules.specs.EveryLaws.{AllLeft, all-next, all-fails, all-done}
 use Rattle.checker.specs.WalkLaws.{found-below}
 use Rattle.checker.specs.LoopLaws.{placed-at, one-read}
 use borrow.Author.Needs.{needs}

@@ -34,7 +34,6 @@ plan-with-requires c κs =
     searchable (s .args .cycle) _ _ (begun .loop .rows) (s .pre) (linked .before .costs .ensures) (linked .links .ensures) tried
 
 returns : tie.Need-returns Inv-loop μ-loop
-unfolding instanceOf
 returns c =
     let planned = c .before .before .before in
     let called = planned .before .before .before in
@@ -43,7 +42,6 @@ returns c =
     c .none-chosen .ensures ∙ out-with (test .before .loop .inv) (test .loop-test .taken) tried (planned .plan-with .ensures) (c .before .if2 .taken)
 
 sub-t13 : tie.Need-sub-t13 Inv-loop μ-loop
-unfolding instanceOf
 sub-t13 c =
     let planned = c .before .before .before .before .before in
     let called = planned .before .before .before in
@@ -52,7 +50,6 @@ sub-t13 c =
     left-less (test .before .loop .inv) (test .loop-test .taken) tried (planned .plan-with .ensures) (c .before .before .before .if2 .left)
 
 returns-2 : tie.Need-returns-2 Inv-loop μ-loop
-unfolding instanceOf
 returns-2 c =
     let planned = c .before .before .before .before .before in
     let called = planned .before .before .before in
@@ -61,7 +58,6 @@ returns-2 c =
     one-with (test .before .loop .inv) (test .loop-test .taken) tried (planned .plan-with .ensures) (c .before .before .before .if2 .left) (c .before .if3 .taken)
 
 loop-again-2 : tie.Need-loop-again-2 Inv-loop μ-loop
-unfolding instanceOf
 loop-again-2 c =
     let planned = c .before .before .before .before in
     let called = planned .before .before .before in

@@ -1,9 +1,8 @@
 -- What is given is the problem of the length, so what the search answers is the definition's walk within the tries allowed.
 use mathlib.Core.Path.{ap, _∙_}
 use mathlib.Core.List.{[]}
-use Rattle.search.specs.Placing.{Problem}
-use Rattle.search.specs.Counting.{planWalk}
-use Rattle.place.specs.Arrays.{placedWithin}
+use Rattle.search.specs.Placing.{Problem, planWalk}
+use Rattle.searcher.specs.Arrays.{placedWithin}
 use borrow.Author.Needs.{needs}
 use Rattle.planner.proofs.choose.plan_with.Statement.{statement}
 use Rattle.planner.proofs.choose.plan_with.Tie as tie

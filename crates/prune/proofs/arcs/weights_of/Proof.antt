@@ -2,7 +2,7 @@
 use native.Mathlib.Omega.{arith}
 use Prim.Native.Nat.{_≤_, _<_, _-_}
 use mathlib.Core.Path.{_≡_, sym, ap, _∙_}
-use Rattle.place.specs.Arrays.{partIn}
+use Rattle.searcher.specs.Arrays.{partIn}
 use Rattle.prune.specs.Arrays.{Filled}
 use Rattle.exact.specs.Arcs.{stepOf}
 use Rattle.prune.specs.Arcs.{stepBy, Light}

@@ -1,7 +1,7 @@
 -- The links of job i one after the other: no placing is left out.
 use native.Mathlib.Omega.{arith}
 use Prim.Native.Nat.{_-_}
-use Rattle.place.specs.Arrays.{countsIn, problemIn}
+use Rattle.searcher.specs.Arrays.{countsIn, problemIn}
 use Rattle.prune.specs.Arrays.{domains, Tightened}
 use Rattle.prune.proofs.Laws.{links-back, link-tightens, tight-same, tight-more, Ranging, ranging-start, ranging-turn, in-links}
 use borrow.Author.Needs.{needs}

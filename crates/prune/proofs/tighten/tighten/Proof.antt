@@ -1,7 +1,7 @@
 -- Pass after pass: no placing is left out.
 use native.Mathlib.Omega.{arith}
 use Prim.Native.Nat.{_≤_, _-_}
-use Rattle.place.specs.Arrays.{problemIn}
+use Rattle.searcher.specs.Arrays.{problemIn}
 use Rattle.prune.specs.Arrays.{domains, Tightened}
 use Rattle.prune.proofs.Laws.{tight-same, tight-more}
 use borrow.Author.Needs.{needs}

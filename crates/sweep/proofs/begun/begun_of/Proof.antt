@@ -3,7 +3,7 @@ use borrow.Author.Needs.{needs}
 use native.Mathlib.Omega.{arith}
 use Prim.Native.Nat.{_≤_, _-_}
 use mathlib.Core.Path.{refl}
-use Rattle.place.specs.Arrays.{rowsIn, jobsIn}
+use Rattle.searcher.specs.Arrays.{rowsIn, jobsIn}
 use Rattle.sweep.specs.Arrays.{rulesIn, Beginning}
 use Rattle.sweep.proofs.RunLaws.{n-is}
 use Rattle.sweep.proofs.BitLaws.{beginning-two, beginning-word, beginning-done}

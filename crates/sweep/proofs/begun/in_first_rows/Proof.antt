@@ -4,7 +4,7 @@ use native.Mathlib.Omega.{arith}
 use Prim.Native.Nat.{_≤_, _-_}
 use mathlib.Core.Path.{sym, _∙_}
 use mathlib.Core.Logic.{⊎-elim}
-use Rattle.place.specs.Arrays.{rowsIn, jobsIn}
+use Rattle.searcher.specs.Arrays.{rowsIn, jobsIn}
 use Rattle.sweep.specs.Arrays.{rulesIn, Beginning}
 use Rattle.sweep.proofs.SpanLaws.{first-of}
 use Rattle.sweep.proofs.BitLaws.{beginning-first, beginning-none, beginning-more, beginning-all}

@@ -5,7 +5,7 @@ use Prim.Native.Nat.{_≤_, _-_}
 use mathlib.Core.Path.{_≡_, sym, _∙_}
 use mathlib.Core.Bool.{false}
 use lib.ListN.{getD, replicate}
-use Rattle.place.specs.Arrays.{partIn, jobsIn}
+use Rattle.searcher.specs.Arrays.{partIn, jobsIn}
 use Rattle.sweep.specs.Arrays.{rulesIn, Due}
 use Rattle.sweep.proofs.LateLaws.{end-of, cost-of, sided-of, no-flag, due-none, due-more}
 use Rattle.sweep.proofs.late.due_times.Statement.{statement}

@@ -4,7 +4,7 @@ use native.Mathlib.Omega.{arith}
 use Prim.Native.Nat.{_-_, _<_}
 use mathlib.Core.Path.{sym, _∙_}
 use mathlib.Core.Bool.{false≢true}
-use Rattle.place.specs.Arrays.{rowsIn}
+use Rattle.searcher.specs.Arrays.{rowsIn}
 use Rattle.sweep.specs.Arrays.{rulesIn}
 use Rattle.sweep.proofs.RunLaws.{n-is, f-is}
 use Rattle.sweep.proofs.LateLaws.{Comparing, comparing-start, due-small, comparing-more, late-row}

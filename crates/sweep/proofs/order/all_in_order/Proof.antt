@@ -6,7 +6,7 @@ use Prim.Native.Nat.{ℕ, _≤_, _<_, _-_}
 use borrow.Author.Tests.{not-false}
 use Rattle.exact.specs.Sweep.{inOrder}
 use Rattle.sweep.specs.Arrays.{rulesIn}
-use Rattle.place.specs.Arrays.{jobsIn}
+use Rattle.searcher.specs.Arrays.{jobsIn}
 use Rattle.sweep.proofs.RunLaws.{n-is, all-below-more}
 use borrow.Author.Needs.{needs}
 use Rattle.sweep.proofs.order.all_in_order.Statement.{statement}

@@ -3,7 +3,7 @@ use native.Mathlib.Omega.{arith}
 use Prim.Native.Nat.{_-_}
 use mathlib.Core.Path.{sym, _∙_}
 use borrow.Author.Tests.{not-true, not-false}
-use Rattle.place.specs.Arrays.{countsIn}
+use Rattle.searcher.specs.Arrays.{countsIn}
 use Rattle.exact.specs.Sided.{leave-by}
 use Rattle.sweep.specs.Arrays.{sidesIn}
 use Rattle.sweep.proofs.Laws.{Linking, linking-start, linking-turn, linking-not, linking-stop}

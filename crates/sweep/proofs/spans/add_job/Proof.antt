@@ -3,7 +3,7 @@ use borrow.Author.Needs.{needs}
 use native.Mathlib.Omega.{arith}
 use Prim.Native.Nat.{_-_}
 use mathlib.Core.Path.{sym}
-use Rattle.place.specs.Arrays.{rowsIn}
+use Rattle.searcher.specs.Arrays.{rowsIn}
 use Rattle.sweep.specs.Arrays.{rulesIn, Spanning}
 use Rattle.sweep.proofs.RunLaws.{n-is}
 use Rattle.sweep.proofs.LateLaws.{end-of}

@@ -2,7 +2,7 @@
 use borrow.Author.Needs.{needs}
 use native.Mathlib.Omega.{arith}
 use Prim.Native.Nat.{_≤_, _-_}
-use Rattle.place.specs.Arrays.{rowsIn, jobsIn}
+use Rattle.searcher.specs.Arrays.{rowsIn, jobsIn}
 use Rattle.sweep.specs.Arrays.{rulesIn, Spanning}
 use Rattle.sweep.proofs.RunLaws.{n-is}
 use Rattle.sweep.proofs.SpanLaws.{spanning-none, spanning-done}

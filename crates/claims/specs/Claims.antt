@@ -1,0 +1,262 @@
+-- Every public promise, once, beside the sentence of the papers that it renders (01 is the scope, 02 the change requests). A record states the promises
+-- of a demand, or of R-1 to R-14; below it each is closed by name: `promise = theorem`. Where each name stands: Claims/Cited. A guide: docs/READING.md.
+mod Cited
+use Cited.*
+mod Contracts
+use Contracts.{EveryContract, Tested, contracts-met, tested-met}
+
+-- of every request within the limits, and what is planned for it
+abbrev pub OfWithin : (List ℕ → Instance → Type 0) → Type 0
+OfWithin Says = (request : List ℕ) (x : Instance) → Within request x → Says request x
+
+-- of every table that the check answers 0 to; and of the bytes that planning hands out, whatever it is allowed
+abbrev pub OfAccepted : (List ℕ → List ℕ → Type 0) → Type 0
+OfAccepted Says = ((request bytes : List ℕ) → Bytes bytes → checkNumber request bytes ≡ 0 → Says request bytes)
+    × ((allowance : ℕ) (request out : List ℕ) → searchedAnswer allowance request out .refusal ≡ 0 → Says request (handedBytes allowance request out))
+
+-- of every list of calls with a table that is accepted for a request within the limits, and all actual times
+abbrev pub OfCalls : (Instance → List ℕ → Table → List Call → (ℕ → ℕ → ℕ) → Type 0) → Type 0
+OfCalls Says = (request bytes : List ℕ) (x : Instance) (t : Table) → Within request x → decode bytes ≡ table t → Accepted x t
+    → (calls : List Call) (actual : ℕ → ℕ → ℕ) → Says x bytes t calls actual
+
+-- DEMAND 1: every entry point ends, stays inside its buffers, refuses by the papers' numbers, and leaves a lent buffer unchanged when it refuses.
+-- 01: "every public call states an equation for its answer and for the bytes and state afterwards, refusals included; this paper leaves no answer free."
+pub demand-1 : {M : Type 1} → EveryContract M
+demand-1 = contracts-met
+
+-- DEMAND 2: reading, cycle, jobs, lengths, table, check and dispatcher are the papers'.
+pub record Demand2 : Type 0 where
+  -- 01: "A task has 1 ≤ C ≤ D ≤ T and P < T. A pair has a < b < n and equal T"
+  pub request-keeps-form : (bytes : List ℕ) (tasks : List Task) (pairs : List Pair) (g : ℕ) → reading bytes ≡ readable tasks pairs g → Readable tasks pairs
+  -- 01: "Sections stand in a fixed order, each after its count."
+  pub request-read-back : (tasks : List Task) (pairs : List Pair) (g : ℕ) → Readable tasks pairs → g ≤ 15
+      → reading (requestBytes tasks pairs g) ≡ readable tasks pairs g
+  -- 01: 1 "bytes end inside a section or before its count", 6 "bytes follow the last pair"; R-1: "A file that ends after its pairs means g = 0"
+  pub request-bytes-are : (bytes : List ℕ) (tasks : List Task) (pairs : List Pair) (g : ℕ) → reading bytes ≡ readable tasks pairs g → Bytes bytes
+      → let two = length (twoSections tasks pairs) in Written bytes tasks pairs g
+      × ((j : ℕ) → j < length bytes → (j ≡ two → ⊥) → reading (take j bytes) ≡ unreadable 1) × (reading (take two bytes) ≡ readable tasks pairs 0)
+      × (two < length bytes → (b : ℕ) (rest : List ℕ) → reading (bytes ++ (b ∷ rest)) ≡ unreadable 6)
+  -- 01, "Where a number is given": 1 to 6 and 17 for the bytes of a request, with 7 and 8 for its cycle
+  pub request-numbers : ((bytes : List ℕ) (number : ℕ) → reading bytes ≡ unreadable number → UnreadNumber number)
+      × ((bytes : List ℕ) (number : ℕ) → cycleOf bytes ≡ noCycle number → RequestNumber number)
+  -- 01: "the greatest common divisor (gcd) falls to the remainder pair until one is 0", "least common multiple"
+  pub gcd-is : (a b d : ℕ) → ((gcdOf a b ∣ a) × (gcdOf a b ∣ b)) × (d ∣ a → d ∣ b → d ∣ gcdOf a b) × (0 < a → d ∣ a → d ∣ b → d ≤ gcdOf a b)
+      × (gcdOf a 0 ≡ a) × (gcdOf a b ≡ gcdOf b a)
+  pub lcm-is : (a b m : ℕ) → (a ∣ lcmOf a b) × (b ∣ lcmOf a b) × (0 < a → a ∣ m → b ∣ m → lcmOf a b ∣ m) × (0 < a → 0 < m → a ∣ m → b ∣ m → lcmOf a b ≤ m)
+  -- 01: "H is the least common multiple of all T (000, 002, 003, 004), at most 10,000."; "The due time may pass H. There are at most 128 jobs in all."
+  pub hyperperiod-is-least : (tasks : List Task) (m : ℕ) → 0 < m → Periodic tasks → ((i : ℕ) → i < length tasks → periodOf tasks i ∣ m) → hyperperiod tasks ≤ m
+  pub cycle-keeps : (bytes : List ℕ) (tasks : List Task) (pairs : List Pair) (g h : ℕ) (jobs : List Job)
+      → cycleOf bytes ≡ cycle tasks pairs g h jobs → WithinLimits tasks pairs h jobs
+  -- 01: "Task i has jobs j = 0 to H/T − 1, released at r = P + j·T, due at r + D."; "Jobs are ordered by release, then task number."
+  pub jobs-in-order : (tasks : List Task) (h : ℕ) → Periodic tasks → InPlanningOrder tasks h (planned tasks h)
+  -- 01: "Sizes: the byte 02, then f and H as u16. Rows: F as u16, then for each row a byte count 0 to 16 and that many entries."
+  pub table-read-back : ((t : Table) → WellFormed t → decode (encode t) ≡ table t)
+      × ((bytes : List ℕ) (t : Table) → Bytes bytes → decode bytes ≡ table t → encode t ≡ bytes)
+  -- 01: "the check accepts exactly the tables that describe a plan, of any f and not only the chosen one."
+  pub check-accepts : (request bytes : List ℕ) (x : Instance) (t : Table) → Within request x → decode bytes ≡ table t → (f : ℕ) (frames : List ℕ)
+      → (checked (cycleOf request) (decode bytes) ≡ accepted f frames) ↔ (IsPlan x f frames × Describes x f frames t)
+  -- 01: 12 "not the form above", 13 "H not the request's, or f not plausible", 14 "not a plan": which number, exactly
+  pub check-answers : (request bytes : List ℕ) → Bytes bytes → CheckExact request bytes
+  -- 01: "Rewriting takes a request and a table, checks them, and writes the plan it read."
+  pub rewriting-keeps-bytes : OfWithin (λ request x. (bytes : List ℕ) (t : Table) → decode bytes ≡ table t → Accepted x t → Bytes bytes
+      → (out : List ℕ) → length bytes ≤ length out → (outcomeAnswer (rewritten request bytes) out ≡ record { refusal = 0; length = length bytes })
+      × (outcomeBuffer (rewritten request bytes) out ≡ bytes ++ drop (length bytes) out))
+  pub plan-read-back : OfWithin (λ request x. (f : ℕ) (frames : List ℕ) → IsPlan x f frames → (t : Table) → Describes x f frames t
+      → checked (cycleOf request) (decode (encode t)) ≡ accepted f frames)
+  pub planning-read-back : (allowance : ℕ) (request out : List ℕ) → searchedAnswer allowance request out .refusal ≡ 0
+      → ReadsBack request (handedBytes allowance request out)
+  -- 01: "P1 to P12 are proved as one table, with a single theorem over the definitions."; for P1 "it prints", and for P7 and P2
+  pub bench-sheet : SheetHolds × Listed
+  -- 01: "prints `refused N`, or a line `frame f cycle H rows F` and a line for each row": no listing of `plan` or `fly` is cut
+  pub listings-whole : (request : List ℕ) → NeverCut 4096 (listing request) × NeverCut 65536 (flightListing request)
+
+pub demand-2 : Demand2
+demand-2 = record {
+  request-keeps-form = readable-kept;
+  request-read-back = read-encode;
+  request-bytes-are = λ b ts ps g e are. (encode-read b ts ps g e are, cut-short b ts ps g e are, cut-before-third b ts ps g e are, too-long b ts ps g e are);
+  request-numbers = (unreadable-number, no-cycle-number);
+  gcd-is = λ a b d. (gcd-dvd a b, dvd-gcd d a b, gcd-greatest d a b, gcd-zero a, gcd-comm a b);
+  lcm-is = λ a b m. (dvd-lcm-left a b, dvd-lcm-right a b, lcm-dvd a b m, lcm-least a b m);
+  hyperperiod-is-least = hyperperiod-least;
+  cycle-keeps = cycle-within;
+  jobs-in-order = planned-in-order;
+  table-read-back = (decode-encode, encode-decode);
+  check-accepts = accepts-described;
+  check-answers = check-exact;
+  rewriting-keeps-bytes = same-bytes;
+  plan-read-back = reads-back;
+  planning-read-back = planned-reads-back;
+  bench-sheet = (sheet-holds, listed);
+  listings-whole = λ request. ((listing-short request, listing-whole request), (flight-short request, flight-whole request));
+}
+
+-- DEMAND 3: a table exactly when there is a plan, and the whole flight.
+pub record Demand3 : Type 0 where
+  -- 01: "This is necessary for a plan and not enough for one, even by windows alone, once phases count."
+  pub plausible-is-necessary : (x : Instance) → Good x → Needed phaseRule x
+  -- 01: "The table is that of the first length with a plan, and of its plans the one whose job is in the earlier frame at the first .."
+  pub choice-is-right : (x : Instance) → Good x → RightChoice x (choose x) × ((f : ℕ) (frames : List ℕ) → (choose x ≡ chosen f frames) ↔ IsChosen x f frames)
+      × (((f : ℕ) × (frames : List ℕ) × (choose x ≡ chosen f frames)) ↔ SomePlan x)
+  -- R-7: "Handing out a table exactly when a plan exists holds if the allowance reaches the full search's tries."; which number otherwise, 23 among them
+  pub planning-answers : (allowance : ℕ) (request out : List ℕ) (x : Instance) → Within request x → Handed x allowance request out
+  -- 01: "A refusal returns its number, length 0 or no entries, the state unchanged and the buffer untouched.": of a request outside the limits
+  pub planning-refuses : (allowance : ℕ) (request out : List ℕ) (number : ℕ) → cycleOf request ≡ noCycle number
+      → (searchedAnswer allowance request out ≡ record { refusal = number; length = 0; tries = 0 }) × bufferIs allowance request out out
+  -- 01: "The claim is about the list as a whole: one theorem, not a law for each call."
+  pub whole-flight : OfCalls (λ x bytes t calls actual. KeepToC x (framesFlown bytes calls) actual → Flight x bytes t calls actual)
+  -- 01: "Every next-frame call gets the one accepted table.": of what the public calls accept and hand out; and through C
+  pub accepted-flies : OfAccepted Flies
+  pub accepted-flies-in-c : CheckedInC × PlannedInC
+
+pub demand-3 : Demand3
+demand-3 = record {
+  plausible-is-necessary = plausible-needed;
+  choice-is-right = λ x good. (choose-right x good, chosen-exactly x good, some-chosen-exactly x good);
+  planning-answers = table-handed;
+  planning-refuses = not-planned;
+  whole-flight = flight;
+  accepted-flies = (checked-flight, planned-flight);
+  accepted-flies-in-c = (flight-in-c, planned-in-c);
+}
+
+-- 02. R-3: "whenever a job is tested in a frame, each kept load equals the sum of C + g over the jobs then placed in its row": what the test asks.
+pub tested-with-kept-loads : {M : Type 1} → Tested M
+tested-with-kept-loads = tested-met
+
+pub record Requests : Type 0 where
+  -- R-1: "In capacity, and in f ≥ C, each C counts as C + g."; "It refuses with 17, after 5 and before 6": computed; the rest stands in Flight
+  pub silent-ticks : map (λ (l : SilentLine). programOutcome (l .bytes)) silent-sheet ≡ map (λ (l : SilentLine). l .comes-to) silent-sheet
+  -- R-2: "a task's count is the number of its accepted reports above C, or 65,535 if there were more."
+  pub overruns-are-counted : (i : ℕ) (bytes : List ℕ) → i < 16 → (calls : List Call)
+      → getD (final (dispatch bytes) freshState calls .counts) i 0 ≡ min 65535 (overruns i calls)
+  -- R-2: "A report raises only its own task's count."; next-frame changes none
+  pub report-raises-its-own : (over : Bool) (task : ℕ) (counts : List ℕ) (i : ℕ) → i < length counts → getD counts i 0 ≤ 65535
+      → getD (raisedAt over task counts) i 0 ≡ min 65535 (getD counts i 0 + bit (both (eqb task i) over))
+  pub frame-raises-none : (d : Decoded) (s : State) → nextFrame d s .state .counts ≡ s .counts
+  -- R-3: "the capacity test uses that load, f and the job's own C + g alone": its answers come to a plan's capacity rule
+  pub tested-by-load : (x : Instance) (f : ℕ) (frames load : List ℕ) (k : ℕ) → 0 < rowsAt x f → LoadsKept (problemAt x f) frames load → Capacity x f frames
+      → hasRoom (getD load (k % rowsAt x f) 0) f (getD (costs x) (length frames) 0) ≡ true → Capacity x f (frames ++ (k ∷ []))
+  pub capacity-is-by-loads : (x : Instance) (f : ℕ) (frames load : List ℕ) → LoadsKept (problemAt x f) frames load
+      → Capacity x f frames ↔ ((r : ℕ) → r < rowsAt x f → getD load r 0 ≤ f)
+  -- R-4: "The joined file always reads as valid, and its tasks and pairs are those of the two and no others. Bytes behind .. keep their content."
+  pub joining-is-valid : (first second out : List ℕ) → let r = joined (reading first) (reading second) in let end = requestAnswer r out .length in
+      requestAnswer r out .refusal ≡ 0 → Joins first second (fileOf r out) × (drop end (requestBuffer r out) ≡ drop end out)
+  -- R-4: "A short buffer gives 11 last.": 164 bytes never are; "18 more than 16 tasks, then 19 more than 16 pairs, then 20 differing g"
+  pub joining-has-room : (first second out : List ℕ) → 164 ≤ length out → let r = joined (reading first) (reading second) in
+      (requestAnswer r out .refusal ≡ ownNumber r) × (requestAnswer r out .refusal ≢ 11)
+  pub joining-refuses : (first second : List ℕ) (number : ℕ) → joined (reading first) (reading second) ≡ unreadable number → JoinNumber number
+  -- R-4, three boards: joined from the left or from the right
+  pub joining-three : (a b c : Reading) (tasks : List Task) (pairs : List Pair) (g : ℕ)
+      → (joined (joined a b) c ≡ readable tasks pairs g) ↔ (joined a (joined b c) ≡ readable tasks pairs g)
+  -- R-5: "For an f that divides H, a task passes exactly if each of its windows holds a whole frame."
+  pub frame-test-is-exact : (x : Instance) → Good x → (f : ℕ) → f ∣ x .h → (i : ℕ) → i < length (x .tasks)
+      → (phaseRule f (taskAt x i) ≡ true) ↔ WindowsHold x f i
+  -- R-5: "(3,10,5,2) moves from 10 to 9." "No table handed out changes."; in the check 14 moves to 13
+  pub planning-moved : (request : List ℕ) → (outcomeBy phaseRule request ≡ outcome request)
+      × ((outcomeBy commonRule request ≡ outcome request) ⊎ ((outcomeBy commonRule request ≡ refusal 10) × (outcome request ≡ refusal 9)))
+  pub check-moved : (request bytes : List ℕ)
+      → Moves (checkedBy (plausibleBy commonRule) (cycleOf request) (decode bytes)) (checked (cycleOf request) (decode bytes))
+  -- R-6: "answer the earliest frame k with k·f ≥ s, (k+1)·f ≤ e and enough unused time in its row for L + g."
+  pub one-off-answers : (request bytes : List ℕ) (L s e : ℕ) → Bytes bytes → OneOffExact request bytes L s e
+  -- R-6: "Ground wants to send a single extra frame of payload data.": in flight it is sent in time, and no entry moves
+  pub one-off-is-sent : OneOffSent
+  -- R-7: "one try is one job tested in one frame of its window, passed over or not"
+  pub frames-of-window : OfWithin (λ request x. (f : ℕ) → plausible x f ≡ true → (y k : ℕ) → y < length (x .jobs)
+      → ((windowStart (problemAt x f) y ≤ k) × (k < windowStart (problemAt x f) y + frameCount (problemAt x f) y)) ↔ InWindow f (jobAt x y .release) (jobAt x y .due) k)
+  -- R-7: "It passes over a frame whose row would exceed f or that breaks a pair with a job already placed"
+  pub frame-passed-over : OfWithin (λ request x. (f : ℕ) (p : List ℕ) (k : ℕ) → length p < length (x .jobs)
+      → (fits (problemAt x f) p k ≡ true) ↔ MayStand x f p k)
+  -- R-7: "The count is 0 with 1 to 9 and 17, the allowance with 23, and otherwise the full search's tries."
+  pub tries-are-counted : (allowance : ℕ) (request out : List ℕ) (x : Instance) → Within request x → Counted x allowance request out
+  -- R-7: "A larger allowance never turns a table, 9 or 10 into another answer."
+  pub larger-allowance-keeps : (a b : ℕ) → a ≤ b → (request out : List ℕ) → (numberIs a request out 23 → ⊥)
+      → (searchedAnswer b request out ≡ searchedAnswer a request out) × bufferIs b request out (outcomeBuffer (outcomeWithin a request) out)
+  -- R-8: "the starts of two successive jobs of one task are at least T − (D − C) and at most T + (D − C) ticks apart, for every list of calls"
+  pub readings-spaced : OfCalls (λ x bytes t calls actual. KeepToC x (framesFlown bytes calls) actual → Spacing x bytes t calls actual) × OfAccepted Spaced
+  -- R-8: "two successive jobs of one task"; "while transfers keep to their C": of what was served before the later start; neither bound can be better
+  pub successive-is : OfWithin (λ request x. (i j q : ℕ) → IsJob (x .tasks) (x .h) i j → SuccessiveMeans x i j q)
+  pub spaced-while : OfCalls ApartWhile × Reached
+  -- R-9: "writes the request with task i replaced by tasks i and i + 1 of lengths u and C − u and the same T, D and P": each number, place by place
+  pub cutting-answers : (request : List ℕ) (i u : ℕ) (out : List ℕ) → CutExact request i u out
+  pub cutting-has-room : (request : List ℕ) (i u : ℕ) (out : List ℕ) → 164 ≤ length out → requestAnswer (cut i u (reading request)) out .refusal ≡ 11 → ⊥
+  -- R-9: "A table for the cut request runs both pieces, in order, inside the old window."; "P2 cut at 4 gives P3."
+  pub pieces-run-both : CheckedPieces × PlannedPieces × cut-example.Examples
+  -- R-10: "It refuses with 26 a draft whose frame length is not plausible, .., then with 27 .., then with 28 ..": each answer of each call, exactly
+  pub drafts-answer : StartTheorem × LiftTheorem × PutTheorem × WriteTheorem
+  -- R-10: "After every list of them on a started draft, all under the request it started with, each stored load equals its row's sum. A draft with no job
+  -- lifted writes the table of exactly its frame length and frames, which the check accepts"; what a sound draft, a row's sum and a plan held are
+  pub drafts-keep : MovesTheorem × SameBytesTheorem × SoundTheorem × SumTheorem × PlanTheorem
+  -- R-11: "The four counts add up to T, and each is the number of phases with that answer. An unknown task gives 16, after 8."
+  pub phases-answer : ((allowance : ℕ) (request : List ℕ) (i : ℕ) → PhasesExact allowance request i) × ((test : ℕ → Bool) (n : ℕ) → HowManyMeans test n)
+      × OwnPhaseTheorem × LargerTheorem
+  -- R-12: "1: status, bit 0 frame due, bit 1 overrun, bit 2 frame missed": each register after every list of register calls
+  -- "The timing guarantee holds for every list of calls in which run is set before the first timer event and stays set, .."
+  pub timer-tells : RegistersTold × TimerFlight
+  -- R-13: "For every list of served frames and every pattern of losses, toggles done equal commands answered, or exceed them by one .."
+  -- "It refuses with 30, after the check's numbers and before 15, when a, b is no pair of the request."; over one accepted table the frames are the flight's
+  pub link-holds : LinkHolds × LinkExact × LinkFlight
+  -- R-14: "the first ones are filled in planning order, one for each job; the answer holds their number, and records behind them keep their content."
+  -- "prints `refused N` or the records one a line, .. then `busy B`, where B is the sum of C over the printed jobs"
+  pub timeline-tells : TimelineExact × TimelinePrinted × ((request : List ℕ) → NeverCut 4096 (timelineText request))
+
+pub requests : Requests
+requests = record {
+  silent-ticks = silent-sheet-holds;
+  overruns-are-counted = overruns-counted;
+  report-raises-its-own = raised-only;
+  frame-raises-none = frame-counts;
+  tested-by-load = capacity-put;
+  capacity-is-by-loads = capacity-by-loads;
+  joining-is-valid = join-valid;
+  joining-has-room = join-enough;
+  joining-refuses = join-number;
+  joining-three = λ a b c tasks pairs g. (joined-right a b c tasks pairs g, joined-left a b c tasks pairs g);
+  frame-test-is-exact = phase-exact;
+  planning-moved = λ request. (outcome-now request, outcome-moved request);
+  check-moved = verdict-moved;
+  one-off-answers = one-off-exact;
+  one-off-is-sent = one-off-sent;
+  frames-of-window = frames-walked;
+  frame-passed-over = passed-over;
+  tries-are-counted = tries-counted;
+  larger-allowance-keeps = larger-allowance;
+  readings-spaced = (spacing, (checked-spacing, planned-spacing));
+  successive-is = successive-means;
+  spaced-while = (spacing-while, reached);
+  cutting-answers = cut-exact;
+  cutting-has-room = cut-enough;
+  pieces-run-both = (pieces-run, planned-pieces-run, cut-example.examples);
+  drafts-answer = (start-theorem, lift-theorem, put-theorem, write-theorem);
+  drafts-keep = (moves-theorem, draft-start.same-bytes, sound-theorem, sum-theorem, plan-theorem);
+  phases-answer = (phases-exact, how-many-means, own-phase-theorem, larger);
+  timer-tells = (registers-told, timer-flight);
+  link-holds = (link-law, link-exact, link-flies);
+  timeline-tells = (timeline-exact, timeline-printed, λ request. (timeline-short request, timeline-whole request));
+}
+
+-- What came after.
+pub record After : Type 0 where
+  -- Deciding, with no allowance: a table exactly when a plan exists, the chosen one, and never 23; a request outside the limits is refused with its own number.
+  pub deciding-answers : (request out : List ℕ) (x : Instance) → Within request x → decider.Decided x request out
+  pub deciding-refuses : (request out : List ℕ) (number : ℕ) → cycleOf request ≡ noCycle number
+      → (outcomeAnswer (outcome request) out ≡ record { refusal = number; length = 0 }) × decider.bufferIs request out out
+  -- Deciding answers as planning does wherever planning answers anything but 23, so with every allowance that reaches the full search's tries; and so
+  -- from C. What is handed out passes bus_check.
+  pub deciding-is-planning : (allowance : ℕ) (request out : List ℕ) → (numberIs allowance request out 23 → ⊥) → decider.AsPlan allowance request out
+  pub deciding-is-full-planning : (allowance : ℕ) (request out : List ℕ) → requestTries request ≤ allowance → decider.AsPlan allowance request out
+  pub deciding-in-c : AnsweredSame × ReachedSame × PlanPasses × DecidePasses
+  -- From C: bytes are read as they were written, both ways; and a call changes none but those named.
+  pub bytes-read-back : StateRoundTrip × DraftRoundTrip × TimerRoundTrip × HeaterRoundTrip × TriesBack × PhasesBack × RecordsBack
+  pub bytes-changed : FrameChanges × ReportChanges × DraftsRead
+
+pub after : After
+after = record {
+  deciding-answers = deciding.decided;
+  deciding-refuses = deciding.not-decided;
+  deciding-is-planning = deciding.as-plan;
+  deciding-is-full-planning = deciding.as-reached;
+  deciding-in-c = (same-answered, same-reached, plan-passes, decide-passes);
+  bytes-read-back = (state-round-trip, draft-round-trip, timer-round-trip, heater-round-trip, tries-back, phases-told, records-back);
+  bytes-changed = (frame-changes, report-changes, drafts-read);
+}

@@ -1,0 +1,1 @@
+// Every public promise, stated once: claims, in specs/. No function.

@@ -1,2 +1,0 @@
--- The pruned search, in arrays.
-pub mod Arrays

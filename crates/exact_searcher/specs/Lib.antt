@@ -1,0 +1,3 @@
+-- The pruned search, in arrays.
+-- How answers stand in types:
+pub mod Arrays

@@ -1,0 +1,8 @@
+-- The heater link in flight.
+-- To be believed:
+pub mod Flown
+-- Theorems:
+pub mod FlownLaws
+-- Laws:
+-- computed:
+pub mod Examples

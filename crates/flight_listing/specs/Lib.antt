@@ -1,3 +1,0 @@
-pub mod Flown
-pub mod FlownLaws
-pub mod ShortLaws

@@ -1,0 +1,5 @@
+-- The one-off transfer in flight.
+-- To be believed:
+pub mod Sent
+-- Theorems:
+pub mod SentLaws

@@ -1,0 +1,6 @@
+-- To be believed:
+pub mod Flown
+-- Theorems:
+pub mod ShortLaws
+-- Laws:
+pub mod FlownLaws

@@ -1,5 +1,0 @@
-pub mod Listing
-pub mod Answers
-pub mod ListingLaws
-pub mod HandedLaws
-pub mod ShortLaws

@@ -1,3 +1,0 @@
--- The one-off transfer in flight.
-pub mod Sent
-pub mod SentLaws

@@ -1,0 +1,2 @@
+-- How answers stand in types:
+pub mod Arrays
