@@ -13,5 +13,6 @@ pub mod Accepts
 pub mod PlaceLaws
 pub mod WalkLaws
 pub mod LoopLaws
+pub mod NameLaws
 pub mod ReadLaws
 pub mod Verdicts

@@ -1,4 +1,4 @@
--- What a test says of the job at place y in the arrays, of which the first n places are used; and the frames read, with one job more.
+-- Whether the job at place y has a frame, and the frames read, with one job more.
 use Prim.Native.Nat.{ℕ, _+_, _<_}
 use mathlib.Core.Path.{_≡_, _∙_}
 use mathlib.Core.Bool.{Bool}
@@ -6,23 +6,14 @@ use mathlib.Core.List.{List, [], _∷_, _++_, map, map-append}
 use native.Mathlib.Numerals.{add-one}
 use native.Mathlib.Omega.{arith}
 use lib.ListN.{length, getD, set, length-map}
-use lib.Dec.{eqb}
-use Rattle.cursor.specs.Choice.{both}
 use Rattle.cursor.specs.Padded.{padded, set-padded, firsts, firsts-length, getD-firsts}
 use Rattle.cycle.specs.Planned.{noJob}
 use Rattle.cycle.specs.declared.Job.{Job}
-use Rattle.model.specs.Named.{isJob}
-use Rattle.checker.specs.Checked.{placeIn, frameFor, isFound, frameAtPlace, frameIn, framesIn, isPlaced, isThere}
+use Rattle.checker.specs.Checked.{placeIn, frameFor, isFound, frameAtPlace, frameIn, framesIn, isPlaced}
 use Rattle.checker.specs.Answers.{rowsOf}
 use Rattle.checker.specs.WalkLaws.{rows-count}
 use Rattle.checker.specs.declared.walk.Place.{Place}
 use Rattle.checker.specs.declared.walk.Place.the-variants.{At}
-
-module _ (jobs : List Job) (frames : List ℕ) (n y : ℕ) (h : y < n) where
-  pub there-at : (task number k : ℕ) → isThere (firsts n noJob jobs) (firsts n 0 frames) task number k y
-      ≡ both (isJob task number (getD jobs y noJob)) (eqb (getD frames y 0) k)
-  unfolding isThere
-  there-at task number k = rw (getD-firsts noJob jobs n y h, getD-firsts 0 frames n y h)
 
 -- the frames of the first y jobs
 module _ (s : List ℕ) (height : ℕ) (jobs : List Job) where

@@ -20,12 +20,12 @@ use Rattle.table.specs.Inverse.{decode-wellformed}
 use Rattle.table.specs.declared.Sizes.{Sizes}
 use Rattle.model.specs.Plausible.{plausible}
 use Rattle.model.specs.Answers.{instanceOf}
-use Rattle.model.specs.Within.{Taken}
 use Rattle.plan_rules.specs.Every.{every}
 use Rattle.plan_rules.specs.Rules.{rulesRight}
 use Rattle.checker.specs.Checked.{framesIn, frameIn, isPlaced, rowsKept, entriesRight, Verdict, accepted, refusal, planOf, judgedBy, judged, checkedBy, checked, numberOf}
-use Rattle.checker.specs.Answers.{framesAnswer, readAnswer, rowsOf}
+use Rattle.checker.specs.Answers.{framesAnswer, readAnswer, foundAnswer, besideIt, cycleIn, rowsOf, namesOf, named}
 use Rattle.checker.specs.WalkLaws.{rows-count, rows-in-bytes}
+use Rattle.checker.specs.NameLaws.{same-rows}
 use Rattle.checker.specs.declared.walk.Frames.{Frames}
 
 -- A cycle in its arrays.
@@ -85,22 +85,29 @@ module _ (c : Cycle) (few-jobs : c .count ≤ 128) where
         frames-kept : firsts (min (c .count) 128) 0 (read .frames) ≡ framesOf
         frames-kept = ap (λ (n : ℕ). firsts n 0 (read .frames)) count-is ∙ frames-first
 
-        pub entry-wrong : entriesKept (firsts (c .count) 0 (read .frames)) ≡ false
-            → planOf (instanceOf c) f (rowsOf s height) ≡ refusal 14
-        entry-wrong e = plan-is ∙ rw (← all-is, all, rw frames-first at e)
+        module _ (names : List (List ℕ)) (names-are : names ≡ namesOf jobsOf) where
+          -- the entries by the names of the jobs
+          abbrev pub entriesNamed : Bool
+          entriesNamed = rowsKept (named names (c .count)) (firsts (c .count) 0 (read .frames)) (c .count) height 0 (rowsOf s height)
 
-        pub rule-broken : entriesKept (firsts (c .count) 0 (read .frames)) ≡ true
-            → rulesRight (instanceOf c) height f (firsts (min (c .count) 128) 0 (read .frames)) ≡ false
-            → planOf (instanceOf c) f (rowsOf s height) ≡ refusal 14
-        rule-broken e q = plan-is ∙ rw (← all-is, all, rw frames-first at e, rw frames-kept at q)
+          entries-named : entriesNamed ≡ entriesKept framesOf
+          entries-named = rw (names-are, frames-first) (same-rows jobsOf (c .count) jobs-count framesOf height 0 (rowsOf s height))
 
-        pub plan-read : entriesKept (firsts (c .count) 0 (read .frames)) ≡ true
-            → rulesRight (instanceOf c) height f (firsts (min (c .count) 128) 0 (read .frames)) ≡ true
-            → record { refusal = 0; cycle = c; f = f; frames = read .frames } ≡ readAnswer c (planOf (instanceOf c) f (rowsOf s height))
-        plan-read e q =
-            let p : planOf (instanceOf c) f (rowsOf s height) ≡ accepted f framesOf
-            = plan-is ∙ rw (← all-is, all, rw frames-first at e, rw frames-kept at q) in
-            rw (p, places-are)
+          pub entry-wrong : entriesNamed ≡ false → planOf (instanceOf c) f (rowsOf s height) ≡ refusal 14
+          entry-wrong e = plan-is ∙ rw (← all-is, all, ← entries-named, e)
+
+          pub rule-broken : entriesNamed ≡ true
+              → rulesRight (instanceOf c) height f (firsts (min (c .count) 128) 0 (read .frames)) ≡ false
+              → planOf (instanceOf c) f (rowsOf s height) ≡ refusal 14
+          rule-broken e q = plan-is ∙ rw (← all-is, all, ← entries-named, e, rw frames-kept at q)
+
+          pub plan-read : entriesNamed ≡ true
+              → rulesRight (instanceOf c) height f (firsts (min (c .count) 128) 0 (read .frames)) ≡ true
+              → record { refusal = 0; f = f; frames = read .frames } ≡ foundAnswer (planOf (instanceOf c) f (rowsOf s height))
+          plan-read e q =
+              let p : planOf (instanceOf c) f (rowsOf s height) ≡ accepted f framesOf
+              = plan-is ∙ rw (← all-is, all, ← entries-named, e, rw frames-kept at q) in
+              rw (p, places-are)
 
 -- The table has the form, and these sizes.
 pub record Formed (bytes : List ℕ) (z : Sizes) : Type 0 where
@@ -133,22 +140,21 @@ module _ (bytes : List ℕ) (z : Sizes) (read : z ≡ sizesOf (decode bytes)) wh
       go (table t) e = absurd (ne (ap (λ r. r .refusal) e))
       go malformed e = refl
 
--- it is within the limits, and the bytes are no table
-pub table-unread : (request bytes : List ℕ) (c : Cycle) → Taken request c → decode bytes ≡ malformed
-    → checked (cycleOf request) (decode bytes) ≡ refusal 12
+-- the bytes are no table
+pub table-unread : (bytes : List ℕ) (c : Cycle) → decode bytes ≡ malformed → checked (cycleIn c) (decode bytes) ≡ refusal 12
 unfolding checkedBy
-table-unread request bytes c w e = rw (w .within, e)
+table-unread bytes c e = rw e
 
 -- or they are one
-module _ (request bytes : List ℕ) (c : Cycle) (z : Sizes) (w : Taken request c) (o : Formed bytes z) where
+module _ (bytes : List ℕ) (c : Cycle) (z : Sizes) (o : Formed bytes z) where
   pub height-few : z .height ≤ 256
   height-few = omega (arith, o .height-is, decode-wellformed bytes (o .t) (o .is) .few-rows)
 
-  judged-is : checked (cycleOf request) (decode bytes) ≡ judged (instanceOf c) (o .t)
+  judged-is : checked (cycleIn c) (decode bytes) ≡ judged (instanceOf c) (o .t)
   unfolding checkedBy
-  judged-is = rw (w .within, o .is)
+  judged-is = rw (o .is)
 
-  pub other-cycle : (z .h ≡ c .h → ⊥) → checked (cycleOf request) (decode bytes) ≡ refusal 13
+  pub other-cycle : (z .h ≡ c .h → ⊥) → checked (cycleIn c) (decode bytes) ≡ refusal 13
   unfolding judgedBy
   other-cycle ne = judged-is ∙ rw (ne-eqb (o .t .h) (c .h) (λ q. ne (o .h-is ∙ q)))
 
@@ -156,16 +162,25 @@ module _ (request bytes : List ℕ) (c : Cycle) (z : Sizes) (w : Taken request c
     same-h : eqb (o .t .h) (instanceOf c .h) ≡ true
     same-h = eq-eqb (o .t .h) (c .h) (sym (o .h-is) ∙ same)
 
-    pub not-plausible : plausible (instanceOf c) (z .f) ≡ false → checked (cycleOf request) (decode bytes) ≡ refusal 13
+    pub not-plausible : plausible (instanceOf c) (z .f) ≡ false → checked (cycleIn c) (decode bytes) ≡ refusal 13
     unfolding judgedBy
     not-plausible e = judged-is ∙ rw (same-h, rw (o .f-is) at e)
 
     pub rows-judged : Bytes bytes → plausible (instanceOf c) (z .f) ≡ true
-        → checked (cycleOf request) (decode bytes) ≡ planOf (instanceOf c) (z .f) (rowsOf bytes (z .height))
+        → checked (cycleIn c) (decode bytes) ≡ planOf (instanceOf c) (z .f) (rowsOf bytes (z .height))
     unfolding judgedBy
     rows-judged k e = judged-is ∙ rw (same-h, rw (o .f-is) at e, o .f-is, o .height-is, rows-in-bytes bytes (o .t) k (o .is))
 
+pub found-number : (v : Verdict) → foundAnswer v .refusal ≡ numberOf v
+found-number (accepted f frames) = refl
+found-number (refusal number) = refl
+
 module _ (c : Cycle) where
+  -- what was found, with the cycle beside it
+  pub found-beside : (v : Verdict) → besideIt c (foundAnswer v) ≡ readAnswer c v
+  found-beside (accepted f frames) = refl
+  found-beside (refusal number) = refl
+
   pub answer-number : (v : Verdict) → readAnswer c v .refusal ≡ numberOf v
   answer-number (accepted f frames) = refl
   answer-number (refusal number) = refl

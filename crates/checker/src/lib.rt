@@ -8,8 +8,9 @@ ghost use Rattle.cycle.specs.Cycle.{cycleOf};
 ghost use Rattle.cycle.specs.Answers.{answered};
 ghost use Rattle.table.specs.Table.{decode};
 ghost use Rattle.model.specs.Answers.{instanceOf};
+ghost use Rattle.model.specs.Within.{InLimits};
 ghost use Rattle.checker.specs.Checked.{planOf, checked, checkNumber, refusal};
-ghost use Rattle.checker.specs.Answers.{readAnswer, rowsOf};
+ghost use Rattle.checker.specs.Answers.{readAnswer, foundAnswer, besideIt, cycleIn, rowsOf};
 
 // What the check read: the request's cycle, and the frame length and the jobs' frames in planning order; or the number of the refusal, and zeros
 // behind the cycle.
@@ -20,39 +21,77 @@ pub struct Read {
     pub frames: [u16; 128],
 }
 
-fn refused(number: u8, cycle: Cycle) -> Read
-    ensures { λ r. ⌜ r ≡ readAnswer cycle (refusal number) ⌝ }
+// What the check finds in a table: the frame length and the jobs' frames in planning order; or the number of the refusal, and zeros. The cycle
+// is not in it, so that it is not copied.
+struct Found {
+    refusal: u8,
+    f: u16,
+    frames: [u16; 128],
+}
+
+fn refused(number: u8) -> Found
+    ensures { λ r. ⌜ r ≡ foundAnswer (refusal number) ⌝ }
 {
-    Read {
+    Found {
         refusal: number,
-        cycle,
         f: 0,
         frames: [0; 128],
     }
 }
 
 // The plan that the table's rows describe, or 14.
-fn read_rows(cycle: Cycle, table: &[u8], height: u16, f: u16) -> Read
+fn read_rows(cycle: Cycle, table: &[u8], height: u16, f: u16) -> Found
     requires { ⌜ (cycle .count ≤ 128) × (height ≤ 256) ⌝ }
-    ensures { λ r. ⌜ r ≡ readAnswer cycle (planOf (instanceOf cycle) f (rowsOf (now (table .entry)) height)) ⌝ }
+    ensures { λ r. ⌜ r ≡ foundAnswer (planOf (instanceOf cycle) f (rowsOf (now (table .entry)) height)) ⌝ }
 {
     let jobs = cycle.jobs;
     let count = cycle.count;
     let read = walk::read_frames(table, height, jobs, count);
     if !read.all {
-        return refused(14, cycle);
+        return refused(14);
     }
     let frames = read.frames;
-    if !walk::rows_kept(table, height, jobs, &frames, count) {
-        return refused(14, cycle);
+    let names = walk::names(jobs, count);
+    if !walk::rows_kept(table, height, &names, &frames, count) {
+        return refused(14);
     }
     if !plan_rules::rules_kept(cycle, &frames, height, f) {
-        return refused(14, cycle);
+        return refused(14);
     }
-    Read {
+    Found {
         refusal: 0,
-        cycle,
         f,
+        frames,
+    }
+}
+
+// The plan of the cycle that the table describes; or the number, from 12 to 14, that the table is refused with.
+fn judge(cycle: Cycle, table: &[u8]) -> Found
+    requires { ⌜ InLimits cycle ⌝ }
+    ensures { λ r. ⌜ r ≡ foundAnswer (checked (cycleIn cycle) (decode (now (table .entry)))) ⌝ }
+{
+    let sizes = table::read::sizes(table);
+    if sizes.refusal != 0 {
+        return refused(12);
+    }
+    if sizes.h != cycle.h {
+        return refused(13);
+    }
+    if !model::plausible(cycle, sizes.f) {
+        return refused(13);
+    }
+    read_rows(cycle, table, sizes.height, sizes.f)
+}
+
+// What was found, with the cycle beside it.
+fn beside(cycle: Cycle, found: Found) -> Read
+    ensures { λ r. ⌜ r ≡ besideIt cycle found ⌝ }
+{
+    let frames = found.frames;
+    Read {
+        refusal: found.refusal,
+        cycle,
+        f: found.f,
         frames,
     }
 }
@@ -63,25 +102,19 @@ pub fn read_plan(request: &[u8], table: &[u8]) -> Read
 {
     let cycle = cycle::read(request);
     if cycle.refusal != 0 {
-        return refused(cycle.refusal, cycle);
+        return beside(cycle, refused(cycle.refusal));
     }
-    let sizes = table::read::sizes(table);
-    if sizes.refusal != 0 {
-        return refused(12, cycle);
-    }
-    if sizes.h != cycle.h {
-        return refused(13, cycle);
-    }
-    if !model::plausible(cycle, sizes.f) {
-        return refused(13, cycle);
-    }
-    read_rows(cycle, table, sizes.height, sizes.f)
+    beside(cycle, judge(cycle, table))
 }
 
 // 0 where the table describes a plan of the request; or the number.
 pub fn check(request: &[u8], table: &[u8]) -> u8
     ensures { λ r. ⌜ r ≡ checkNumber (now (request .entry)) (now (table .entry)) ⌝ }
 {
-    let read = read_plan(request, table);
-    read.refusal
+    let cycle = cycle::read(request);
+    if cycle.refusal != 0 {
+        return cycle.refusal;
+    }
+    let found = judge(cycle, table);
+    found.refusal
 }

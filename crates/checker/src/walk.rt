@@ -9,7 +9,7 @@ ghost use Rattle.cursor.specs.Padded.{firsts};
 ghost use Rattle.cycle.specs.Planned.{noJob};
 ghost use Rattle.plan_rules.specs.Every.{every, some};
 ghost use Rattle.checker.specs.Checked.{placeIn, frameFor, framesIn, isPlaced, isThere, rowKept, rowsKept};
-ghost use Rattle.checker.specs.Answers.{framesAnswer, entriesIn, rowsOf};
+ghost use Rattle.checker.specs.Answers.{framesAnswer, entriesIn, rowsOf, namesOf, named};
 
 // The row of a job's entry, and its carry.
 enum Place {
@@ -91,9 +91,26 @@ pub(super) fn read_frames(table: &[u8], height: u16, jobs: [Job; 128], count: us
     Frames { all: true, frames }
 }
 
+// The names of the jobs: the task of each, and its number.
+pub(super) fn names(jobs: [Job; 128], count: usize) -> [[u8; 128]; 2]
+    requires { ⌜ count ≤ 128 ⌝ }
+    ensures { λ r. ⌜ r ≡ namesOf (firsts count noJob jobs) ⌝ }
+{
+    let mut tasks = [0u8; 128];
+    let mut numbers = [0u8; 128];
+    let mut y: usize = 0;
+    while y < count {
+        let job = jobs[y];
+        tasks[y] = job.task;
+        numbers[y] = job.number;
+        y += 1;
+    }
+    [tasks, numbers]
+}
+
 // Whether some job is the one named and stands in frame k.
 fn is_there(
-    jobs: [Job; 128],
+    names: &[[u8; 128]; 2],
     frames: &[u16; 128],
     count: usize,
     task: u8,
@@ -101,14 +118,15 @@ fn is_there(
     k: u16,
 ) -> bool
     requires { ⌜ count ≤ 128 ⌝ }
-    ensures { λ r. ⌜ r ≡ some count (isThere (firsts count noJob jobs) (firsts count 0 (now (frames .entry))) task number k) ⌝ }
+    ensures { λ r. ⌜ r ≡ some count (isThere (named (now (names .entry)) count) (firsts count 0 (now (frames .entry))) task number k) ⌝ }
 {
     let mut y: usize = 0;
     while y < count {
-        let job = jobs[y];
-        if plan_rules::is_job(job, task, number) {
-            if frames[y] == k {
-                return true;
+        if names[0][y] == task {
+            if names[1][y] == number {
+                if frames[y] == k {
+                    return true;
+                }
             }
         }
         y += 1;
@@ -123,12 +141,12 @@ fn row_kept(
     n: u8,
     height: u16,
     row: u16,
-    jobs: [Job; 128],
+    names: &[[u8; 128]; 2],
     frames: &[u16; 128],
     count: usize,
 ) -> bool
     requires { ⌜ (first ≤ 200000) × (row < height) × (height ≤ 256) × (count ≤ 128) ⌝ }
-    ensures { λ r. ⌜ r ≡ rowKept (firsts count noJob jobs) (firsts count 0 (now (frames .entry))) count height row (entriesIn (now (table .entry)) n first) ⌝ }
+    ensures { λ r. ⌜ r ≡ rowKept (named (now (names .entry)) count) (firsts count 0 (now (frames .entry))) count height row (entriesIn (now (table .entry)) n first) ⌝ }
 {
     let mut at = first;
     let mut e: u8 = 0;
@@ -136,7 +154,7 @@ fn row_kept(
         let task = byte_or_zero(table, at);
         let byte = byte_or_zero(table, at + 1);
         let k = frame(height, row, table::job::is_carried(byte));
-        if !is_there(jobs, frames, count, task, table::job::number(byte), k) {
+        if !is_there(names, frames, count, task, table::job::number(byte), k) {
             return false;
         }
         at += 2;
@@ -145,22 +163,23 @@ fn row_kept(
     true
 }
 
-// Whether each entry of the table is that of a job in its frame.
+// Whether each entry of the table is that of a job in its frame. The jobs are lent by their names: the jobs themselves would be copied for each
+// entry.
 pub(super) fn rows_kept(
     table: &[u8],
     height: u16,
-    jobs: [Job; 128],
+    names: &[[u8; 128]; 2],
     frames: &[u16; 128],
     count: usize,
 ) -> bool
     requires { ⌜ (height ≤ 256) × (count ≤ 128) ⌝ }
-    ensures { λ r. ⌜ r ≡ rowsKept (firsts count noJob jobs) (firsts count 0 (now (frames .entry))) count height 0 (rowsOf (now (table .entry)) height) ⌝ }
+    ensures { λ r. ⌜ r ≡ rowsKept (named (now (names .entry)) count) (firsts count 0 (now (frames .entry))) count height 0 (rowsOf (now (table .entry)) height) ⌝ }
 {
     let mut at: usize = 7;
     let mut row: u16 = 0;
     while row < height {
         let n = byte_or_zero(table, at);
-        if !row_kept(table, at + 1, n, height, row, jobs, frames, count) {
+        if !row_kept(table, at + 1, n, height, row, names, frames, count) {
             return false;
         }
         at += 1 + 2 * (n as usize);

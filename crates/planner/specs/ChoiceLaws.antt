@@ -1,13 +1,13 @@
 -- The loop over the numbers of rows: with those left to try, it comes to the definition's choice, and to its tries.
-use Prim.Native.Nat.{ℕ, suc, _+_, _-_, _/_, _%_, _≤_, _<_}
-use mathlib.Core.Path.{_≡_, refl, ap, _∙_}
+use Prim.Native.Nat.{ℕ, zero, suc, _+_, _-_, _/_, _%_, _≤_, _<_, min}
+use mathlib.Core.Path.{_≡_, refl, ap, subst, _∙_}
 use mathlib.Core.Bool.{Bool, true, false}
 use mathlib.Core.List.{List, []}
-use native.Mathlib.Nat.{div-zero}
+use native.Mathlib.Nat.{div-zero, mod-eq-of-lt}
 use native.Mathlib.Omega.{arith}
 use lib.ListN.{replicate}
 use lib.Dec.{ltb, eqb}
-use borrow.Author.Tests.{le-ltb, lt-ltb, ltb-true, ltb-false}
+use borrow.Author.Tests.{ne-eqb, le-ltb, lt-ltb, ltb-true, ltb-false}
 use Rattle.cursor.specs.Choice.{pick, both}
 use Rattle.cursor.specs.ParsedLaws.{both-true}
 use Rattle.cursor.specs.Padded.{padded}
@@ -36,6 +36,11 @@ both-false false = refl
 pub no-rows : (x : Instance) → isTried x 0 ≡ false
 unfolding isTriedBy plausibleBy
 no-rows x = rw (div-zero (x .h)) (both-false (eqb (x .h % 0) 0))
+
+-- no length has more rows than the cycle has ticks
+too-many-rows : (x : Instance) (rows : ℕ) → 0 < x .h → x .h < rows → isTried x rows ≡ false
+unfolding isTriedBy
+too-many-rows x rows some h = let rest : x .h % rows ≡ x .h = mod-eq-of-lt h in rw (rest, ne-eqb (x .h) 0 (λ e. omega arith))
 
 pub tried-plausible : (x : Instance) (rows : ℕ) → isTried x rows ≡ true → plausible x (x .h / rows) ≡ true
 unfolding isTriedBy
@@ -155,21 +160,35 @@ module _ {x : Instance} {allowed left rows : ℕ} {some : Bool} (v : Choosing x 
           let more : allowed < fullTries x = omega (arith, v .spent, says left w is .0 h) in
           rw (lt-ltb allowed (fullTries x) more)
 
-  -- all lengths are passed
-  module _ (all : 256 < rows) where
-    passed : here ≡ record { choice = pick some noPlan noPlausible; tries = 0 }
-    passed = let none-left : 257 - rows ≡ 0 = omega arith in rw none-left (lengths-end phaseRule x rows some)
+-- the lengths left have more rows than the cycle has ticks: none is tried
+all-skipped : {x : Instance} {allowed left : ℕ} {some : Bool} (k rows : ℕ) → Choosing x allowed left rows some → 0 < x .h → min (x .h) 256 < rows
+    → rows + k ≡ 257 → Choosing x allowed left 257 some
+all-skipped {x} {allowed} {left} {some} zero rows v pos all e =
+    let last : rows ≡ 257 = omega arith in
+    subst (λ (r : ℕ). Choosing x allowed left r some) last v
+all-skipped {x} {allowed} {left} {some} (suc k) rows v pos all e =
+    all-skipped k (rows + 1) (skipped v (omega arith) (too-many-rows x rows pos (omega arith))) pos (omega arith) (omega arith)
 
-    tries-are : allowed - left ≡ fullTries x
-    tries-are = let t : here .tries ≡ 0 = ap (λ (y : ChoiceWalk). y .tries) passed in omega (arith, v .spent, v .within)
+-- all lengths are passed
+module _ {x : Instance} {allowed left rows : ℕ} {some : Bool} (v : Choosing x allowed left rows some) (pos : 0 < x .h) (all : min (x .h) 256 < rows) where
+  last : Choosing x allowed left 257 some
+  last = all-skipped (257 - rows) rows v pos all (omega (arith, v .most))
 
-    reached : (ltb allowed (fullTries x) ≡ false) × (chooseWalk x .choice ≡ pick some noPlan noPlausible)
-    reached = (le-ltb allowed (fullTries x) (omega (arith, tries-are)), v .rest ∙ ap (λ (y : ChoiceWalk). y .choice) passed)
+  passed : walkLengthsBy phaseRule x 0 257 some ≡ record { choice = pick some noPlan noPlausible; tries = 0 }
+  passed = lengths-end phaseRule x 257 some
 
-    pub some-passed : some ≡ true → noneChosen 10 (allowed - left) ≡ choiceWithin allowed (chooseWalk x)
-    unfolding choiceWithin choiceAnswer
-    some-passed e = rw (reached .0, reached .1, e, tries-are)
+  tries-are : allowed - left ≡ fullTries x
+  tries-are =
+      let t : walkLengthsBy phaseRule x 0 257 some .tries ≡ 0 = ap (λ (y : ChoiceWalk). y .tries) passed in
+      omega (arith, last .spent, last .within)
 
-    pub none-passed : some ≡ false → noneChosen 9 (allowed - left) ≡ choiceWithin allowed (chooseWalk x)
-    unfolding choiceWithin choiceAnswer
-    none-passed e = rw (reached .0, reached .1, e, tries-are)
+  reached : (ltb allowed (fullTries x) ≡ false) × (chooseWalk x .choice ≡ pick some noPlan noPlausible)
+  reached = (le-ltb allowed (fullTries x) (omega (arith, tries-are)), last .rest ∙ ap (λ (y : ChoiceWalk). y .choice) passed)
+
+  pub some-passed : some ≡ true → noneChosen 10 (allowed - left) ≡ choiceWithin allowed (chooseWalk x)
+  unfolding choiceWithin choiceAnswer
+  some-passed e = rw (reached .0, reached .1, e, tries-are)
+
+  pub none-passed : some ≡ false → noneChosen 9 (allowed - left) ≡ choiceWithin allowed (chooseWalk x)
+  unfolding choiceWithin choiceAnswer
+  none-passed e = rw (reached .0, reached .1, e, tries-are)

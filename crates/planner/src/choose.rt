@@ -6,6 +6,7 @@ use searcher::Given;
 use searcher::Placed;
 ghost use mathlib.Core.Path.{_≡_};
 ghost use mathlib.Core.List.{[]};
+ghost use Prim.Native.Nat.{min};
 ghost use Rattle.model.specs.Answers.{instanceOf};
 ghost use Rattle.model.specs.Within.{InLimits};
 ghost use Rattle.model.specs.Chosen.{problemAt, isTried, chooseWalk};
@@ -64,6 +65,13 @@ pub fn is_tried(cycle: Cycle, rows: u16) -> bool
     model::plausible(cycle, cycle.h / rows)
 }
 
+// The most rows that a length is tried with: no length has more rows than the cycle has ticks.
+fn most_rows(h: u16) -> u16
+    ensures { λ r. ⌜ r ≡ min h 256 ⌝ }
+{
+    if h < 256 { h } else { 256 }
+}
+
 fn none_chosen(refusal: u8, tries: u64) -> ChosenPlan
     ensures { λ r. ⌜ r ≡ noneChosen refusal tries ⌝ }
 {
@@ -82,10 +90,11 @@ pub fn choose(cycle: Cycle, allowed: u64) -> ChosenPlan
 {
     let cost = problem::costs(cycle);
     let links = problem::links(cycle);
+    let most = most_rows(cycle.h);
     let mut some = false;
     let mut left = allowed;
     let mut rows: u16 = 1;
-    while rows <= 256 {
+    while rows <= most {
         if !is_tried(cycle, rows) {
             rows += 1;
             continue;

@@ -1,5 +1,5 @@
 -- The two tests are the definition's; a product of two u16 fits a u32.
-use Prim.Native.Nat.{_≤_, _+_, _*_}
+use Prim.Native.Nat.{_≤_, _<_, _+_, _*_}
 use native.Mathlib.Nat.{mul-le-mul}
 use native.Mathlib.Omega.{arith}
 use borrow.Author.Tests.{le-leb, lt-leb}
@@ -22,7 +22,10 @@ cast-if1 c = search needs
 
 returns : tie.Need-returns
 unfolding inWindow
-returns c = rw (lt-leb _ _ (c .if1 .taken))
+returns c =
+    let a = c .before .before .args in
+    let early : a .k * a .f < a .job .release = c .if1 .taken in
+    rw (lt-leb _ _ early)
 
 add-result : tie.Need-add-result
 add-result c =

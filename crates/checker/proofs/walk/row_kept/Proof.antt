@@ -4,23 +4,22 @@ use mathlib.Core.Path.{_≡_, sym, _∙_}
 use native.Mathlib.Omega.{arith}
 use borrow.Author.Tests.{not-true, not-false}
 use Rattle.cursor.specs.Padded.{firsts}
-use Rattle.cycle.specs.Planned.{noJob}
 use Rattle.table.specs.Table.{entryOf}
 use Rattle.checker.specs.Checked.{rowKept, entryKept}
-use Rattle.checker.specs.Answers.{entriesIn}
+use Rattle.checker.specs.Answers.{entriesIn, named}
 use Rattle.checker.specs.WalkLaws.{entries-start, entry-kept, entry-broken, entries-done}
 use borrow.Author.Needs.{needs}
 use Rattle.checker.proofs.walk.row_kept.Statement.{statement}
 use Rattle.checker.proofs.walk.row_kept.Tie as tie
 
 abbrev Inv-loop : tie.InvT-loop
-Inv-loop table first n height row jobs frames count at₀ e₀ at e =
+Inv-loop table first n height row names frames count at₀ e₀ at e =
     (e ≤ n) × (at ≤ 200000 + 2 * e)
-    × (rowKept (firsts count noJob jobs) (firsts count 0 frames) count height row (entriesIn table (n - e) at)
-    ≡ rowKept (firsts count noJob jobs) (firsts count 0 frames) count height row (entriesIn table n first))
+    × (rowKept (named names count) (firsts count 0 frames) count height row (entriesIn table (n - e) at)
+    ≡ rowKept (named names count) (firsts count 0 frames) count height row (entriesIn table n first))
 
 abbrev μ-loop : tie.MeasureT-loop
-μ-loop table first n height row jobs frames count at₀ e₀ at e = n - e
+μ-loop table first n height row names frames count at₀ e₀ at e = n - e
 
 loop-holds : tie.Need-loop-holds Inv-loop μ-loop
 loop-holds c = (omega arith, omega (arith, c .before .pre .0), entries-start _ _ _ _ _ _ _ _)
@@ -40,7 +39,7 @@ returns c =
     let test = read .before in
     let l = test .before .loop in
     let a = test .before .before .before .args in
-    let jobs = firsts (a .count) noJob (a .jobs) in
+    let jobs = named (a .names .now) (a .count) in
     let frames = firsts (a .count) 0 (a .frames .now) in
     let e = rw (frame .frame .ensures, frame .before .is-carried .ensures, c .before .before .number .ensures, read .byte-or-zero .ensures, byte .byte-or-zero2 .ensures)
     at (sym (c .before .is-there .ensures) ∙ not-true _ (c .if1 .taken)) in
@@ -55,7 +54,7 @@ loop-again c =
     let test = read .before in
     let l = test .before .loop in
     let a = test .before .before .before .args in
-    let jobs = firsts (a .count) noJob (a .jobs) in
+    let jobs = named (a .names .now) (a .count) in
     let frames = firsts (a .count) 0 (a .frames .now) in
     let e = rw (frame .frame .ensures, frame .before .is-carried .ensures, c .before .before .number .ensures, read .byte-or-zero .ensures, byte .byte-or-zero2 .ensures)
     at (sym (c .before .is-there .ensures) ∙ not-false _ (c .if1 .left)) in
@@ -65,7 +64,7 @@ returns-2 : tie.Need-returns-2 Inv-loop μ-loop
 returns-2 c =
     let l = c .before .loop in
     let a = c .before .before .before .args in
-    entries-done (firsts (a .count) noJob (a .jobs)) (firsts (a .count) 0 (a .frames .now)) (a .count) (a .height) (a .table .now)
+    entries-done (named (a .names .now) (a .count)) (firsts (a .count) 0 (a .frames .now)) (a .count) (a .height) (a .table .now)
     (a .row) (a .n) (l .e) (l .at) (c .loop-test .left)
     ∙ l .inv .2
 

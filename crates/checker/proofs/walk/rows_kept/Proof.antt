@@ -5,22 +5,21 @@ use native.Mathlib.Omega.{arith}
 use lib.ListN.{getD}
 use borrow.Author.Tests.{not-true, not-false}
 use Rattle.cursor.specs.Padded.{firsts}
-use Rattle.cycle.specs.Planned.{noJob}
 use Rattle.checker.specs.Checked.{rowsKept}
-use Rattle.checker.specs.Answers.{rowsIn, rowsOf}
+use Rattle.checker.specs.Answers.{rowsIn, rowsOf, named}
 use Rattle.checker.specs.WalkLaws.{rows-start, row-kept, row-broken, rows-done}
 use borrow.Author.Needs.{needs}
 use Rattle.checker.proofs.walk.rows_kept.Statement.{statement}
 use Rattle.checker.proofs.walk.rows_kept.Tie as tie
 
 abbrev Inv-loop : tie.InvT-loop
-Inv-loop table height jobs frames count at₀ row₀ at row =
+Inv-loop table height names frames count at₀ row₀ at row =
     (row ≤ height) × (height ≤ 256) × (at ≤ 7 + row * 511)
-    × (rowsKept (firsts count noJob jobs) (firsts count 0 frames) count height row (rowsIn table (height - row) at)
-    ≡ rowsKept (firsts count noJob jobs) (firsts count 0 frames) count height 0 (rowsOf table height))
+    × (rowsKept (named names count) (firsts count 0 frames) count height row (rowsIn table (height - row) at)
+    ≡ rowsKept (named names count) (firsts count 0 frames) count height 0 (rowsOf table height))
 
 abbrev μ-loop : tie.MeasureT-loop
-μ-loop table height jobs frames count at₀ row₀ at row = height - row
+μ-loop table height names frames count at₀ row₀ at row = height - row
 
 loop-holds : tie.Need-loop-holds Inv-loop μ-loop
 loop-holds c = (omega arith, c .before .pre .0, omega arith, rows-start _ _ _ _ _)
@@ -35,7 +34,7 @@ returns c =
     let test = c .before .before .before in
     let l = test .before .loop in
     let a = test .before .before .before .args in
-    let jobs = firsts (a .count) noJob (a .jobs) in
+    let jobs = named (a .names .now) (a .count) in
     let frames = firsts (a .count) 0 (a .frames .now) in
     let row = rw (c .before .before .byte-or-zero .ensures) at (sym (c .before .row-kept .ensures) ∙ not-true _ (c .if1 .taken)) in
     row-broken jobs frames (a .count) (a .height) (a .table .now) (l .row) (l .at) (test .loop-test .taken) row ∙ l .inv .3
@@ -45,7 +44,7 @@ loop-again c =
     let test = c .before .before .before in
     let l = test .before .loop in
     let a = test .before .before .before .args in
-    let jobs = firsts (a .count) noJob (a .jobs) in
+    let jobs = named (a .names .now) (a .count) in
     let frames = firsts (a .count) 0 (a .frames .now) in
     let row = rw (c .before .before .byte-or-zero .ensures) at (sym (c .before .row-kept .ensures) ∙ not-false _ (c .if1 .left)) in
     let kept = row-kept jobs frames (a .count) (a .height) (a .table .now) (l .row) (l .at) (test .loop-test .taken) row ∙ l .inv .3 in
@@ -56,7 +55,7 @@ returns-2 : tie.Need-returns-2 Inv-loop μ-loop
 returns-2 c =
     let l = c .before .loop in
     let a = c .before .before .before .args in
-    rows-done (firsts (a .count) noJob (a .jobs)) (firsts (a .count) 0 (a .frames .now)) (a .count) (a .height) (a .table .now)
+    rows-done (named (a .names .now) (a .count)) (firsts (a .count) 0 (a .frames .now)) (a .count) (a .height) (a .table .now)
     (l .row) (l .at) (c .loop-test .left)
     ∙ l .inv .3
 
