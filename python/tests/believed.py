@@ -2,11 +2,16 @@
 the maps, specs/Lib.antt, which list the modules of a crate under four headings.
 
 A definition is what is marked `abbrev` or `unfoldable`, a `record` or a `data`: its type and its body count. All else is a lemma: its type counts, if a
-statement names it. A contract counts by its `requires` and `ensures`. Names of the kit's libraries and of structs in src/ end the search."""
+statement names it. A contract counts by its `requires` and `ensures`. Names of the kit's libraries and of structs in src/ end the search.
+
+`python3 -m tests.believed` counts the definitions, by demand: the lines of docs/ARCHITECTURE.md under 'What a reader must believe'."""
 
 import re
+from pathlib import Path
 
 BELIEVED, TYPES, THEOREMS, LAWS = HEADINGS = ("To be believed", "How answers stand in types", "Theorems", "Laws")
+
+OF = {"1": "demand 1", "2": "demand 2", "3": "demand 3", "after": "what came after"}
 
 TOKEN = re.compile(r"[^\s(){};,@]+|[(){};]")
 MARKS = {"abbrev", "unfoldable", "pub"}
@@ -20,10 +25,10 @@ STATEMENT = re.compile(r"Rattle·(\S+)\.Statement\.statement")
 
 
 class Declaration:
-    """A name of a file of specs/: what counts of it is `text`; `bound` are the names that mean something else in it."""
+    """A name of a file of specs/: what counts of it is `text`; `bound` are the names that mean something else in it; `lines` of code say it."""
 
-    def __init__(self, file, name, definition, text):
-        self.file, self.name, self.definition, self.text, self.bound = file, name, definition, text, set()
+    def __init__(self, file, name, definition, text, lines=0):
+        self.file, self.name, self.definition, self.text, self.lines, self.bound = file, name, definition, text, lines, set()
 
 
 class File:
@@ -78,21 +83,22 @@ class Spec(File):
         marks = [w for w in words[:3] if w in MARKS]
         words = words[len(marks):]
         if words[0] in ("record", "data"):
-            last = self.new(words[1], True, section + "\n" + chunk)
+            last = self.new(words[1], True, section + "\n" + chunk, chunk)
             if words[0] == "data":
                 for name in INNER.findall(chunk):
                     self.names[name] = last
         elif ":" in words[1:2] or (words[1:2] and words[1][0] == "{" and words[2] == ":"):
-            last = self.new(words[0], bool({"abbrev", "unfoldable"} & set(marks)), section + "\n" + chunk.split(" :", 1)[1])
+            last = self.new(words[0], bool({"abbrev", "unfoldable"} & set(marks)), section + "\n" + chunk.split(" :", 1)[1], chunk)
             last.bound |= bound(section + "\n" + chunk)
         elif last and last.definition and " =" in chunk:
             left, right = chunk.split(" =", 1)
             last.text += "\n" + right
+            last.lines += len(chunk.splitlines())
             last.bound |= bound(right) | {w for w in TOKEN.findall(left) if w != last.name}
         return last
 
-    def new(self, name, definition, text):
-        self.names[name] = Declaration(self, name, definition, text)
+    def new(self, name, definition, text, chunk):
+        self.names[name] = Declaration(self, name, definition, text, len(chunk.splitlines()))
         self.names[name].bound |= bound(text)
         return self.names[name]
 
@@ -181,16 +187,17 @@ class Repository:
             if found:
                 yield found
 
-    def rests_on(self):
-        """What the statements of `claims` rest on, each with what named it."""
-        reached = dict.fromkeys([*self.claims.names.values(), *self.contracts.names.values()])
+    def rests_on(self, roots=None, pinned=()):
+        """What some statements, else all of `claims`, rest on, each with what named it. What is pinned is reached, and the search ends there."""
+        reached = dict.fromkeys(roots or [*self.claims.names.values(), *self.contracts.names.values()])
         queue = list(reached)
         while queue:
             one = queue.pop()
             for other in self.named(one):
                 if other not in reached and (other.definition or isinstance(other, Contract)):
                     reached[other] = one
-                    queue.append(other)
+                    if other not in pinned:
+                        queue.append(other)
         return reached
 
     def believed(self):
@@ -212,6 +219,44 @@ class Repository:
         fields = (INNER.findall(one.text) for one in self.claims.names.values() if one.definition and one.text.lstrip().startswith("pub record"))
         alone = (one.name for one in self.claims.names.values() if not one.definition)
         return {name for names in fields for name in names} | set(alone)
+
+    def promise(self, name):
+        """The statement of a promise: a field of a record of `claims`, or what it states alone."""
+        for one in self.claims.names.values():
+            field = re.search(r"^  pub %s :\s(.*?)(?=^  pub |\Z)" % re.escape(name), one.text, re.DOTALL | re.MULTILINE)
+            if field and one.definition:
+                said = Declaration(self.claims, name, False, field.group(1))
+                said.bound = bound(field.group(1))
+                return said
+        return self.claims.names[name]
+
+    def by_demand(self):
+        """The promises of each demand and of each request of customers, from the table of theorems; `after` is what came after them."""
+        text = (self.root / "docs" / "ARCHITECTURE.md").read_text(encoding="utf-8").split("| promise |")[1].split("\n\n")[0]
+        found = {}
+        for line in text.splitlines()[2:]:
+            of, _, promises, _ = line.strip("| ").split(" | ")
+            found.setdefault(of, set()).update(re.findall(r"`(\S+?)`", promises))
+        return found
+
+    def pins(self):
+        """The definitions that a promise determines, from the table of docs/ARCHITECTURE.md: each with the promises that do."""
+        text = (self.root / "docs" / "ARCHITECTURE.md").read_text(encoding="utf-8").split("| determined |")[1].split("\n\n")[0]
+        found = {}
+        for line in text.splitlines()[2:]:
+            names, promises, _ = line.strip("| ").split(" | ")
+            for crate, module, name in re.findall(r"`(\w+)/(\w+)\.(\S+?)`", names):
+                found[self.module(crate, [module]).names[name]] = re.findall(r"`(\S+?)`", promises)
+        return found
+
+    def counts(self):
+        """By demand, and of all: how many definitions and lines are to be believed; and how many more if nothing that is determined is left unread."""
+        pinned = self.pins()
+        roots = {OF.get(of, of): [self.promise(name) for name in names] for of, names in self.by_demand().items()}
+        for of, some in [*roots.items(), ("all together, each once", None)]:
+            whole, ending = ({one for one in self.rests_on(some, stop) if one.definition and one.file.place[0] != "claims"} for stop in ((), pinned))
+            needed = ending - set(pinned)
+            yield of, *size(needed), *size(whole - needed)
 
     def maps(self):
         """For each crate the heading that each module stands under."""
@@ -246,6 +291,14 @@ class Repository:
                     yield f"{crate}: {module} stands under '{TYPES}', and no contract names it"
                 elif heading in (THEOREMS, LAWS) and ((crate, module) in theorems) != (heading == THEOREMS):
                     yield f"{crate}: {module} stands under '{heading}'"
+                elif heading in (BELIEVED, TYPES):
+                    lemmas = [one.name for one in self.module(crate, [module]).names.values() if not one.definition]
+                    if lemmas:
+                        yield f"{crate}: {module} stands under '{heading}' and has the lemma {lemmas[0]}"
+
+
+def size(definitions):
+    return len(definitions), sum(one.lines for one in definitions)
 
 
 def headed(text):
@@ -256,3 +309,12 @@ def headed(text):
         elif line.startswith("pub mod "):
             found[line.split()[-1]] = heading
     return found
+
+
+def line(row):
+    """A row of counts as docs/ARCHITECTURE.md has it."""
+    return "| " + " | ".join(f"{cell:,}" if isinstance(cell, int) else cell for cell in row) + " |"
+
+
+if __name__ == "__main__":
+    print("\n".join(map(line, Repository(Path(__file__).resolve().parents[2]).counts())))

@@ -6,7 +6,7 @@ import tempfile
 import unittest
 from pathlib import Path
 
-from tests.believed import STATEMENT, Repository
+from tests.believed import STATEMENT, Repository, line
 
 ROOT = Path(__file__).resolve().parents[2]
 REPOSITORY = Repository(ROOT)
@@ -66,6 +66,11 @@ class Changed(unittest.TestCase):
         self.change("flight/specs/Lib.antt", ("pub mod Theorem\n", ""), ("-- Laws:\n", "-- Laws:\npub mod Theorem\n"))
         self.assertEqual(self.found(), ["flight: Theorem stands under 'Laws'"])
 
+    def test_lemma_among_definitions(self):
+        path = self.root / "crates/arith/specs/Gcd.antt"
+        path.write_text(path.read_text(encoding="utf-8") + "\npub gcd-self : (a : ℕ) → gcdOf a a ≡ a\ngcd-self a = cc\n", encoding="utf-8")
+        self.assertEqual(self.found(), ["arith: Gcd stands under 'To be believed' and has the lemma gcd-self"])
+
     def test_type_that_no_contract_names(self):
         self.change("flight/specs/Lib.antt", ("pub mod Serving\n", ""), ("-- Laws:\n", "-- How answers stand in types:\npub mod Serving\n-- Laws:\n"))
         self.assertEqual(self.found(), ["flight: Serving stands under 'How answers stand in types', and no contract names it"])
@@ -107,6 +112,20 @@ class Claims(unittest.TestCase):
         """No contract of a call has a `requires`; the test of a job in a frame is no call of a user."""
         asking = [m.group(1) for m in STATEMENT.finditer(REPOSITORY.contracts.text) if "requires" in REPOSITORY.find(REPOSITORY.contracts, m.group(0)).text]
         self.assertEqual(asking, ["searcher.proofs.may_stand"])
+
+
+class Counts(unittest.TestCase):
+    def test_figures(self):
+        """The figures of docs/ARCHITECTURE.md are those that are counted."""
+        told = (ROOT / "docs" / "ARCHITECTURE.md").read_text(encoding="utf-8").split("| to be believed: definitions |")[1].splitlines()[2:]
+        self.assertEqual([row for row in told if row], [line(row) for row in REPOSITORY.counts()])
+
+    def test_what_is_determined(self):
+        """Each is determined by promises of `claims`, and they rest on it."""
+        reached, promises = REPOSITORY.rests_on(), REPOSITORY.promises()
+        for one, by in REPOSITORY.pins().items():
+            self.assertIn(one, reached)
+            self.assertTrue(by and set(by) <= promises, one.name)
 
 
 if __name__ == "__main__":

@@ -5,7 +5,8 @@ use mathlib.Core.Path.{_≡_, sym, ap, _∙_}
 use Prim.Native.Nat.{ℕ, zero, suc, _+_, _*_, _/_, _%_, _<_, _∣_}
 use native.Mathlib.Nat.{mod-lt, mod-eq-of-lt, div-add-mod', div-mul-cancel, add-mul-mod-self-right, lt-of-mul-lt-mul-right}
 use native.Mathlib.Omega.{arith}
-use Rattle.arith.specs.Gcd.{gcdOf, bezout}
+use Rattle.arith.specs.Gcd.{gcdOf}
+use Rattle.arith.specs.GcdLaws.{bezout}
 
 -- equal up to multiples of f, so equal modulo f
 pub congruent : (f a b x y : ℕ) → a + x * f ≡ b + y * f → a % f ≡ b % f

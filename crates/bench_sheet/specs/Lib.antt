@@ -2,3 +2,7 @@
 pub mod Sheet
 pub mod Silent
 pub mod Listed
+-- Theorems:
+pub mod SheetLaws
+pub mod SilentLaws
+pub mod ListedLaws

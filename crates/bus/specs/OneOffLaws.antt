@@ -6,12 +6,12 @@ use lib.IntN.{pos}
 use Rattle.one_off.specs.OneOff.{oneOff}
 use Rattle.one_off.specs.Answers.{offerAnswer}
 use Rattle.one_off.specs.declared.FrameFound.{FrameFound}
-use Rattle.bus.specs.Reply.{refused}
+use Rattle.bus.specs.Reply.{refusedReply}
 use Rattle.bus.specs.ReplyLaws.{reply-refused, reply-value}
 use Rattle.bus.specs.OneOff.{foundReply, oneOffReply}
 
 module _ (L s e : ℕ) (request table : List ℕ) (found : FrameFound) (is : found ≡ offerAnswer (oneOff L s e request table)) where
-  pub one-off-refused : (found .refusal ≡ 0 → ⊥) → refused (found .refusal) ≡ oneOffReply L s e request table
+  pub one-off-refused : (found .refusal ≡ 0 → ⊥) → refusedReply (found .refusal) ≡ oneOffReply L s e request table
   unfolding oneOffReply
   one-off-refused h = reply-refused (found .refusal) (found .frame) h ∙ ap foundReply is
 

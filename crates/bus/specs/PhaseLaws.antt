@@ -8,7 +8,7 @@ use borrow.Author.Tests.{lt-ltb, le-ltb}
 use Rattle.phases.specs.Phases.{phases}
 use Rattle.phases.specs.declared.PhaseCounts.{PhaseCounts}
 use Rattle.lent.specs.Numbers.{countsBytes}
-use Rattle.bus.specs.Reply.{refused}
+use Rattle.bus.specs.Reply.{refusedReply}
 use Rattle.bus.specs.ReplyLaws.{reply-refused, reply-value, after-refusal, after-value}
 use Rattle.bus.specs.Phases.{phasesReply, phasesCounts}
 
@@ -16,12 +16,12 @@ module _ (allowance : ℕ) (request : List ℕ) (task : ℕ) (counts : List ℕ)
   abbrev pub PhasesAnswered : ℤ → List ℕ → Type 0
   PhasesAnswered z counts′ = (z ≡ phasesReply allowance request task counts) × (counts′ ≡ phasesCounts allowance request task counts)
 
-  pub no-room : length counts < 8 → PhasesAnswered (refused 99) counts
+  pub no-room : length counts < 8 → PhasesAnswered (refusedReply 99) counts
   unfolding phasesReply phasesCounts
   no-room h = let e = lt-ltb (length counts) 8 h in (rw e, rw e)
 
   module _ (room : 8 ≤ length counts) (found : PhaseCounts) (is : found ≡ phases allowance request task) where
-    pub phases-refused : (found .refusal ≡ 0 → ⊥) → PhasesAnswered (refused (found .refusal)) counts
+    pub phases-refused : (found .refusal ≡ 0 → ⊥) → PhasesAnswered (refusedReply (found .refusal)) counts
     unfolding phasesReply phasesCounts
     phases-refused h = rw (le-ltb (length counts) 8 room, ← is) (reply-refused (found .refusal) 0 h, after-refusal (found .refusal) _ counts h)
 

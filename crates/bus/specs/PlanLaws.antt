@@ -6,29 +6,29 @@ use native.Mathlib.Omega.{arith}
 use lib.IntN.{ℤ, pos}
 use lib.ListN.{length, drop}
 use borrow.Author.Tests.{lt-ltb, le-ltb}
-use Rattle.cursor.specs.Written.{written-most}
+use Rattle.cursor.specs.WrittenLaws.{written-most}
 use Rattle.table.specs.Table.{encode}
 use Rattle.plan_writer.specs.Outcome.{Outcome, handed, refusal, outcomeAnswer, outcomeBuffer}
+use Rattle.plan_writer.specs.OutcomeLaws.{refused-answer, table-answer}
 use Rattle.planner.specs.Outcome.{outcomeWithin, searchedAnswer}
 use Rattle.planner.specs.TableLaws.{GoodOutcome, outcome-within-good}
 use Rattle.planner.specs.declared.Searched.{Searched}
 use Rattle.lent.specs.Numbers.{lowFirst}
-use Rattle.bus.specs.Reply.{refused, reply}
+use Rattle.bus.specs.Reply.{refusedReply, reply}
 use Rattle.bus.specs.ReplyLaws.{reply-refused, reply-value}
 use Rattle.bus.specs.Plan.{planReply, planBuffer, planTries}
 
 -- what is handed out is no longer than two bytes count
 pub outcome-few : (out : List ℕ) (o : Outcome) → GoodOutcome o → outcomeAnswer o out .length < 65536
-unfolding outcomeAnswer
-outcome-few out (handed t) good = omega (arith, written-most (encode t) out, good .short)
-outcome-few out (refusal number) good = omega arith
+outcome-few out (handed t) good = rw (table-answer t out) (omega (arith, written-most (encode t) out, good .short))
+outcome-few out (refusal number) good = rw (refused-answer number out) (omega arith)
 
 module _ (allowance : ℕ) (request out tries : List ℕ) where
   abbrev pub PlanAnswered : ℤ → List ℕ → List ℕ → Type 0
   PlanAnswered z out′ tries′ =
       (z ≡ planReply allowance request out tries) × (out′ ≡ planBuffer allowance request out tries) × (tries′ ≡ planTries allowance request out tries)
 
-  pub no-count : length tries < 8 → PlanAnswered (refused 99) out tries
+  pub no-count : length tries < 8 → PlanAnswered (refusedReply 99) out tries
   unfolding planReply planBuffer planTries
   no-count h = let e = lt-ltb (length tries) 8 h in (rw e, rw e, rw e)
 
@@ -44,8 +44,8 @@ module _ (allowance : ℕ) (request out tries : List ℕ) where
           let e = le-ltb (length tries) 8 room in
           (rw e (q ∙ ap (λ (x : Searched). reply (x .refusal) (x .length)) is), rw e left, rw e (counted ∙ ap (λ (x : Searched). lowFirst 8 (x .tries) ++ drop 8 tries) is))
 
-      pub plan-refused : (s .refusal ≡ 0 → ⊥) → PlanAnswered (refused (s .refusal)) out′ tries′
-      plan-refused h = answered (refused (s .refusal)) (reply-refused (s .refusal) (s .length) h)
+      pub plan-refused : (s .refusal ≡ 0 → ⊥) → PlanAnswered (refusedReply (s .refusal)) out′ tries′
+      plan-refused h = answered (refusedReply (s .refusal)) (reply-refused (s .refusal) (s .length) h)
 
       pub plan-written : s .refusal ≡ 0 → PlanAnswered (pos (s .length)) out′ tries′
       plan-written h = answered (pos (s .length)) (reply-value (s .refusal) (s .length) h)

@@ -6,11 +6,12 @@ use native.Mathlib.Omega.{arith}
 use lib.IntN.{pos}
 use lib.ListN.{length, drop}
 use Rattle.job_records.specs.Timeline.{Timeline, timeline, refusal, filling, filledAnswer}
-use Rattle.job_records.specs.Known.{KnownFor, recordsKnown, known-are}
+use Rattle.job_records.specs.Known.{KnownFor, recordsKnown}
+use Rattle.job_records.specs.KnownLaws.{known-are}
 use Rattle.job_records.specs.FillLaws.{filling-few, fill-answer}
 use Rattle.job_records.specs.declared.JobsKnown.{JobsKnown}
 use Rattle.lent.specs.Records.{recordBytes}
-use Rattle.bus.specs.Reply.{refused}
+use Rattle.bus.specs.Reply.{refusedReply}
 use Rattle.bus.specs.ReplyLaws.{reply-refused, reply-value}
 use Rattle.bus.specs.Timeline.{filledReply, filledBytes, fillingInC, timelineReply, timelineRecords}
 
@@ -26,7 +27,7 @@ module _ (request table records : List ℕ) (k : JobsKnown) (known : KnownFor (f
   pub places-there : 8 * k .count ≤ length records
   places-there = omega (arith, known .count-is, filling-few request table (length records / 8))
 
-  pub timeline-refused : (k .refusal ≡ 0 → ⊥) → (refused (k .refusal) ≡ timelineReply request table records) × (records ≡ timelineRecords request table records)
+  pub timeline-refused : (k .refusal ≡ 0 → ⊥) → (refusedReply (k .refusal) ≡ timelineReply request table records) × (records ≡ timelineRecords request table records)
   unfolding timelineRecords flatMap
   timeline-refused ne = (reply-refused (k .refusal) (k .count) ne ∙ answer-is, still tl (λ z. ne (known .refusal-is ∙ z)))
     where

@@ -13,9 +13,9 @@ use Rattle.timer.specs.declared.RegisterRead.{RegisterRead}
 use Rattle.timer.specs.declared.Changed.{Changed}
 use Rattle.timer.specs.declared.FrameServed.{FrameServed}
 use Rattle.lent.specs.Words.{zeros}
-use Rattle.lent.specs.Entries.{pairBytes}
+use Rattle.lent.specs.Entries.{entryBytes}
 use Rattle.lent.specs.TimerBytes.{isTimer, timerOf, timerBytes}
-use Rattle.bus.specs.Reply.{refused, reply}
+use Rattle.bus.specs.Reply.{refusedReply, reply}
 use Rattle.bus.specs.ReplyLaws.{reply-refused, reply-value, after-refusal, after-value}
 use Rattle.bus.specs.Timer.{timerFreshReply, timerFreshBytes, timerReadReply, changedReply, changedBytes}
 use Rattle.bus.specs.Timer.{timerEventReply, timerEventBytes, timerFrame, canServeTimer, frameAsked, timerServeReply, timerServeBytes}
@@ -24,7 +24,7 @@ use Rattle.bus.specs.Timer.{timerServeEntries, timerLineReply}
 -- bus_timer_fresh
 
 module _ (bytes : List ℕ) where
-  pub timer-fresh-refused : length bytes < 72 → (refused 99 ≡ timerFreshReply bytes) × (bytes ≡ timerFreshBytes bytes)
+  pub timer-fresh-refused : length bytes < 72 → (refusedReply 99 ≡ timerFreshReply bytes) × (bytes ≡ timerFreshBytes bytes)
   unfolding timerFreshReply timerFreshBytes
   timer-fresh-refused h = let e = lt-ltb (length bytes) 72 h in (rw e, rw e)
 
@@ -36,12 +36,12 @@ module _ (bytes : List ℕ) where
 -- bus_timer_read
 
 module _ (address : ℕ) (bytes : List ℕ) where
-  pub read-no-timer : isTimer bytes ≡ false → refused 99 ≡ timerReadReply address bytes
+  pub read-no-timer : isTimer bytes ≡ false → refusedReply 99 ≡ timerReadReply address bytes
   unfolding timerReadReply
   read-no-timer e = rw e
 
   module _ (is : isTimer bytes ≡ true) (r : RegisterRead) (e : r ≡ registerRead address (timerOf bytes)) where
-    pub timer-read-refused : (r .refusal ≡ 0 → ⊥) → refused (r .refusal) ≡ timerReadReply address bytes
+    pub timer-read-refused : (r .refusal ≡ 0 → ⊥) → refusedReply (r .refusal) ≡ timerReadReply address bytes
     unfolding timerReadReply
     timer-read-refused h = rw (is, ← e) (reply-refused (r .refusal) (r .value) h)
 
@@ -55,11 +55,11 @@ module _ (bytes : List ℕ) (answer : Changed) where
   abbrev pub ChangedSo : ℤ → List ℕ → Type 0
   ChangedSo z bytes′ = (z ≡ changedReply answer bytes) × (bytes′ ≡ changedBytes answer bytes)
 
-  pub change-no-timer : isTimer bytes ≡ false → ChangedSo (refused 99) bytes
+  pub change-no-timer : isTimer bytes ≡ false → ChangedSo (refusedReply 99) bytes
   change-no-timer e = (rw e, rw e)
 
   module _ (is : isTimer bytes ≡ true) (r : Changed) (e : r ≡ answer) where
-    pub change-refused : (r .refusal ≡ 0 → ⊥) → ChangedSo (refused (r .refusal)) bytes
+    pub change-refused : (r .refusal ≡ 0 → ⊥) → ChangedSo (refusedReply (r .refusal)) bytes
     change-refused h = rw (is, ← e) (reply-refused (r .refusal) 0 h, after-refusal (r .refusal) (timerBytes (r .timer) bytes) bytes h)
 
     pub change-made : r .refusal ≡ 0 → ChangedSo (pos 0) (timerBytes (r .timer) bytes)
@@ -68,7 +68,7 @@ module _ (bytes : List ℕ) (answer : Changed) where
 -- bus_timer_event
 
 module _ (bytes : List ℕ) where
-  pub event-no-timer : isTimer bytes ≡ false → (refused 99 ≡ timerEventReply bytes) × (bytes ≡ timerEventBytes bytes)
+  pub event-no-timer : isTimer bytes ≡ false → (refusedReply 99 ≡ timerEventReply bytes) × (bytes ≡ timerEventBytes bytes)
   unfolding timerEventReply timerEventBytes
   event-no-timer e = (rw e, rw e)
 
@@ -83,15 +83,15 @@ module _ (table bytes entries : List ℕ) where
   ServedSo z bytes′ entries′ =
       (z ≡ timerServeReply table bytes entries) × (bytes′ ≡ timerServeBytes table bytes entries) × (entries′ ≡ timerServeEntries table bytes entries)
 
-  not-served : canServeTimer table bytes entries ≡ false → ServedSo (refused 99) bytes entries
+  not-served : canServeTimer table bytes entries ≡ false → ServedSo (refusedReply 99) bytes entries
   unfolding timerServeReply timerServeBytes timerServeEntries frameAsked
   not-served e = (rw e, rw e, rw e)
 
-  pub serve-no-timer : isTimer bytes ≡ false → ServedSo (refused 99) bytes entries
+  pub serve-no-timer : isTimer bytes ≡ false → ServedSo (refusedReply 99) bytes entries
   unfolding canServeTimer
   serve-no-timer e = not-served (rw e)
 
-  pub serve-no-room : isTimer bytes ≡ true → length entries < 32 → ServedSo (refused 99) bytes entries
+  pub serve-no-room : isTimer bytes ≡ true → length entries < 32 → ServedSo (refusedReply 99) bytes entries
   unfolding canServeTimer
   serve-no-room e h = not-served (rw (e, lt-ltb (length entries) 32 h))
 
@@ -106,9 +106,9 @@ module _ (table bytes entries : List ℕ) where
 
     module _ (due : timerOf bytes .status .due ≡ true) (frame : FrameServed) (e : frame ≡ timerFrame table bytes entries) where
       abbrev shown : List ℕ
-      shown = pairBytes (frame .tasks) (frame .jobs) 16 0 ++ drop 32 entries
+      shown = entryBytes (frame .tasks) (frame .jobs) 16 0 ++ drop 32 entries
 
-      pub timer-serve-refused : (frame .refusal ≡ 0 → ⊥) → ServedSo (refused (frame .refusal)) bytes entries
+      pub timer-serve-refused : (frame .refusal ≡ 0 → ⊥) → ServedSo (refusedReply (frame .refusal)) bytes entries
       unfolding timerServeReply timerServeBytes timerServeEntries frameAsked
       timer-serve-refused h = rw (← e, can, due) (
         reply-refused (frame .refusal) (frame .count) h,
@@ -127,7 +127,7 @@ module _ (table bytes entries : List ℕ) where
 -- bus_timer_line
 
 module _ (bytes : List ℕ) where
-  pub line-no-timer : isTimer bytes ≡ false → refused 99 ≡ timerLineReply bytes
+  pub line-no-timer : isTimer bytes ≡ false → refusedReply 99 ≡ timerLineReply bytes
   unfolding timerLineReply
   line-no-timer e = rw e
 

@@ -3,11 +3,11 @@ ghost use mathlib.Core.Path.{_≡_};
 ghost use Prim.Native.Nat.{_<_};
 ghost use lib.ListN.{length};
 ghost use lib.IntN.{pos};
-ghost use Rattle.bus.specs.Reply.{refused};
+ghost use Rattle.bus.specs.Reply.{refusedReply};
 
 // A number of the paper, or 99, as C gets it.
 pub(super) fn refusal(number: u8) -> i32
-    ensures { λ r. ⌜ r ≡ refused number ⌝ }
+    ensures { λ r. ⌜ r ≡ refusedReply number ⌝ }
 {
     0 - (number as i32)
 }

@@ -12,8 +12,8 @@ use Rattle.cursor.specs.ChoiceLaws.{lt-or-ge}
 use Rattle.plan_writer.specs.Outcome.{outcomeBuffer}
 use Rattle.planner.specs.Outcome.{outcomeWithin, searchedAnswer}
 use Rattle.checker.specs.Checked.{checkNumber}
-use Rattle.rewriter.specs.ReadBack.{planned-reads-back}
-use Rattle.bus.specs.Reply.{refused, reply}
+use Rattle.rewriter.specs.ReadBackLaws.{planned-reads-back}
+use Rattle.bus.specs.Reply.{refusedReply, reply}
 use Rattle.bus.specs.ReplyLaws.{reply-refused, reply-value}
 use Rattle.bus.specs.Check.{checkReply}
 use Rattle.bus.specs.Dispatch.{freshReply}
@@ -22,7 +22,7 @@ use Rattle.bus.specs.Plan.{planReply, planBuffer}
 use Rattle.bus.specs.PlanLaws.{no-count}
 use Rattle.bus_laws.specs.Decides.{PlanPasses}
 
-pub not-refused : (k n : ℕ) → refused (suc k) ≡ pos n → ⊥
+pub not-refused : (k n : ℕ) → refusedReply (suc k) ≡ pos n → ⊥
 not-refused k n e = never (cc)
 
 pub reply-told : (number value n : ℕ) → reply number value ≡ pos n → (number ≡ 0) × (value ≡ n)

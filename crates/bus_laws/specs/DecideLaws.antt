@@ -9,8 +9,8 @@ use Rattle.plan_writer.specs.Outcome.{outcomeAnswer, outcomeBuffer}
 use Rattle.planner.specs.Outcome.{outcome, requestTries, outcomeWithin, searchedAnswer}
 use Rattle.decider.specs.Decided.{AsPlan}
 use Rattle.decider.specs.DecidedLaws.{as-reached, as-plan}
-use Rattle.rewriter.specs.ReadBack.{planned-reads-back}
-use Rattle.bus.specs.Reply.{refused}
+use Rattle.rewriter.specs.ReadBackLaws.{planned-reads-back}
+use Rattle.bus.specs.Reply.{refusedReply}
 use Rattle.bus.specs.ReplyLaws.{reply-refused, reply-value}
 use Rattle.bus.specs.Check.{checkReply}
 use Rattle.bus.specs.Plan.{planReply, planBuffer}
@@ -30,11 +30,11 @@ module _ (allowance : ℕ) (request out tries : List ℕ) (room : 8 ≤ length t
   pub same-reached : requestTries request ≤ allowance → SameInC allowance request out tries
   same-reached h = same (as-reached allowance request out h)
 
-  pub same-answered : (planReply allowance request out tries ≡ refused 23 → ⊥) → SameInC allowance request out tries
+  pub same-answered : (planReply allowance request out tries ≡ refusedReply 23 → ⊥) → SameInC allowance request out tries
   unfolding planReply
   same-answered ne = same (as-plan allowance request out (λ e. ne (open-in-c e)))
     where
-      open-in-c : searchedAnswer allowance request out .refusal ≡ 23 → planReply allowance request out tries ≡ refused 23
+      open-in-c : searchedAnswer allowance request out .refusal ≡ 23 → planReply allowance request out tries ≡ refusedReply 23
       open-in-c e = rw (le-ltb (length tries) 8 room, e) (sym (reply-refused 23 (searchedAnswer allowance request out .length) (λ z. omega arith)))
 
 pub decide-passes : DecidePasses

@@ -6,7 +6,7 @@ use mathlib.Core.List.{List}
 use lib.IntN.{pos}
 use lib.ListN.{length, take}
 use Rattle.planner.specs.Outcome.{requestTries}
-use Rattle.bus.specs.Reply.{refused}
+use Rattle.bus.specs.Reply.{refusedReply}
 use Rattle.bus.specs.Check.{checkReply}
 use Rattle.bus.specs.Plan.{planReply, planBuffer}
 use Rattle.bus.specs.Decide.{decideReply, decideBuffer}
@@ -21,7 +21,7 @@ abbrev pub ReachedSame : Type 0
 ReachedSame = (allowance : ℕ) (request out tries : List ℕ) → 8 ≤ length tries → requestTries request ≤ allowance → SameInC allowance request out tries
 
 abbrev pub AnsweredSame : Type 0
-AnsweredSame = (allowance : ℕ) (request out tries : List ℕ) → 8 ≤ length tries → (planReply allowance request out tries ≡ refused 23 → ⊥)
+AnsweredSame = (allowance : ℕ) (request out tries : List ℕ) → 8 ≤ length tries → (planReply allowance request out tries ≡ refusedReply 23 → ⊥)
     → SameInC allowance request out tries
 
 -- bus_plan answered n: these first n bytes pass bus_check

@@ -6,7 +6,7 @@ use mathlib.Core.List.{List}
 use lib.ListN.{length, getD}
 use lib.Dec.{eqb}
 use Rattle.cursor.specs.Choice.{bit}
-use Rattle.cursor.specs.Front.{Bytes}
+use Rattle.cursor.specs.Fields.{Bytes}
 use Rattle.heater_link.specs.declared.Link.{Link}
 use Rattle.lent.specs.HeaterBytes.{isHeater, linkOf, heaterBytes}
 

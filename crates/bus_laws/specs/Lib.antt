@@ -24,5 +24,3 @@ pub mod RecordLaws
 pub mod DecideLaws
 -- what answers from 0 on say
 pub mod Answered
--- Laws:
-pub mod WordsBack

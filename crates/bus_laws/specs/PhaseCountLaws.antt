@@ -3,27 +3,26 @@ use Prim.Native.Nat.{ℕ, _≤_}
 use mathlib.Core.Path.{_∙_}
 use mathlib.Core.Logic.{⊎-elim}
 use mathlib.Core.List.{List, _++_}
+use native.Mathlib.Omega.{arith}
 use lib.ListN.{length, drop}
 use borrow.Author.Tests.{le-ltb}
 use Rattle.cursor.specs.ChoiceLaws.{lt-or-ge}
-use Rattle.cursor.specs.Fields.{wordBytes}
 use Rattle.phases.specs.Phases.{phases}
 use Rattle.phases.specs.declared.PhaseCounts.{PhaseCounts}
 use Rattle.lent.specs.Numbers.{countsBytes}
+use Rattle.lent.specs.NumberLaws.{four-read}
 use Rattle.bus.specs.ReplyLaws.{after-value}
 use Rattle.bus.specs.Phases.{phasesReply, phasesCounts}
 use Rattle.bus.specs.PhaseLaws.{no-room}
 use Rattle.bus_laws.specs.Answered.{not-refused, reply-told}
-use Rattle.bus_laws.specs.WordsBack.{word-back}
 use Rattle.bus_laws.specs.PhaseCounts.{SaysCounts, PhasesTold, PhasesBack}
 
 counts-back : (found : PhaseCounts) (rest : List ℕ) → SaysCounts (countsBytes found ++ rest) found
-unfolding countsBytes wordBytes
 counts-back found rest = record {
-  tables = word-back (found .tables);
-  nines = word-back (found .nines);
-  tens = word-back (found .tens);
-  ended = word-back (found .ended);
+  tables = four-read found rest 0 (omega arith);
+  nines = four-read found rest 1 (omega arith);
+  tens = four-read found rest 2 (omega arith);
+  ended = four-read found rest 3 (omega arith);
 }
 
 pub phases-told : PhasesBack

@@ -6,12 +6,12 @@ use lib.IntN.{pos}
 use lib.ListN.{getD}
 use Rattle.phases.specs.Phases.{phases}
 use Rattle.phases.specs.declared.PhaseCounts.{PhaseCounts}
-use Rattle.lent.specs.Words.{wordOf}
+use Rattle.lent.specs.Words.{u16Of}
 use Rattle.bus.specs.Phases.{phasesReply, phasesCounts}
 
 -- the u16 at a place
 abbrev pub wordAt : List ℕ → ℕ → ℕ
-wordAt bytes at = wordOf (getD bytes at 0) (getD bytes (at + 1) 0)
+wordAt bytes at = u16Of (getD bytes at 0) (getD bytes (at + 1) 0)
 
 pub record SaysCounts (bytes : List ℕ) (found : PhaseCounts) : Type 0 where
   pub tables : wordAt bytes 0 ≡ found .tables

@@ -7,12 +7,12 @@ use Rattle.planner.specs.Outcome.{searchedAnswer}
 use Rattle.bus.specs.Plan.{planTries}
 
 -- the number that the first n bytes say, low byte first
-unfoldable pub numberIn : ℕ → List ℕ → ℕ
-numberIn zero bytes = 0
-numberIn (suc n) [] = 0
-numberIn (suc n) (low ∷ bytes) = low + 256 * numberIn n bytes
+unfoldable pub numberSaid : ℕ → List ℕ → ℕ
+numberSaid zero bytes = 0
+numberSaid (suc n) [] = 0
+numberSaid (suc n) (low ∷ bytes) = low + 256 * numberSaid n bytes
 
 -- no more tries are counted than were allowed, and the allowance is a uint64_t
 abbrev pub TriesBack : Type 0
 TriesBack = (allowance : ℕ) (request out tries : List ℕ) → allowance < 2 ^ 64 → 8 ≤ length tries
-    → numberIn 8 (planTries allowance request out tries) ≡ searchedAnswer allowance request out .tries
+    → numberSaid 8 (planTries allowance request out tries) ≡ searchedAnswer allowance request out .tries

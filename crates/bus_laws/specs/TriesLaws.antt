@@ -8,15 +8,16 @@ use lib.ListN.{length, drop}
 use borrow.Author.Tests.{le-ltb}
 use Rattle.planner.specs.Outcome.{searchedAnswer}
 use Rattle.lent.specs.Numbers.{lowFirst}
+use Rattle.lent.specs.NumberLaws.{lowest-first}
 use Rattle.bus.specs.Plan.{planTries}
-use Rattle.bus_laws.specs.Tries.{numberIn, TriesBack}
+use Rattle.bus_laws.specs.Tries.{numberSaid, TriesBack}
 
-number-back : (n number : ℕ) (rest : List ℕ) → number < 256 ^ n → numberIn n (lowFirst n number ++ rest) ≡ number
-unfolding numberIn lowFirst
+number-back : (n number : ℕ) (rest : List ℕ) → number < 256 ^ n → numberSaid n (lowFirst n number ++ rest) ≡ number
+unfolding numberSaid
 number-back zero number rest h = omega arith
 number-back (suc n) number rest h =
     let less : number / 256 < 256 ^ n = omega (arith, rw (pow-suc 256 n) at h) in
-    rw (number-back n (number / 256) rest less) (omega arith)
+    rw (lowest-first n number, number-back n (number / 256) rest less) (omega arith)
 
 pub tries-back : TriesBack
 unfolding planTries searchedAnswer

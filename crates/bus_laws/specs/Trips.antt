@@ -4,13 +4,13 @@ use mathlib.Core.Path.{_≡_}
 use mathlib.Core.Bool.{true}
 use mathlib.Core.List.{List}
 use lib.ListN.{length, getD}
-use Rattle.cursor.specs.Front.{Bytes}
+use Rattle.cursor.specs.Fields.{Bytes}
 use Rattle.dispatcher.specs.declared.State.{State}
 use Rattle.draft.specs.Draft.{start, lift, put}
 use Rattle.draft.specs.Kept.{Sized}
 use Rattle.draft.specs.declared.Draft.{Draft}
 use Rattle.lent.specs.State.{isState, countIn, stateOf, stateBytes}
-use Rattle.lent.specs.DraftBytes.{draftOf, draftBytes}
+use Rattle.lent.specs.DraftBytes.{draftIn, draftBytes}
 use Rattle.bus.specs.Drafts.{startBytes, liftBytes, putBytes}
 
 -- each count stands in its two bytes
@@ -20,14 +20,14 @@ StateRoundTrip = (s : State) (bytes : List ℕ) → (length (s .counts) ≡ 16 �
     × (isState bytes ≡ true → Bytes bytes → stateBytes (stateOf bytes) bytes ≡ bytes)
 
 abbrev pub DraftRoundTrip : Type 0
-DraftRoundTrip = (d : Draft) (bytes : List ℕ) → (Sized d → draftOf (draftBytes d bytes) ≡ d)
-    × (770 ≤ length bytes → Bytes bytes → draftBytes (draftOf bytes) bytes ≡ bytes)
+DraftRoundTrip = (d : Draft) (bytes : List ℕ) → (Sized d → draftIn (draftBytes d bytes) ≡ d)
+    × (770 ≤ length bytes → Bytes bytes → draftBytes (draftIn bytes) bytes ≡ bytes)
 
 -- what a call from C leaves in the lent bytes is read as the draft that the call below it gives, refused or not
 pub record DraftsLeft (bytes request table : List ℕ) (job frame : ℕ) : Type 0 where
-  pub started : start request table .refusal ≡ 0 → draftOf (startBytes request table bytes) ≡ start request table .draft
-  pub lifted : draftOf (liftBytes request job bytes) ≡ lift request (draftOf bytes) job .draft
-  pub put-there : draftOf (putBytes request job frame bytes) ≡ put request (draftOf bytes) job frame .draft
+  pub started : start request table .refusal ≡ 0 → draftIn (startBytes request table bytes) ≡ start request table .draft
+  pub lifted : draftIn (liftBytes request job bytes) ≡ lift request (draftIn bytes) job .draft
+  pub put-there : draftIn (putBytes request job frame bytes) ≡ put request (draftIn bytes) job frame .draft
 
 abbrev pub DraftsRead : Type 0
 DraftsRead = (bytes request table : List ℕ) (job frame : ℕ) → 770 ≤ length bytes → DraftsLeft bytes request table job frame

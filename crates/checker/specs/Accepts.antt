@@ -3,7 +3,7 @@
 -- describes a plan has for each job the plan's entry only, so the walk stops there; and an entry gives its frame, since that is below 2F.
 use Prim.Native.Nat.{ℕ, _+_, _*_, _-_, _%_, _≤_, _<_}
 use mathlib.Core.Path.{_≡_, refl, sym, ap, subst, _∙_}
-use mathlib.Core.Bool.{Bool, true, false}
+use mathlib.Core.Bool.{Bool, true, false, cond, _&&_}
 use mathlib.Core.List.{List}
 use mathlib.Core.Logic.{_↔_}
 use native.Mathlib.Nat.{mod-eq-of-lt, mod-eq-sub-mod, eq-of-mul-eq-mul-right, div-mul-cancel}
@@ -12,7 +12,6 @@ use lib.ListN.{length, getD, length-map}
 use lib.Seq.{ext-getD}
 use lib.Dec.{leb, eqb}
 use borrow.Author.Tests.{le-leb, lt-leb, leb-true, leb-false, eq-eqb, eqb-true}
-use Rattle.cursor.specs.Choice.{pick, both}
 use Rattle.cursor.specs.ParsedLaws.{never, both-true}
 use Rattle.request.specs.declared.Task.{Task}
 use Rattle.cycle.specs.Cycle.{cycleOf}
@@ -22,24 +21,28 @@ use Rattle.table.specs.Table.{Entry, Table, table, decode, rowOf}
 use Rattle.table.specs.WellFormed.{WellFormed}
 use Rattle.table.specs.Inverse.{decode-wellformed}
 use Rattle.model.specs.Plan.{Instance, jobAt, rowsAt, frameAt, IsPlan}
-use Rattle.model.specs.Named.{isJob, Named, job-says, says-job}
+use Rattle.model.specs.Named.{isJob}
+use Rattle.model.specs.NamedLaws.{Named, job-says, says-job}
 use Rattle.model.specs.Plausible.{phaseRule, plausibleBy}
-use Rattle.model.specs.Good.{Good, same-place}
-use Rattle.model.specs.Within.{Within, within-good}
-use Rattle.cursor.specs.Padded.{map-at}
+use Rattle.model.specs.Good.{Good}
+use Rattle.model.specs.GoodLaws.{same-place}
+use Rattle.model.specs.Within.{Within}
+use Rattle.model.specs.WithinLaws.{within-good}
+use Rattle.cursor.specs.PaddedLaws.{map-at}
 use Rattle.model.specs.PlausibleLaws.{PlausibleBy, plausible-says, plausible-needed}
 use Rattle.model.specs.RowLaws.{frame-small}
 use Rattle.model.specs.Described.{Among, rowFor, entryFor, StandsIn, Describes}
+use Rattle.model.specs.DescribedLaws.{row-of-frame, entry-names, names-entry, stands-named, stands-carried, stands-row}
 use Rattle.model.specs.PlanTable.{described-height}
 use Rattle.plan_rules.specs.Every.{every}
 use Rattle.plan_rules.specs.EveryLaws.{every-says, says-every, some-says, says-some}
 use Rattle.plan_rules.specs.Rules.{rulesRight}
 use Rattle.plan_rules.specs.RulesSay.{rules-say, say-rules}
-use Rattle.checker.specs.Checked.{placeIn, frameFor, isFound, frameAtPlace, frameIn, framesIn, isPlaced, isThere}
+use Rattle.checker.specs.Checked.{positionIn, frameFor, isFound, frameAtPosition, frameIn, framesIn, isPlaced, isThere}
 use Rattle.checker.specs.Checked.{entryKept, rowsKept, entriesRight, Verdict, accepted, refusal, planOf, judgedBy, judged, checkedBy, checked}
-use Rattle.checker.specs.PlaceLaws.{entryWith, RightIn, place-right, rows-say, say-rows}
-use Rattle.checker.specs.declared.walk.Place.{Place}
-use Rattle.checker.specs.declared.walk.Place.the-variants.{At, Nowhere}
+use Rattle.checker.specs.PositionLaws.{entryWith, RightIn, place-right, rows-say, say-rows}
+use Rattle.checker.specs.declared.walk.Position.{Position}
+use Rattle.checker.specs.declared.walk.Position.the-variants.{At, Nowhere}
 
 -- a frame below 2F, its row and its carry
 module _ (rows : ℕ) where
@@ -59,7 +62,7 @@ module _ (rows : ℕ) where
   unfolding frameFor
   frame-is k h = go (leb rows k) refl
     where
-      go : (b : Bool) → leb rows k ≡ b → k % rows + pick b rows 0 ≡ k
+      go : (b : Bool) → leb rows k ≡ b → k % rows + cond b rows 0 ≡ k
       go true q =
           let far : rows ≤ k = leb-true rows k q in
           let less : k % rows ≡ k - rows = mod-eq-sub-mod far ∙ mod-eq-of-lt (omega arith) in
@@ -82,7 +85,7 @@ module _ (jobs : List Job) (frames : List ℕ) (y : ℕ) where
   says-there task number k v e = rw (says-job task number (getD jobs y noJob) v, eq-eqb (frameAt frames y) k e)
 
 -- what was picked, if it is a plan
-picked : (b : Bool) (v : Verdict) (number f : ℕ) (frames : List ℕ) → pick b v (refusal number) ≡ accepted f frames → (b ≡ true) × (v ≡ accepted f frames)
+picked : (b : Bool) (v : Verdict) (number f : ℕ) (frames : List ℕ) → cond b v (refusal number) ≡ accepted f frames → (b ≡ true) × (v ≡ accepted f frames)
 picked true v number f frames e = (refl, e)
 picked false v number f frames e = absurd (never (cc))
 
@@ -110,9 +113,9 @@ module _ {rule : ℕ → Task → Bool} (x : Instance) (t : Table) (form : WellF
 
   placed : (y : ℕ) → y < length (x .jobs) → isPlaced (t .rows) (x .jobs) y ≡ true → Placed y
   unfolding isPlaced frameIn
-  placed y h e = go (placeIn (jobAt x y) 0 (t .rows)) (place-right (jobAt x y) 0 (t .rows)) e (frame-read y h)
+  placed y h e = go (positionIn (jobAt x y) 0 (t .rows)) (place-right (jobAt x y) 0 (t .rows)) e (frame-read y h)
     where
-      go : (p : Place) → RightIn (jobAt x y) 0 (t .rows) p → isFound p ≡ true → frameAt frames y ≡ frameAtPlace (length (t .rows)) p → Placed y
+      go : (p : Position) → RightIn (jobAt x y) 0 (t .rows) p → isFound p ≡ true → frameAt frames y ≡ frameAtPosition (length (t .rows)) p → Placed y
       go (At r carried) right found frame =
           let (j, is, low, m) = right in
           let same : r ≡ j = omega arith in
@@ -120,7 +123,7 @@ module _ {rule : ℕ → Task → Bool} (x : Instance) (t : Table) (form : WellF
       go Nowhere right found frame = absurd (never (cc))
 
   describes : entriesRight x (t .rows) frames ≡ true → Describes x (t .f) frames t
-  unfolding entriesRight entryFor rowFor entryKept
+  unfolding entriesRight entryKept
   describes e =
       record {
         form = form;
@@ -136,9 +139,11 @@ module _ {rule : ℕ → Task → Bool} (x : Instance) (t : Table) (form : WellF
 
       each : (y : ℕ) → Placed y → Among (entryFor x (t .f) frames y) (rowOf t (rowFor x (t .f) frames y))
       each y p =
-          let row-is = frame-row (length (t .rows)) (p .row) (p .carried) (p .below) in
-          let carry-is = frame-carried (length (t .rows)) (p .row) (p .carried) (p .below) in
-          rw (← height, p .frame, row-is, carry-is) (p .there)
+          let row-is : frameAt frames y % rowsAt x (t .f) ≡ p .row = rw (← height, p .frame) (frame-row (length (t .rows)) (p .row) (p .carried) (p .below)) in
+          let carry-is : leb (rowsAt x (t .f)) (frameAt frames y) ≡ p .carried
+          = rw (← height, p .frame) (frame-carried (length (t .rows)) (p .row) (p .carried) (p .below)) in
+          let entry-is = names-entry x (t .f) frames y (entryWith (jobAt x y) (p .carried)) (record { task-is = refl; number-is = refl }) (sym carry-is) in
+          rw (row-of-frame x (t .f) frames y, row-is, ← entry-is) (p .there)
 
       only : (r : ℕ) → r < length (t .rows) → (a : Entry) → entryKept (x .jobs) frames (length (x .jobs)) (length (t .rows)) (0 + r) a ≡ true
           → (y : ℕ) × StandsIn x (t .f) frames r a y
@@ -150,9 +155,7 @@ module _ {rule : ℕ → Task → Bool} (x : Instance) (t : Table) (form : WellF
           let row-is : frameAt frames y % rowsAt x (t .f) ≡ r = rw (← height, frame) (frame-row (length (t .rows)) r (a .carried) h) in
           let carry-is : leb (rowsAt x (t .f)) (frameAt frames y) ≡ a .carried
           = rw (← height, frame) (frame-carried (length (t .rows)) r (a .carried) h) in
-          let entry-is : a ≡ entryFor x (t .f) frames y
-          = λ i. record { task = sym (job .task-is) i; number = sym (job .number-is) i; carried = sym carry-is i } in
-          (y, record { within = within; in-row = row-is; is-entry = entry-is })
+          (y, record { within = within; in-row = row-of-frame x (t .f) frames y ∙ row-is; is-entry = names-entry x (t .f) frames y a job (sym carry-is) })
 
   is-plan : rulesRight x (length (t .rows)) (t .f) frames ≡ true → IsPlan x (t .f) frames
   unfolding framesIn
@@ -171,10 +174,10 @@ pub judged-plan : (rule : ℕ → Task → Bool) (x : Instance) (t : Table) → 
     → judgedBy (plausibleBy rule) x t ≡ accepted f frames → IsPlan x f frames × Describes x f frames t
 unfolding judgedBy planOf
 judged-plan rule x t form f frames e =
-    let one = picked (both (eqb (t .h) (x .h)) (plausibleBy rule x (t .f))) (planOf x (t .f) (t .rows)) 13 f frames e in
+    let one = picked (eqb (t .h) (x .h) && plausibleBy rule x (t .f)) (planOf x (t .f) (t .rows)) 13 f frames e in
     let tests = both-true (eqb (t .h) (x .h)) (plausibleBy rule x (t .f)) (one .0) in
     let read = framesIn (t .rows) (x .jobs) in
-    let two = picked (both (entriesRight x (t .rows) read) (rulesRight x (length (t .rows)) (t .f) read)) (accepted (t .f) read) 14 f frames (one .1) in
+    let two = picked (entriesRight x (t .rows) read && rulesRight x (length (t .rows)) (t .f) read) (accepted (t .f) read) 14 f frames (one .1) in
     let rules = both-true (entriesRight x (t .rows) read) (rulesRight x (length (t .rows)) (t .f) read) (two .0) in
     let same-f : t .f ≡ f = cc in
     let same-frames : read ≡ frames = cc in
@@ -190,30 +193,27 @@ module _ (x : Instance) (g : Good x) (t : Table) (frames : List ℕ) (v : IsPlan
   -- an entry of row r that names the job at place y gives its frame
   entry-frame : (y r : ℕ) (e : Entry) → y < length (x .jobs) → r < length (t .rows) → Among e (rowOf t r) → Named (e .task) (e .number) (jobAt x y)
       → frameFor (length (t .rows)) r (e .carried) ≡ frameAt frames y
-  unfolding rowFor entryFor
   entry-frame y r e hy h m names = let (z, stands) = d .only r h e m in go z stands
     where
       go : (z : ℕ) → StandsIn x (t .f) frames r e z → frameFor (length (t .rows)) r (e .carried) ≡ frameAt frames y
       go z s =
-          let task : e .task ≡ jobAt x z .task = ap (λ a. a .task) (s .is-entry) in
-          let number : e .number ≡ jobAt x z .number = ap (λ a. a .number) (s .is-entry) in
-          let carried : e .carried ≡ leb (rowsAt x (t .f)) (frameAt frames z) = ap (λ a. a .carried) (s .is-entry) in
-          let here : y ≡ z = same-place x g y z hy (s .within) (names .task-is ∙ task) (names .number-is ∙ number) in
+          let there = stands-named s in
+          let here : y ≡ z = same-place x g y z hy (s .within) (names .task-is ∙ sym (there .task-is)) (names .number-is ∙ sym (there .number-is)) in
           let frame = frame-is (rowsAt x (t .f)) (frameAt frames z) (frame-small x g (t .f) frames v z (s .within)) in
-          rw (high, ← s .in-row, carried, frame) (ap (frameAt frames) (sym here))
+          rw (high, ← stands-row s, stands-carried s, frame) (ap (frameAt frames) (sym here))
 
   -- the walk for a job stops at its entry
   walked : (y : ℕ) → y < length (x .jobs) → (isPlaced (t .rows) (x .jobs) y ≡ true) × (frameIn (t .rows) (jobAt x y) ≡ frameAt frames y)
-  unfolding isPlaced frameIn entryFor
-  walked y h = go (placeIn (jobAt x y) 0 (t .rows)) (place-right (jobAt x y) 0 (t .rows))
+  unfolding isPlaced frameIn
+  walked y h = go (positionIn (jobAt x y) 0 (t .rows)) (place-right (jobAt x y) 0 (t .rows))
     where
-      go : (p : Place) → RightIn (jobAt x y) 0 (t .rows) p → (isFound p ≡ true) × (frameAtPlace (length (t .rows)) p ≡ frameAt frames y)
+      go : (p : Position) → RightIn (jobAt x y) 0 (t .rows) p → (isFound p ≡ true) × (frameAtPosition (length (t .rows)) p ≡ frameAt frames y)
       go (At r carried) right =
           let (j, is, low, m) = right in
           let same : r ≡ j = omega arith in
           (refl, rw same (entry-frame y j (entryWith (jobAt x y) carried) h low m (record { task-is = refl; number-is = refl })))
       go Nowhere right =
-          absurd (right (rowFor x (t .f) frames y) (entryFor x (t .f) frames y) (d .each y h) (record { task-is = refl; number-is = refl }))
+          absurd (right (rowFor x (t .f) frames y) (entryFor x (t .f) frames y) (d .each y h) (entry-names x (t .f) frames y))
 
   frames-read : framesIn (t .rows) (x .jobs) ≡ frames
   unfolding framesIn
@@ -223,7 +223,7 @@ module _ (x : Instance) (g : Good x) (t : Table) (frames : List ℕ) (v : IsPlan
       (λ y h. let low : y < length (x .jobs) = rw count at h in map-at (frameIn (t .rows)) 0 noJob (x .jobs) y low ∙ walked y low .1)
 
   entries-right : entriesRight x (t .rows) frames ≡ true
-  unfolding entriesRight entryKept entryFor
+  unfolding entriesRight entryKept
   entries-right =
       rw (says-every (isPlaced (t .rows) (x .jobs)) (length (x .jobs)) (λ y h. walked y h .0))
       (say-rows (x .jobs) frames (length (x .jobs)) (length (t .rows)) 0 (t .rows) (λ r h e m. let (y, stands) = d .only r h e m in go r h e m y stands))
@@ -232,9 +232,8 @@ module _ (x : Instance) (g : Good x) (t : Table) (frames : List ℕ) (v : IsPlan
           → entryKept (x .jobs) frames (length (x .jobs)) (length (t .rows)) (0 + r) e ≡ true
       go r h e m y s =
           let same : 0 + r ≡ r = omega arith in
-          let entry = sym (s .is-entry) in
           let k : ℕ = frameFor (length (t .rows)) r (e .carried) in
-          let names : Named (e .task) (e .number) (jobAt x y) = record { task-is = ap (λ a. a .task) entry; number-is = ap (λ a. a .number) entry } in
+          let names = stands-named s in
           rw same (says-some (isThere (x .jobs) frames (e .task) (e .number) k) (length (x .jobs)) y (s .within)
           (says-there (x .jobs) frames y (e .task) (e .number) k names (sym (entry-frame y r e (s .within) h m names))))
 

@@ -52,14 +52,14 @@ abbrev pub rowsOf : List ℕ → ℕ → List (List Entry)
 rowsOf s height = rowsIn s height 7
 
 -- the names of jobs in two arrays: the task of each, and its number
-unfoldable pub tasksOf : List Job → List ℕ
-tasksOf jobs = padded 128 0 (map (λ (job : Job). job .task) jobs)
+unfoldable pub taskNames : List Job → List ℕ
+taskNames jobs = padded 128 0 (map (λ (job : Job). job .task) jobs)
 
-unfoldable pub numbersOf : List Job → List ℕ
-numbersOf jobs = padded 128 0 (map (λ (job : Job). job .number) jobs)
+unfoldable pub jobNumbers : List Job → List ℕ
+jobNumbers jobs = padded 128 0 (map (λ (job : Job). job .number) jobs)
 
 abbrev pub namesOf : List Job → List (List ℕ)
-namesOf jobs = tasksOf jobs ∷ numbersOf jobs ∷ []
+namesOf jobs = taskNames jobs ∷ jobNumbers jobs ∷ []
 
 -- a job of the name at place y; when it is released and due is not told by a name
 unfoldable pub jobNamed : List (List ℕ) → ℕ → Job

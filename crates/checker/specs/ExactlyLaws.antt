@@ -3,32 +3,32 @@
 -- exclude each other, and the number tells which one holds.
 use Prim.Native.Nat.{ℕ, _<_}
 use mathlib.Core.Path.{_≡_, refl, sym, ap, _∙_}
-use mathlib.Core.Bool.{Bool, true, false, false≢true}
+use mathlib.Core.Bool.{Bool, true, false, false≢true, cond, _&&_}
 use mathlib.Core.Logic.{⊎-elim}
 use mathlib.Core.List.{List}
 use native.Mathlib.Omega.{arith}
 use lib.ListN.{length}
 use lib.Dec.{eqb}
 use borrow.Author.Tests.{eq-eqb, eqb-true}
-use Rattle.cursor.specs.Choice.{pick, both}
 use Rattle.cursor.specs.ParsedLaws.{never, both-true}
 use Rattle.cycle.specs.Cycle.{noCycle, cycleOf}
 use Rattle.cycle.specs.LimitLaws.{no-cycle-number, request-number-pos, request-number-own}
 use Rattle.table.specs.Table.{Table, Decoded, table, malformed, decode}
-use Rattle.cursor.specs.Front.{Bytes}
-use Rattle.table.specs.TableBytes.{says-decodes, decodes-says}
+use Rattle.cursor.specs.Fields.{Bytes}
+use Rattle.table.specs.TableBytesLaws.{says-decodes, decodes-says}
 use Rattle.model.specs.Plan.{Instance}
 use Rattle.model.specs.Plausible.{plausible}
-use Rattle.model.specs.Within.{Within, within-or-not}
+use Rattle.model.specs.Within.{Within}
+use Rattle.model.specs.WithinLaws.{within-or-not}
 use Rattle.model.specs.Described.{Accepted}
 use Rattle.plan_rules.specs.Rules.{rulesRight}
-use Rattle.checker.specs.Checked.{entriesRight, framesIn, accepted, refusal, numberOf, planOf, judgedBy, judged, checkedBy, checkNumber}
+use Rattle.checker.specs.Checked.{entriesRight, framesIn, accepted, refusal, verdictNumber, planOf, judgedBy, judged, checkedBy, checkNumber}
 use Rattle.checker.specs.Accepts.{accepts-described}
 use Rattle.checker.specs.Exactly.{SizesFit, OfBoth, NoTable, CheckExact}
 
 -- the tests of the rows
 abbrev pub right : Instance → Table → Bool
-right x t = let frames = framesIn (t .rows) (x .jobs) in both (entriesRight x (t .rows) frames) (rulesRight x (length (t .rows)) (t .f) frames)
+right x t = let frames = framesIn (t .rows) (x .jobs) in entriesRight x (t .rows) frames && rulesRight x (length (t .rows)) (t .f) frames
 
 module _ (request bytes : List ℕ) where
   -- Each condition gives its number.
@@ -48,13 +48,13 @@ module _ (request bytes : List ℕ) where
     malformed-number e = rw (within, e)
 
     module _ (t : Table) (read : decode bytes ≡ table t) where
-      judged-is : checkNumber request bytes ≡ numberOf (judged x t)
+      judged-is : checkNumber request bytes ≡ verdictNumber (judged x t)
       unfolding checkedBy
       judged-is = rw (within, read)
 
       accepted-number : Accepted x t → checkNumber request bytes ≡ 0
       accepted-number a =
-          ap numberOf (accepts-described request bytes x t within read (a .f) (a .frames) .1 (a .is-plan, a .describes))
+          ap verdictNumber (accepts-described request bytes x t within read (a .f) (a .frames) .1 (a .is-plan, a .describes))
 
       read-accepted : (f : ℕ) (frames : List ℕ) → judged x t ≡ accepted f frames → Accepted x t
       unfolding checkedBy
@@ -62,14 +62,14 @@ module _ (request bytes : List ℕ) where
           let right = accepts-described request bytes x t within read f frames .0 (rw (within, read) e) in
           record { f = f; frames = frames; is-plan = right .0; describes = right .1 }
 
-      sizes-fit : SizesFit x t → both (eqb (t .h) (x .h)) (plausible x (t .f)) ≡ true
+      sizes-fit : SizesFit x t → eqb (t .h) (x .h) && plausible x (t .f) ≡ true
       sizes-fit fit = rw (eq-eqb (t .h) (x .h) (fit .0), fit .1)
 
       not-fit-number : (SizesFit x t → ⊥) → checkNumber request bytes ≡ 13
       unfolding judgedBy
-      not-fit-number other = judged-is ∙ go (both (eqb (t .h) (x .h)) (plausible x (t .f))) refl
+      not-fit-number other = judged-is ∙ go (eqb (t .h) (x .h) && plausible x (t .f)) refl
         where
-          go : (b : Bool) → both (eqb (t .h) (x .h)) (plausible x (t .f)) ≡ b → numberOf (pick b (planOf x (t .f) (t .rows)) (refusal 13)) ≡ 13
+          go : (b : Bool) → eqb (t .h) (x .h) && plausible x (t .f) ≡ b → verdictNumber (cond b (planOf x (t .f) (t .rows)) (refusal 13)) ≡ 13
           go true e = let b = both-true (eqb (t .h) (x .h)) (plausible x (t .f)) e in absurd (other (eqb-true (t .h) (x .h) (b .0), b .1))
           go false e = refl
 
@@ -80,7 +80,7 @@ module _ (request bytes : List ℕ) where
           frames : List ℕ
           frames = framesIn (t .rows) (x .jobs)
 
-          go : (b : Bool) → right x t ≡ b → numberOf (pick b (accepted (t .f) frames) (refusal 14)) ≡ 14
+          go : (b : Bool) → right x t ≡ b → verdictNumber (cond b (accepted (t .f) frames) (refusal 14)) ≡ 14
           go true e = absurd (none (read-accepted (t .f) frames (rw (sizes-fit fit, e))))
           go false e = refl
 
@@ -123,7 +123,7 @@ module _ (request bytes : List ℕ) where
             unplanned (x, within, t, decodes-says bytes t are e, (fit, λ a. omega (arith, accepted-number x within t e a)))
 
         sizes : (x : Instance) → Within request x → (t : Table) → decode bytes ≡ table t → (b : Bool)
-            → both (eqb (t .h) (x .h)) (plausible x (t .f)) ≡ b → Goal
+            → eqb (t .h) (x .h) && plausible x (t .f) ≡ b → Goal
         sizes x within t e true q =
             let fit = both-true (eqb (t .h) (x .h)) (plausible x (t .f)) q in
             rules x within t e (eqb-true (t .h) (x .h) (fit .0), fit .1) (right x t) refl
@@ -131,7 +131,7 @@ module _ (request bytes : List ℕ) where
             other (x, within, t, decodes-says bytes t are e, λ fit. false≢true (sym q ∙ sizes-fit x within t e fit))
 
         read : (x : Instance) → Within request x → (d : Decoded) → decode bytes ≡ d → Goal
-        read x within (table t) e = sizes x within t e (both (eqb (t .h) (x .h)) (plausible x (t .f))) refl
+        read x within (table t) e = sizes x within t e (eqb (t .h) (x .h) && plausible x (t .f)) refl
         read x within malformed e =
             none (x, within, λ t says. never (let z : table t ≡ malformed = sym (says-decodes bytes t says) ∙ e in cc))
 

@@ -10,7 +10,7 @@ pub mod ExactlyLaws
 pub mod MovedLaws
 pub mod Accepts
 -- Laws:
-pub mod PlaceLaws
+pub mod PositionLaws
 pub mod WalkLaws
 pub mod LoopLaws
 pub mod NameLaws

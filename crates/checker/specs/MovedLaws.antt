@@ -13,7 +13,8 @@ use Rattle.model.specs.Plan.{Instance}
 use Rattle.model.specs.Plausible.{commonRule, plausibleBy, plausible}
 use Rattle.model.specs.PlausibleLaws.{plausible-needed, plausible-before}
 use Rattle.model.specs.Answers.{instance}
-use Rattle.model.specs.Within.{Within, within-good}
+use Rattle.model.specs.Within.{Within}
+use Rattle.model.specs.WithinLaws.{within-good}
 use Rattle.checker.specs.Checked.{framesIn, planOf, judgedBy, judged, checkedBy, checked}
 use Rattle.checker.specs.Accepts.{judged-plan}
 use Rattle.checker.specs.ExactlyLaws.{right}

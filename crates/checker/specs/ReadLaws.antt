@@ -1,15 +1,15 @@
 -- The check's steps on the answers of the readers: what they tell of the request and the table, and what is answered from there.
 use Prim.Native.Nat.{ℕ, _≤_, min}
 use mathlib.Core.Path.{_≡_, refl, sym, ap, _∙_}
-use mathlib.Core.Bool.{Bool, true, false}
+use mathlib.Core.Bool.{Bool, true, false, cond, _&&_}
 use mathlib.Core.List.{List}
 use native.Mathlib.Omega.{arith}
 use lib.ListN.{length, length-map}
 use lib.Dec.{eqb}
 use borrow.Author.Tests.{eq-eqb, ne-eqb}
-use Rattle.cursor.specs.Choice.{pick, both}
-use Rattle.cursor.specs.Front.{Bytes}
-use Rattle.cursor.specs.Padded.{padded, firsts, firsts-length, firsts-padded}
+use Rattle.cursor.specs.Fields.{Bytes}
+use Rattle.cursor.specs.Padded.{padded, firsts}
+use Rattle.cursor.specs.PaddedLaws.{firsts-length, firsts-padded}
 use Rattle.cycle.specs.Cycle.{noCycle, cycleOf}
 use Rattle.cycle.specs.Planned.{noJob}
 use Rattle.cycle.specs.declared.Job.{Job}
@@ -22,7 +22,7 @@ use Rattle.model.specs.Plausible.{plausible}
 use Rattle.model.specs.Answers.{instanceOf}
 use Rattle.plan_rules.specs.Every.{every}
 use Rattle.plan_rules.specs.Rules.{rulesRight}
-use Rattle.checker.specs.Checked.{framesIn, frameIn, isPlaced, rowsKept, entriesRight, Verdict, accepted, refusal, planOf, judgedBy, judged, checkedBy, checked, numberOf}
+use Rattle.checker.specs.Checked.{framesIn, frameIn, isPlaced, rowsKept, entriesRight, Verdict, accepted, refusal, planOf, judgedBy, judged, checkedBy, checked, verdictNumber}
 use Rattle.checker.specs.Answers.{framesAnswer, readAnswer, foundAnswer, besideIt, cycleIn, rowsOf, namesOf, named}
 use Rattle.checker.specs.WalkLaws.{rows-count, rows-in-bytes}
 use Rattle.checker.specs.NameLaws.{same-rows}
@@ -59,7 +59,7 @@ module _ (c : Cycle) (few-jobs : c .count ≤ 128) where
     entriesKept frames = rowsKept jobsOf frames (c .count) height 0 (rowsOf s height)
 
     plan-is : planOf (instanceOf c) f (rowsOf s height)
-        ≡ pick (both (both allPlaced (entriesKept framesOf)) (rulesRight (instanceOf c) height f framesOf)) (accepted f framesOf) (refusal 14)
+        ≡ cond ((allPlaced && entriesKept framesOf) && rulesRight (instanceOf c) height f framesOf) (accepted f framesOf) (refusal 14)
     unfolding planOf entriesRight
     plan-is = rw (count-is, jobs-count, rows-count s height 7)
 
@@ -171,7 +171,7 @@ module _ (bytes : List ℕ) (c : Cycle) (z : Sizes) (o : Formed bytes z) where
     unfolding judgedBy
     rows-judged k e = judged-is ∙ rw (same-h, rw (o .f-is) at e, o .f-is, o .height-is, rows-in-bytes bytes (o .t) k (o .is))
 
-pub found-number : (v : Verdict) → foundAnswer v .refusal ≡ numberOf v
+pub found-number : (v : Verdict) → foundAnswer v .refusal ≡ verdictNumber v
 found-number (accepted f frames) = refl
 found-number (refusal number) = refl
 
@@ -181,7 +181,7 @@ module _ (c : Cycle) where
   found-beside (accepted f frames) = refl
   found-beside (refusal number) = refl
 
-  pub answer-number : (v : Verdict) → readAnswer c v .refusal ≡ numberOf v
+  pub answer-number : (v : Verdict) → readAnswer c v .refusal ≡ verdictNumber v
   answer-number (accepted f frames) = refl
   answer-number (refusal number) = refl
 

@@ -9,20 +9,20 @@ use native.Mathlib.Omega.{arith}
 use lib.ListN.{length, getD, drop}
 use lib.Seq.{getD-drop, drop-drop}
 use lib.Dec.{leb}
-use Rattle.cursor.specs.Fields.{wordBytes}
-use Rattle.cursor.specs.Front.{Bytes}
+use Rattle.cursor.specs.Fields.{Bytes}
 use Rattle.cycle.specs.declared.Job.{Job}
-use Rattle.table.specs.Table.{Entry, Table, table, decode, entryOf, entriesBytes, rowBytes, rowsBytes, headBytes, encode}
+use Rattle.table.specs.Table.{Entry, Table, table, decode, entryOf, entriesBytes, rowBytes, rowsBytes}
 use Rattle.table.specs.WellFormed.{RisingFrom, AllRising}
 use Rattle.table.specs.Left.{less-one, none-left}
 use Rattle.table.specs.EntryLaws.{entry-back}
+use Rattle.table.specs.LengthLaws.{rows-behind}
 use Rattle.table.specs.Inverse.{decode-wellformed, encode-decode}
 use Rattle.model.specs.Named.{isJob}
-use Rattle.checker.specs.Checked.{placeInRow, orElse, placeIn, entryKept, rowKept, rowsKept}
-use Rattle.checker.specs.PlaceLaws.{RightIn, place-right}
+use Rattle.checker.specs.Checked.{positionInRow, orElse, positionIn, entryKept, rowKept, rowsKept}
+use Rattle.checker.specs.PositionLaws.{RightIn, place-right}
 use Rattle.checker.specs.Answers.{entriesIn, rowsIn, rowsOf}
-use Rattle.checker.specs.declared.walk.Place.{Place}
-use Rattle.checker.specs.declared.walk.Place.the-variants.{At, Nowhere}
+use Rattle.checker.specs.declared.walk.Position.{Position}
+use Rattle.checker.specs.declared.walk.Position.the-variants.{At, Nowhere}
 
 -- The bytes of a table's rows are its rows.
 
@@ -56,8 +56,8 @@ module _ (s : List ℕ) where
 
 -- the rows of a decoded table stand in its bytes
 pub rows-in-bytes : (s : List ℕ) (t : Table) → Bytes s → decode s ≡ table t → rowsOf s (length (t .rows)) ≡ t .rows
-unfolding encode headBytes wordBytes
-rows-in-bytes s t bytes e = rows-are s (t .rows) 7 (decode-wellformed s t e .rising) (rw (← encode-decode s t bytes e))
+rows-in-bytes s t bytes e =
+    rows-are s (t .rows) 7 (decode-wellformed s t e .rising) (ap (drop 7) (sym (encode-decode s t bytes e)) ∙ rows-behind t)
 
 pub rows-count : (s : List ℕ) (k at : ℕ) → length (rowsIn s k at) ≡ k
 unfolding rowsIn
@@ -67,43 +67,43 @@ rows-count s (suc k) at = ap suc (rows-count s k (at + 1 + 2 * getD s at 0))
 -- The walk for a job.
 
 -- a job is found in one of the rows
-pub found-below : (s : List ℕ) (height : ℕ) (job : Job) (r : ℕ) (carried : Bool) → placeIn job 0 (rowsOf s height) ≡ At r carried → r < height
+pub found-below : (s : List ℕ) (height : ℕ) (job : Job) (r : ℕ) (carried : Bool) → positionIn job 0 (rowsOf s height) ≡ At r carried → r < height
 found-below s height job r carried e =
     let right : RightIn job 0 (rowsOf s height) (At r carried) = rw e at (place-right job 0 (rowsOf s height)) in
     let (j, is, low, m) = right in
     omega (arith, rows-count s height 7)
 
 -- the rest of the walk inside row `row`, at its entry e of n
-unfoldable pub walkInRow : List ℕ → Job → ℕ → ℕ → ℕ → ℕ → ℕ → Place
+unfoldable pub walkInRow : List ℕ → Job → ℕ → ℕ → ℕ → ℕ → ℕ → Position
 walkInRow s job height row n e at =
-    orElse (placeInRow job row (entriesIn s (n - e) at)) (placeIn job (row + 1) (rowsIn s (height - (row + 1)) (at + 2 * (n - e))))
+    orElse (positionInRow job row (entriesIn s (n - e) at)) (positionIn job (row + 1) (rowsIn s (height - (row + 1)) (at + 2 * (n - e))))
 
 module _ (s : List ℕ) (job : Job) (height : ℕ) where
-  pub walk-starts : placeIn job 0 (rowsIn s (height - 0) 7) ≡ placeIn job 0 (rowsOf s height)
+  pub walk-starts : positionIn job 0 (rowsIn s (height - 0) 7) ≡ positionIn job 0 (rowsOf s height)
   walk-starts = simp sub-zero
 
   module _ (row at : ℕ) where
-    pub row-starts : row < height → walkInRow s job height row (getD s at 0) 0 (at + 1) ≡ placeIn job row (rowsIn s (height - row) at)
-    unfolding walkInRow placeIn rowsIn
+    pub row-starts : row < height → walkInRow s job height row (getD s at 0) 0 (at + 1) ≡ positionIn job row (rowsIn s (height - row) at)
+    unfolding walkInRow positionIn rowsIn
     row-starts h = rw (less-one height row h) (simp sub-zero)
 
-    pub walk-ends : height ≤ row → placeIn job row (rowsIn s (height - row) at) ≡ Nowhere
-    unfolding placeIn rowsIn
+    pub walk-ends : height ≤ row → positionIn job row (rowsIn s (height - row) at) ≡ Nowhere
+    unfolding positionIn rowsIn
     walk-ends h = rw (none-left height row h)
 
     module _ (n e : ℕ) where
-      pub row-ends : n ≤ e → walkInRow s job height row n e at ≡ placeIn job (row + 1) (rowsIn s (height - (row + 1)) at)
-      unfolding walkInRow placeInRow entriesIn
+      pub row-ends : n ≤ e → walkInRow s job height row n e at ≡ positionIn job (row + 1) (rowsIn s (height - (row + 1)) at)
+      unfolding walkInRow positionInRow entriesIn
       row-ends h = let same : at + 2 * 0 ≡ at = omega arith in rw (none-left n e h, same)
 
       pub entry-names : e < n → isJob (getD s at 0) (getD s (at + 1) 0 % 128) job ≡ true
           → walkInRow s job height row n e at ≡ At row (leb 128 (getD s (at + 1) 0))
-      unfolding walkInRow placeInRow entriesIn entryOf
+      unfolding walkInRow positionInRow entriesIn entryOf
       entry-names h q = rw (less-one n e h, q)
 
       pub entry-other : e < n → isJob (getD s at 0) (getD s (at + 1) 0 % 128) job ≡ false
           → walkInRow s job height row n (e + 1) (at + 2) ≡ walkInRow s job height row n e at
-      unfolding walkInRow placeInRow entriesIn entryOf
+      unfolding walkInRow positionInRow entriesIn entryOf
       entry-other h q =
           let same : at + 2 * suc (n - (e + 1)) ≡ at + 2 + 2 * (n - (e + 1)) = omega arith in
           rw (less-one n e h, q, same)

@@ -5,7 +5,7 @@ use cycle::Cycle;
 ghost use mathlib.Core.Path.{_≡_};
 ghost use Prim.Native.Nat.{_≤_};
 ghost use Rattle.cycle.specs.Cycle.{cycleOf};
-ghost use Rattle.cycle.specs.Answers.{answered};
+ghost use Rattle.cycle.specs.Answers.{cycleAnswered};
 ghost use Rattle.table.specs.Table.{decode};
 ghost use Rattle.model.specs.Answers.{instanceOf};
 ghost use Rattle.model.specs.Within.{InLimits};
@@ -98,7 +98,7 @@ fn beside(cycle: Cycle, found: Found) -> Read
 
 // The request's cycle, and the plan that the table describes; or the number, from 1 to 8, 17 or from 12 to 14, that request or table is refused with.
 pub fn read_plan(request: &[u8], table: &[u8]) -> Read
-    ensures { λ r. ⌜ r ≡ readAnswer (answered (cycleOf (now (request .entry)))) (checked (cycleOf (now (request .entry))) (decode (now (table .entry)))) ⌝ }
+    ensures { λ r. ⌜ r ≡ readAnswer (cycleAnswered (cycleOf (now (request .entry)))) (checked (cycleOf (now (request .entry))) (decode (now (table .entry)))) ⌝ }
 {
     let cycle = cycle::read(request);
     if cycle.refusal != 0 {

@@ -8,11 +8,11 @@ ghost use lib.ListN.{getD};
 ghost use Rattle.cursor.specs.Padded.{firsts};
 ghost use Rattle.cycle.specs.Planned.{noJob};
 ghost use Rattle.plan_rules.specs.Every.{every, some};
-ghost use Rattle.checker.specs.Checked.{placeIn, frameFor, framesIn, isPlaced, isThere, rowKept, rowsKept};
+ghost use Rattle.checker.specs.Checked.{positionIn, frameFor, framesIn, isPlaced, isThere, rowKept, rowsKept};
 ghost use Rattle.checker.specs.Answers.{framesAnswer, entriesIn, rowsOf, namesOf, named};
 
 // The row of a job's entry, and its carry.
-enum Place {
+enum Position {
     At(u16, bool),
     Nowhere,
 }
@@ -38,10 +38,10 @@ fn frame(height: u16, row: u16, carried: bool) -> u16
 }
 
 // Walks the rows, and in each row its entries, and stops at the first entry naming the job.
-fn find(table: &[u8], height: u16, job: Job) -> Place
-    ensures { λ r. ⌜ r ≡ placeIn job 0 (rowsOf (now (table .entry)) height) ⌝ }
+fn find(table: &[u8], height: u16, job: Job) -> Position
+    ensures { λ r. ⌜ r ≡ positionIn job 0 (rowsOf (now (table .entry)) height) ⌝ }
 {
-    let mut place = Place::Nowhere;
+    let mut place = Position::Nowhere;
     let mut at: usize = 7;
     let mut row: u16 = 0;
     'rows: while row < height {
@@ -52,7 +52,7 @@ fn find(table: &[u8], height: u16, job: Job) -> Place
             let task = byte_or_zero(table, at);
             let byte = byte_or_zero(table, at + 1);
             if plan_rules::is_job(job, task, table::job::number(byte)) {
-                place = Place::At(row, table::job::is_carried(byte));
+                place = Position::At(row, table::job::is_carried(byte));
                 break 'rows;
             }
             at += 2;
@@ -82,7 +82,7 @@ pub(super) fn read_frames(table: &[u8], height: u16, jobs: [Job; 128], count: us
     let mut y: usize = 0;
     while y < count {
         let job = jobs[y];
-        let Place::At(row, carried) = find(table, height, job) else {
+        let Position::At(row, carried) = find(table, height, job) else {
             return no_frames();
         };
         frames[y] = frame(height, row, carried);

@@ -5,6 +5,10 @@ use Cited.*
 mod Contracts
 use Contracts.{EveryContract, Tested, contracts-met, tested-met}
 
+-- of the tasks of every request that can be read
+abbrev pub OfReadable : (List Task → Type 0) → Type 0
+OfReadable Says = (bytes : List ℕ) (tasks : List Task) (pairs : List Pair) (g : ℕ) → reading bytes ≡ readable tasks pairs g → Says tasks
+
 -- of every request within the limits, and what is planned for it
 abbrev pub OfWithin : (List ℕ → Instance → Type 0) → Type 0
 OfWithin Says = (request : List ℕ) (x : Instance) → Within request x → Says request x
@@ -33,7 +37,7 @@ pub record Demand2 : Type 0 where
       → reading (requestBytes tasks pairs g) ≡ readable tasks pairs g
   -- 01: 1 "bytes end inside a section or before its count", 6 "bytes follow the last pair"; R-1: "A file that ends after its pairs means g = 0"
   pub request-bytes-are : (bytes : List ℕ) (tasks : List Task) (pairs : List Pair) (g : ℕ) → reading bytes ≡ readable tasks pairs g → Bytes bytes
-      → let two = length (twoSections tasks pairs) in Written bytes tasks pairs g
+      → let two = length (twoSections tasks pairs) in SaysRequest bytes tasks pairs g
       × ((j : ℕ) → j < length bytes → (j ≡ two → ⊥) → reading (take j bytes) ≡ unreadable 1) × (reading (take two bytes) ≡ readable tasks pairs 0)
       × (two < length bytes → (b : ℕ) (rest : List ℕ) → reading (bytes ++ (b ∷ rest)) ≡ unreadable 6)
   -- 01, "Where a number is given": 1 to 6 and 17 for the bytes of a request, with 7 and 8 for its cycle
@@ -44,14 +48,14 @@ pub record Demand2 : Type 0 where
       × (gcdOf a 0 ≡ a) × (gcdOf a b ≡ gcdOf b a)
   pub lcm-is : (a b m : ℕ) → (a ∣ lcmOf a b) × (b ∣ lcmOf a b) × (0 < a → a ∣ m → b ∣ m → lcmOf a b ∣ m) × (0 < a → 0 < m → a ∣ m → b ∣ m → lcmOf a b ≤ m)
   -- 01: "H is the least common multiple of all T (000, 002, 003, 004), at most 10,000."; "The due time may pass H. There are at most 128 jobs in all."
-  pub hyperperiod-is-least : (tasks : List Task) (m : ℕ) → 0 < m → Periodic tasks → ((i : ℕ) → i < length tasks → periodOf tasks i ∣ m) → hyperperiod tasks ≤ m
+  pub hyperperiod-is-least : OfReadable (λ tasks. ((i : ℕ) → i < length tasks → periodOf tasks i ∣ hyperperiod tasks)
+      × ((m : ℕ) → 0 < m → ((i : ℕ) → i < length tasks → periodOf tasks i ∣ m) → hyperperiod tasks ≤ m))
   pub cycle-keeps : (bytes : List ℕ) (tasks : List Task) (pairs : List Pair) (g h : ℕ) (jobs : List Job)
       → cycleOf bytes ≡ cycle tasks pairs g h jobs → WithinLimits tasks pairs h jobs
   -- 01: "Task i has jobs j = 0 to H/T − 1, released at r = P + j·T, due at r + D."; "Jobs are ordered by release, then task number."
-  pub jobs-in-order : (tasks : List Task) (h : ℕ) → Periodic tasks → InPlanningOrder tasks h (planned tasks h)
+  pub jobs-in-order : OfReadable (λ tasks. (h : ℕ) → InPlanningOrder tasks h (planned tasks h))
   -- 01: "Sizes: the byte 02, then f and H as u16. Rows: F as u16, then for each row a byte count 0 to 16 and that many entries."
-  pub table-read-back : ((t : Table) → WellFormed t → decode (encode t) ≡ table t)
-      × ((bytes : List ℕ) (t : Table) → Bytes bytes → decode bytes ≡ table t → encode t ≡ bytes)
+  pub table-read-back : (bytes : List ℕ) (t : Table) → Bytes bytes → (decode bytes ≡ table t) ↔ SaysTable bytes t
   -- 01: "the check accepts exactly the tables that describe a plan, of any f and not only the chosen one."
   pub check-accepts : (request bytes : List ℕ) (x : Instance) (t : Table) → Within request x → decode bytes ≡ table t → (f : ℕ) (frames : List ℕ)
       → (checked (cycleOf request) (decode bytes) ≡ accepted f frames) ↔ (IsPlan x f frames × Describes x f frames t)
@@ -78,26 +82,26 @@ demand-2 = record {
   request-numbers = (unreadable-number, no-cycle-number);
   gcd-is = λ a b d. (gcd-dvd a b, dvd-gcd d a b, gcd-greatest d a b, gcd-zero a, gcd-comm a b);
   lcm-is = λ a b m. (dvd-lcm-left a b, dvd-lcm-right a b, lcm-dvd a b m, lcm-least a b m);
-  hyperperiod-is-least = hyperperiod-least;
+  hyperperiod-is-least = λ b ts ps g e. (hyperperiod-divides ts, λ m some. hyperperiod-least ts m some (readable-periodic ts ps (readable-kept b ts ps g e)));
   cycle-keeps = cycle-within;
-  jobs-in-order = planned-in-order;
-  table-read-back = (decode-encode, encode-decode);
+  jobs-in-order = λ b ts ps g e h. planned-in-order ts h (readable-periodic ts ps (readable-kept b ts ps g e));
+  table-read-back = λ bytes t are. (decodes-says bytes t are, says-decodes bytes t);
   check-accepts = accepts-described;
   check-answers = check-exact;
   rewriting-keeps-bytes = same-bytes;
   plan-read-back = reads-back;
   planning-read-back = planned-reads-back;
-  bench-sheet = (sheet-holds, listed);
+  bench-sheet = (sheet-holds .0, listed);
   listings-whole = λ request. ((listing-short request, listing-whole request), (flight-short request, flight-whole request));
 }
 
 -- DEMAND 3: a table exactly when there is a plan, and the whole flight.
 pub record Demand3 : Type 0 where
   -- 01: "This is necessary for a plan and not enough for one, even by windows alone, once phases count."
-  pub plausible-is-necessary : (x : Instance) → Good x → Needed phaseRule x
+  pub plausible-is-necessary : OfWithin (λ request x. Needed phaseRule x)
   -- 01: "The table is that of the first length with a plan, and of its plans the one whose job is in the earlier frame at the first .."
-  pub choice-is-right : (x : Instance) → Good x → RightChoice x (choose x) × ((f : ℕ) (frames : List ℕ) → (choose x ≡ chosen f frames) ↔ IsChosen x f frames)
-      × (((f : ℕ) × (frames : List ℕ) × (choose x ≡ chosen f frames)) ↔ SomePlan x)
+  pub choice-is-right : OfWithin (λ request x. RightChoice x (choose x) × ((f : ℕ) (frames : List ℕ) → (choose x ≡ chosen f frames) ↔ IsChosen x f frames)
+      × (((f : ℕ) × (frames : List ℕ) × (choose x ≡ chosen f frames)) ↔ SomePlan x))
   -- R-7: "Handing out a table exactly when a plan exists holds if the allowance reaches the full search's tries."; which number otherwise, 23 among them
   pub planning-answers : (allowance : ℕ) (request out : List ℕ) (x : Instance) → Within request x → Handed x allowance request out
   -- 01: "A refusal returns its number, length 0 or no entries, the state unchanged and the buffer untouched.": of a request outside the limits
@@ -105,19 +109,17 @@ pub record Demand3 : Type 0 where
       → (searchedAnswer allowance request out ≡ record { refusal = number; length = 0; tries = 0 }) × bufferIs allowance request out out
   -- 01: "The claim is about the list as a whole: one theorem, not a law for each call."
   pub whole-flight : OfCalls (λ x bytes t calls actual. KeepToC x (framesFlown bytes calls) actual → Flight x bytes t calls actual)
-  -- 01: "Every next-frame call gets the one accepted table.": of what the public calls accept and hand out; and through C
+  -- 01: "Every next-frame call gets the one accepted table.": of what the public calls accept and hand out
   pub accepted-flies : OfAccepted Flies
-  pub accepted-flies-in-c : CheckedInC × PlannedInC
 
 pub demand-3 : Demand3
 demand-3 = record {
-  plausible-is-necessary = plausible-needed;
-  choice-is-right = λ x good. (choose-right x good, chosen-exactly x good, some-chosen-exactly x good);
+  plausible-is-necessary = λ request x w. plausible-needed x (within-good request x w);
+  choice-is-right = λ request x w. let good = within-good request x w in (choose-right x good, chosen-exactly x good, some-chosen-exactly x good);
   planning-answers = table-handed;
   planning-refuses = not-planned;
   whole-flight = flight;
   accepted-flies = (checked-flight, planned-flight);
-  accepted-flies-in-c = (flight-in-c, planned-in-c);
 }
 
 -- 02. R-3: "whenever a job is tested in a frame, each kept load equals the sum of C + g over the jobs then placed in its row": what the test asks.
@@ -132,7 +134,7 @@ pub record Requests : Type 0 where
       → getD (final (dispatch bytes) freshState calls .counts) i 0 ≡ min 65535 (overruns i calls)
   -- R-2: "A report raises only its own task's count."; next-frame changes none
   pub report-raises-its-own : (over : Bool) (task : ℕ) (counts : List ℕ) (i : ℕ) → i < length counts → getD counts i 0 ≤ 65535
-      → getD (raisedAt over task counts) i 0 ≡ min 65535 (getD counts i 0 + bit (both (eqb task i) over))
+      → getD (raisedAt over task counts) i 0 ≡ min 65535 (getD counts i 0 + bit (eqb task i && over))
   pub frame-raises-none : (d : Decoded) (s : State) → nextFrame d s .state .counts ≡ s .counts
   -- R-3: "the capacity test uses that load, f and the job's own C + g alone": its answers come to a plan's capacity rule
   pub tested-by-load : (x : Instance) (f : ℕ) (frames load : List ℕ) (k : ℕ) → 0 < rowsAt x f → LoadsKept (problemAt x f) frames load → Capacity x f frames
@@ -150,13 +152,14 @@ pub record Requests : Type 0 where
   pub joining-three : (a b c : Reading) (tasks : List Task) (pairs : List Pair) (g : ℕ)
       → (joined (joined a b) c ≡ readable tasks pairs g) ↔ (joined a (joined b c) ≡ readable tasks pairs g)
   -- R-5: "For an f that divides H, a task passes exactly if each of its windows holds a whole frame."
-  pub frame-test-is-exact : (x : Instance) → Good x → (f : ℕ) → f ∣ x .h → (i : ℕ) → i < length (x .tasks)
-      → (phaseRule f (taskAt x i) ≡ true) ↔ WindowsHold x f i
+  pub frame-test-is-exact : OfWithin (λ request x. (f : ℕ) → f ∣ x .h → (i : ℕ) → i < length (x .tasks)
+      → (phaseRule f (taskAt x i) ≡ true) ↔ WindowsHold x f i)
   -- R-5: "(3,10,5,2) moves from 10 to 9." "No table handed out changes."; in the check 14 moves to 13
   pub planning-moved : (request : List ℕ) → (outcomeBy phaseRule request ≡ outcome request)
       × ((outcomeBy commonRule request ≡ outcome request) ⊎ ((outcomeBy commonRule request ≡ refusal 10) × (outcome request ≡ refusal 9)))
   pub check-moved : (request bytes : List ℕ)
       → Moves (checkedBy (plausibleBy commonRule) (cycleOf request) (decode bytes)) (checked (cycleOf request) (decode bytes))
+  pub bench-sheet-moved : SheetMoved
   -- R-6: "answer the earliest frame k with k·f ≥ s, (k+1)·f ≤ e and enough unused time in its row for L + g."
   pub one-off-answers : (request bytes : List ℕ) (L s e : ℕ) → Bytes bytes → OneOffExact request bytes L s e
   -- R-6: "Ground wants to send a single extra frame of payload data.": in flight it is sent in time, and no entry moves
@@ -169,6 +172,7 @@ pub record Requests : Type 0 where
       → (fits (problemAt x f) p k ≡ true) ↔ MayStand x f p k)
   -- R-7: "The count is 0 with 1 to 9 and 17, the allowance with 23, and otherwise the full search's tries."
   pub tries-are-counted : (allowance : ℕ) (request out : List ℕ) (x : Instance) → Within request x → Counted x allowance request out
+  pub bench-sheet-tries : SheetTries
   -- R-7: "A larger allowance never turns a table, 9 or 10 into another answer."
   pub larger-allowance-keeps : (a b : ℕ) → a ≤ b → (request out : List ℕ) → (numberIs a request out 23 → ⊥)
       → (searchedAnswer b request out ≡ searchedAnswer a request out) × bufferIs b request out (outcomeBuffer (outcomeWithin a request) out)
@@ -212,21 +216,23 @@ requests = record {
   joining-has-room = join-enough;
   joining-refuses = join-number;
   joining-three = λ a b c tasks pairs g. (joined-right a b c tasks pairs g, joined-left a b c tasks pairs g);
-  frame-test-is-exact = phase-exact;
+  frame-test-is-exact = λ request x w. phase-exact x (within-good request x w);
   planning-moved = λ request. (outcome-now request, outcome-moved request);
   check-moved = verdict-moved;
+  bench-sheet-moved = sheet-holds .1;
   one-off-answers = one-off-exact;
   one-off-is-sent = one-off-sent;
   frames-of-window = frames-walked;
   frame-passed-over = passed-over;
   tries-are-counted = tries-counted;
+  bench-sheet-tries = sheet-holds .2;
   larger-allowance-keeps = larger-allowance;
   readings-spaced = (spacing, (checked-spacing, planned-spacing));
   successive-is = successive-means;
   spaced-while = (spacing-while, reached);
   cutting-answers = cut-exact;
   cutting-has-room = cut-enough;
-  pieces-run-both = (pieces-run, planned-pieces-run, cut-example.examples);
+  pieces-run-both = (pieces-run, planned-pieces-run, cut-example-laws.examples);
   drafts-answer = (start-theorem, lift-theorem, put-theorem, write-theorem);
   drafts-keep = (moves-theorem, draft-start.same-bytes, sound-theorem, sum-theorem, plan-theorem);
   phases-answer = (phases-exact, how-many-means, own-phase-theorem, larger);
@@ -242,10 +248,13 @@ pub record After : Type 0 where
   pub deciding-refuses : (request out : List ℕ) (number : ℕ) → cycleOf request ≡ noCycle number
       → (outcomeAnswer (outcome request) out ≡ record { refusal = number; length = 0 }) × decider.bufferIs request out out
   -- Deciding answers as planning does wherever planning answers anything but 23, so with every allowance that reaches the full search's tries; and so
-  -- from C. What is handed out passes bus_check.
+  -- from C.
   pub deciding-is-planning : (allowance : ℕ) (request out : List ℕ) → (numberIs allowance request out 23 → ⊥) → decider.AsPlan allowance request out
   pub deciding-is-full-planning : (allowance : ℕ) (request out : List ℕ) → requestTries request ≤ allowance → decider.AsPlan allowance request out
-  pub deciding-in-c : AnsweredSame × ReachedSame × PlanPasses × DecidePasses
+  pub deciding-in-c : AnsweredSame × ReachedSame
+  -- From C: what is handed out passes bus_check; and the whole flight of every table to which bus_check answers 0, and of the bytes that bus_plan hands out.
+  pub handed-out-passes-in-c : PlanPasses × DecidePasses
+  pub accepted-flies-in-c : CheckedInC × PlannedInC
   -- From C: bytes are read as they were written, both ways; and a call changes none but those named.
   pub bytes-read-back : StateRoundTrip × DraftRoundTrip × TimerRoundTrip × HeaterRoundTrip × TriesBack × PhasesBack × RecordsBack
   pub bytes-changed : FrameChanges × ReportChanges × DraftsRead
@@ -256,7 +265,9 @@ after = record {
   deciding-refuses = deciding.not-decided;
   deciding-is-planning = deciding.as-plan;
   deciding-is-full-planning = deciding.as-reached;
-  deciding-in-c = (same-answered, same-reached, plan-passes, decide-passes);
+  deciding-in-c = (same-answered, same-reached);
+  handed-out-passes-in-c = (plan-passes, decide-passes);
+  accepted-flies-in-c = (flight-in-c, planned-in-c);
   bytes-read-back = (state-round-trip, draft-round-trip, timer-round-trip, heater-round-trip, tries-back, phases-told, records-back);
   bytes-changed = (frame-changes, report-changes, drafts-read);
 }

@@ -1,7 +1,7 @@
 -- What the cursor's answer at a place says of the bytes from there on: `drop at s` begins with the field, or is too short for it.
 use Prim.Native.Nat.{ℕ, _+_, _*_, _≤_, _<_}
 use mathlib.Core.Path.{_≡_, refl, sym, _∙_}
-use mathlib.Core.Bool.{Bool, true, false}
+use mathlib.Core.Bool.{Bool, true, false, cond}
 use mathlib.Core.Logic.{_⊎_, inl, inr}
 use mathlib.Core.List.{List}
 use native.Mathlib.Numerals.{add-one}
@@ -10,7 +10,6 @@ use lib.ListN.{length, getD, drop, drop-of-length-le}
 use lib.Seq.{drop-cons}
 use lib.Dec.{ltb}
 use borrow.Author.Tests.{lt-ltb, le-ltb, ltb-true, ltb-false}
-use Rattle.cursor.specs.Choice.{pick}
 use Rattle.cursor.specs.ChoiceLaws.{lt-or-ge}
 use Rattle.cursor.specs.Parsed.{got, refused, then}
 use Rattle.cursor.specs.ParsedLaws.{never}
@@ -45,20 +44,20 @@ module _ (short : ℕ) (s : List ℕ) (at : ℕ) where
 
 -- The cursor's answer by the length of the bytes; no number is in it.
 module _ (s : List ℕ) (at : ℕ) where
-  pub byte-at : (short : ℕ) → byteRead at (byteOf short (drop at s)) ≡ pick (ltb at (length s)) (Byte (getD s at 0) (record { at = at + 1 })) NoByte
+  pub byte-at : (short : ℕ) → byteRead at (byteOf short (drop at s)) ≡ cond (ltb at (length s)) (Byte (getD s at 0) (record { at = at + 1 })) NoByte
   byte-at short = go (lt-or-ge at (length s))
     where
       go : (at < length s) ⊎ (length s ≤ at)
-          → byteRead at (byteOf short (drop at s)) ≡ pick (ltb at (length s)) (Byte (getD s at 0) (record { at = at + 1 })) NoByte
+          → byteRead at (byteOf short (drop at s)) ≡ cond (ltb at (length s)) (Byte (getD s at 0) (record { at = at + 1 })) NoByte
       go (inl h) = rw (lt-ltb at (length s) h, byte-here short s at h)
       go (inr h) = rw (le-ltb at (length s) h, byte-none short s at h)
 
   pub word-at : (short : ℕ)
-      → wordRead at (wordOf short (drop at s)) ≡ pick (ltb (at + 1) (length s)) (Word (getD s at 0 + getD s (at + 1) 0 * 256) (record { at = at + 1 + 1 })) NoWord
+      → wordRead at (wordOf short (drop at s)) ≡ cond (ltb (at + 1) (length s)) (Word (getD s at 0 + getD s (at + 1) 0 * 256) (record { at = at + 1 + 1 })) NoWord
   word-at short = go (lt-or-ge (at + 1) (length s))
     where
       go : (at + 1 < length s) ⊎ (length s ≤ at + 1)
-          → wordRead at (wordOf short (drop at s)) ≡ pick (ltb (at + 1) (length s)) (Word (getD s at 0 + getD s (at + 1) 0 * 256) (record { at = at + 1 + 1 })) NoWord
+          → wordRead at (wordOf short (drop at s)) ≡ cond (ltb (at + 1) (length s)) (Word (getD s at 0 + getD s (at + 1) 0 * 256) (record { at = at + 1 + 1 })) NoWord
       go (inl h) = rw (lt-ltb (at + 1) (length s) h, word-here short s at h)
       go (inr h) = rw (le-ltb (at + 1) (length s) h, word-none short s at h)
 
@@ -83,7 +82,7 @@ module _ (short : ℕ) (s : List ℕ) (at : ℕ) where
   unfolding byteAt
   byte-taken b next e = go (ltb at (length s)) refl (sym (byte-at s at 1) ∙ e)
     where
-      go : (t : Bool) → ltb at (length s) ≡ t → pick t (Byte (getD s at 0) (record { at = at + 1 })) NoByte ≡ Byte b next → ByteTaken short s at b next
+      go : (t : Bool) → ltb at (length s) ≡ t → cond t (Byte (getD s at 0) (record { at = at + 1 })) NoByte ≡ Byte b next → ByteTaken short s at b next
       go true q w =
           let within : at < length s = ltb-true at (length s) q in
           let value : b ≡ getD s at 0 = cc in
@@ -95,7 +94,7 @@ module _ (short : ℕ) (s : List ℕ) (at : ℕ) where
   unfolding byteAt
   byte-missing e = go (ltb at (length s)) refl (sym (byte-at s at 1) ∙ e)
     where
-      go : (t : Bool) → ltb at (length s) ≡ t → pick t (Byte (getD s at 0) (record { at = at + 1 })) NoByte ≡ NoByte
+      go : (t : Bool) → ltb at (length s) ≡ t → cond t (Byte (getD s at 0) (record { at = at + 1 })) NoByte ≡ NoByte
           → (byteOf short (drop at s) ≡ refused short) × (length s ≤ at)
       go true q w = absurd (never (cc))
       go false q w = let ended : length s ≤ at = ltb-false at (length s) q in (byte-none short s at ended, ended)
@@ -112,7 +111,7 @@ module _ (short : ℕ) (s : List ℕ) (at : ℕ) where
   word-taken w next e = go (ltb (at + 1) (length s)) refl (sym (word-at s at 1) ∙ e)
     where
       go : (t : Bool) → ltb (at + 1) (length s) ≡ t
-          → pick t (Word (getD s at 0 + getD s (at + 1) 0 * 256) (record { at = at + 1 + 1 })) NoWord ≡ Word w next → WordTaken short s at w next
+          → cond t (Word (getD s at 0 + getD s (at + 1) 0 * 256) (record { at = at + 1 + 1 })) NoWord ≡ Word w next → WordTaken short s at w next
       go true q v =
           let within : at + 1 < length s = ltb-true (at + 1) (length s) q in
           let value : w ≡ getD s at 0 + getD s (at + 1) 0 * 256 = cc in
@@ -124,7 +123,7 @@ module _ (short : ℕ) (s : List ℕ) (at : ℕ) where
   unfolding wordAt
   word-missing e = go (ltb (at + 1) (length s)) refl (sym (word-at s at 1) ∙ e)
     where
-      go : (t : Bool) → ltb (at + 1) (length s) ≡ t → pick t (Word (getD s at 0 + getD s (at + 1) 0 * 256) (record { at = at + 1 + 1 })) NoWord ≡ NoWord
+      go : (t : Bool) → ltb (at + 1) (length s) ≡ t → cond t (Word (getD s at 0 + getD s (at + 1) 0 * 256) (record { at = at + 1 + 1 })) NoWord ≡ NoWord
           → wordOf short (drop at s) ≡ refused short
       go true q v = absurd (never (cc))
       go false q v = word-none short s at (ltb-false (at + 1) (length s) q)

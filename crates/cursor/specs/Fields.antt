@@ -1,13 +1,17 @@
--- The two fields of the formats: a byte, and a u16, which is two bytes, low byte first.
--- Twice: as the front of some bytes, and as the cursor's answer at a place of a byte string. FieldLaws ties the two.
-use Prim.Native.Nat.{ℕ, _+_, _*_, _/_, _%_}
+-- The two fields of the formats: a byte, and a u16, which is two bytes, low byte first; and what a byte string is.
+-- Each field twice: as the front of some bytes, and as the cursor's answer at a place of a byte string. FieldLaws ties the two.
+use Prim.Native.Nat.{ℕ, _+_, _*_, _/_, _%_, _<_}
 use mathlib.Core.List.{List, [], _∷_}
-use lib.ListN.{drop}
+use lib.ListN.{drop, getD}
 use Rattle.cursor.specs.Parsed.{Parsed, got, refused, then}
 use Rattle.cursor.specs.declared.ByteRead.{ByteRead}
 use Rattle.cursor.specs.declared.ByteRead.the-variants.{Byte, NoByte}
 use Rattle.cursor.specs.declared.WordRead.{WordRead}
 use Rattle.cursor.specs.declared.WordRead.the-variants.{Word, NoWord}
+
+-- the elements of a byte string
+abbrev pub Bytes : List ℕ → Type 0
+Bytes s = (i : ℕ) → getD s i 0 < 256
 
 -- the front byte; `short` is the number that is given where the bytes have ended
 unfoldable pub byteOf : ℕ → List ℕ → Parsed ℕ

@@ -2,13 +2,12 @@
 -- with the number of bytes that have ended, `short`. So do readings one after another, and a row of records.
 use Prim.Native.Nat.{ℕ, zero, suc, _+_, _-_, _*_, _≤_, _<_}
 use mathlib.Core.Path.{_≡_, refl, ap, _∙_}
-use mathlib.Core.Bool.{Bool, true, false}
+use mathlib.Core.Bool.{Bool, true, false, cond}
 use mathlib.Core.Logic.{_⊎_, inl, inr}
 use mathlib.Core.List.{List, [], _∷_, _++_, append-assoc}
 use native.Mathlib.Omega.{arith}
 use lib.ListN.{length, take, length-append}
 use lib.Seq.{take-append-le, take-append-add}
-use Rattle.cursor.specs.Choice.{pick}
 use Rattle.cursor.specs.ChoiceLaws.{lt-or-ge}
 use Rattle.cursor.specs.Parsed.{Parsed, got, refused, then, records}
 use Rattle.cursor.specs.ParsedLaws.{never, then-got, got-same}
@@ -31,7 +30,7 @@ module _ {A : Type 0} (short : ℕ) where
       (record { own = []; whole = refl; any-behind = λ behind. refl; cut = λ k h. absurd (omega arith) })
 
   -- a rule that is judged
-  pub rule-own : (test : Bool) (number : ℕ) (one : List ℕ → Parsed A) → ByOwnBytes one → ByOwnBytes (λ bytes. pick test (one bytes) (refused number))
+  pub rule-own : (test : Bool) (number : ℕ) (one : List ℕ → Parsed A) → ByOwnBytes one → ByOwnBytes (λ bytes. cond test (one bytes) (refused number))
   rule-own true number one own bytes x rest e = own bytes x rest e
   rule-own false number one own bytes x rest e = absurd (never (cc))
 

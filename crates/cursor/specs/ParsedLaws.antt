@@ -1,10 +1,9 @@
 -- A reading that comes to a value came to one at each of its steps.
 use Prim.Native.Nat.{ℕ}
 use mathlib.Core.Path.{_≡_, refl, subst₂}
-use mathlib.Core.Bool.{Bool, true, false}
+use mathlib.Core.Bool.{Bool, true, false, cond, _&&_}
 use mathlib.Core.List.{List}
 use native.Mathlib.Omega.{arith}
-use Rattle.cursor.specs.Choice.{pick, both}
 use Rattle.cursor.specs.Parsed.{Parsed, got, refused, then}
 
 pub never : _≡_ {A = ℕ} 0 1 → ⊥
@@ -22,7 +21,7 @@ then-got (got x tail) next y rest e = record { value = x; tail = tail; first = r
 then-got (refused number) next y rest e = absurd (never (cc))
 
 -- a rule that was judged held
-pub rule-got : {A : Type 0} (test : Bool) (r : Parsed A) (number : ℕ) (y : A) (rest : List ℕ) → pick test r (refused number) ≡ got y rest
+pub rule-got : {A : Type 0} (test : Bool) (r : Parsed A) (number : ℕ) (y : A) (rest : List ℕ) → cond test r (refused number) ≡ got y rest
     → (test ≡ true) × (r ≡ got y rest)
 rule-got true r number y rest e = (refl, e)
 rule-got false r number y rest e = absurd (never (cc))
@@ -34,6 +33,6 @@ got-same P {x} {y} {tail} {rest} e h =
     let behind : tail ≡ rest = cc in
     subst₂ P value behind h
 
-pub both-true : (a b : Bool) → both a b ≡ true → (a ≡ true) × (b ≡ true)
+pub both-true : (a b : Bool) → a && b ≡ true → (a ≡ true) × (b ≡ true)
 both-true true b e = (refl, e)
 both-true false b e = (e, absurd (never (cc)))

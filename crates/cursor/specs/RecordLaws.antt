@@ -10,7 +10,8 @@ use lib.ListN.{length, drop, set, getD, replicate, length-append, List·getD-app
 use lib.Seq.{getD-append-seam}
 use Rattle.cursor.specs.Parsed.{Parsed, got, refused, records}
 use Rattle.cursor.specs.ParsedLaws.{then-got}
-use Rattle.cursor.specs.Padded.{padded, padded-none, set-padded}
+use Rattle.cursor.specs.Padded.{padded}
+use Rattle.cursor.specs.PaddedLaws.{padded-none, set-padded}
 
 pub record SoFar {A : Type 0} (one : List ℕ → Parsed A) (size : ℕ) (blank : A) (whole : Parsed (List A)) (s : List ℕ) (n i at : ℕ) (xs : List A) : Type 0 where
   pub done : List A

@@ -2,12 +2,11 @@
 -- So a record of fixed width that was read at a place ends that much further.
 use Prim.Native.Nat.{ℕ, zero, suc, _+_, _-_, _*_, _≤_}
 use mathlib.Core.Path.{_≡_, refl, sym, ap, _∙_}
-use mathlib.Core.Bool.{Bool, true, false}
+use mathlib.Core.Bool.{Bool, true, false, cond}
 use mathlib.Core.List.{List, [], _∷_, _++_}
 use native.Mathlib.Omega.{arith}
 use lib.ListN.{length, drop, length-append, length-drop}
 use lib.Seq.{drop-drop}
-use Rattle.cursor.specs.Choice.{pick}
 use Rattle.cursor.specs.Parsed.{Parsed, got, refused, then, records}
 use Rattle.cursor.specs.ParsedLaws.{never, then-got}
 use Rattle.cursor.specs.Fields.{byteOf, wordOf}
@@ -43,7 +42,7 @@ module _ (Number : ℕ → Type 0) where
       then-wide 1 0 rest (byteOf short rest) _ (byte-wide short is rest) (λ high rest. (omega arith, refl)))
 
   -- a rule is judged, and takes no bytes
-  pub rule-wide : {A : Type 0} (test : Bool) (x : A) (rest : List ℕ) (number : ℕ) → Number number → Wide Number 0 rest (pick test (got x rest) (refused number))
+  pub rule-wide : {A : Type 0} (test : Bool) (x : A) (rest : List ℕ) (number : ℕ) → Number number → Wide Number 0 rest (cond test (got x rest) (refused number))
   rule-wide true x rest number is = (omega arith, refl)
   rule-wide false x rest number is = is
 

@@ -1,10 +1,9 @@
 -- Cutting a long transfer, in the words of 02's R-9.
 use Prim.Native.Nat.{ℕ, _+_, _-_}
-use mathlib.Core.Bool.{Bool}
+use mathlib.Core.Bool.{Bool, cond, _&&_}
 use mathlib.Core.List.{List, _∷_, _++_, map}
 use lib.ListN.{length, getD, take, drop}
 use lib.Dec.{leb, ltb, eqb}
-use Rattle.cursor.specs.Choice.{pick, both}
 use Rattle.request.specs.Request.{Reading, readable, unreadable, noTask}
 use Rattle.request.specs.declared.Task.{Task}
 use Rattle.request.specs.declared.Pair.{Pair}
@@ -21,10 +20,10 @@ cutTasks tasks i u =
 
 -- The tasks of a pair. "Pairs in which i came second keep the first piece; pairs in which it came first take the second piece."
 abbrev pub asFirst : ℕ → ℕ → ℕ
-asFirst i a = pick (ltb a i) a (a + 1)
+asFirst i a = cond (ltb a i) a (a + 1)
 
 abbrev pub asSecond : ℕ → ℕ → ℕ
-asSecond i b = pick (leb b i) b (b + 1)
+asSecond i b = cond (leb b i) b (b + 1)
 
 abbrev pub cutPair : ℕ → Pair → Pair
 cutPair i q = record { a = asFirst i (q .a); b = asSecond i (q .b) }
@@ -35,15 +34,15 @@ cutPairs i pairs = record { a = i; b = i + 1 } ∷ map (cutPair i) pairs
 
 -- i is below n, and u is "from 1 to C − 1"
 unfoldable pub cuttable : List Task → ℕ → ℕ → Bool
-cuttable tasks i u = both (ltb i (length tasks)) (both (leb 1 u) (ltb u (getD tasks i noTask .c)))
+cuttable tasks i u = ltb i (length tasks) && (leb 1 u && ltb u (getD tasks i noTask .c))
 
 -- "A call takes a request, first read and refused by its own number"; "It refuses with 24 if i is not below n or u is not from 1 to C − 1, then with 25 if n is
 -- already 16."; "More than 16 pairs gives 19, judged after the two". The cut request, or the number of a refusal; 11 is the writer's.
 unfoldable pub cut : ℕ → ℕ → Reading → Reading
 cut i u (unreadable number) = unreadable number
 cut i u (readable tasks pairs g) =
-    pick (cuttable tasks i u)
-    (pick (eqb (length tasks) 16) (unreadable 25)
-    (pick (ltb 16 (length pairs + 1)) (unreadable 19)
+    cond (cuttable tasks i u)
+    (cond (eqb (length tasks) 16) (unreadable 25)
+    (cond (ltb 16 (length pairs + 1)) (unreadable 19)
     (readable (cutTasks tasks i u) (cutPairs i pairs) g)))
     (unreadable 24)

@@ -1,6 +1,6 @@
 -- The ways out of cutting: the request's own refusal, 24, 25, 19, and the cut request, whose tasks and pairs stand in arrays.
 use Prim.Native.Nat.{ℕ, _+_, _-_, _≤_, _<_, min}
-use mathlib.Core.Path.{_≡_, refl, sym, ap, _∙_}
+use mathlib.Core.Path.{_≡_, sym, ap, _∙_}
 use mathlib.Core.Bool.{Bool, true, false}
 use mathlib.Core.List.{List, [], _∷_, _++_, map-append}
 use native.Mathlib.Numerals.{add-one}
@@ -10,18 +10,19 @@ use lib.Seq.{ext-getD}
 use lib.Dec.{leb, ltb}
 use borrow.Author.Tests.{lt-ltb, le-ltb, le-leb, lt-leb, eq-eqb, ne-eqb, ltb-true, leb-true}
 use Rattle.cursor.specs.ParsedLaws.{both-true}
-use Rattle.cursor.specs.Padded.{padded, padded-none, set-padded, firsts, firsts-length, getD-firsts}
+use Rattle.cursor.specs.Padded.{padded, firsts}
+use Rattle.cursor.specs.PaddedLaws.{padded-none, set-padded, firsts-length, getD-firsts}
 use Rattle.request.specs.Request.{readable, unreadable, reading, noTask, noPair}
 use Rattle.request.specs.Encode.{requestBytes}
-use Rattle.request.specs.Answers.{answered}
+use Rattle.request.specs.Answers.{requestAnswered}
 use Rattle.request.specs.AnswerLaws.{not-read}
 use Rattle.request.specs.declared.Task.{Task}
 use Rattle.request.specs.declared.Pair.{Pair}
 use Rattle.request.specs.declared.Request.{Request}
 use Rattle.cursor.specs.Written.{written, buffer}
-use Rattle.request_writer.specs.Written.{requestAnswer, requestBuffer}
-use Rattle.request_writer.specs.FileLaws.{refusal-answered, request-answered}
-use Rattle.request_writer.specs.Places.{ReadAs, counts-few, first-tasks, first-pairs, places-hold}
+use Rattle.request.specs.Written.{requestAnswer, requestBuffer}
+use Rattle.request.specs.FileLaws.{refusal-answered, request-answered}
+use Rattle.request.specs.Places.{ReadAs, counts-few, first-tasks, first-pairs, places-hold}
 use Rattle.cursor.specs.declared.Written.{Written}
 use Rattle.cut.specs.Cut.{piece, cutTasks, cutPair, cutPairs, cuttable, cut}
 use Rattle.cut.specs.Exactly.{PieceOf, CutTasks}
@@ -100,8 +101,10 @@ firsts-all blank xs k e =
 -- The pairs, one more at a time
 
 pub pairs-none : (i : ℕ) (pairs : List Pair) → set (replicate 16 noPair) 0 (record { a = i; b = i + 1 }) ≡ padded 16 noPair (cutPairs i (firsts 0 noPair pairs))
-unfolding firsts padded cutPairs
-pairs-none i pairs = refl
+unfolding firsts cutPairs
+pairs-none i pairs =
+    let first : Pair = record { a = i; b = i + 1 } in
+    ap (λ (l : List Pair). set l 0 first) (sym (padded-none 16 noPair)) ∙ set-padded 16 noPair [] first (omega arith)
 
 pub pairs-counted : (i : ℕ) (pairs : List Pair) → length (cutPairs i pairs) ≡ length pairs + 1
 pairs-counted i pairs = pairs-are i pairs .one-more
@@ -145,7 +148,7 @@ room bytes x o n16 m16 = let few = counts-few bytes x o in (omega (arith, few .0
 -- The ways out
 
 module _ (request out : List ℕ) (i u : ℕ) where
-  -- what is answered, and left in the buffer, is what the cut comes to
+  -- what is requestAnswered, and left in the buffer, is what the cut comes to
   abbrev pub Hands : Written → List ℕ → Type 0
   Hands w out′ = (w ≡ requestAnswer (cut i u (reading request)) out) × (out′ ≡ requestBuffer (cut i u (reading request)) out)
 
@@ -153,7 +156,7 @@ module _ (request out : List ℕ) (i u : ℕ) where
   refuses number e = let r = refusal-answered number out in rw e (sym (r .0), sym (r .1))
 
   module _ (x : Request) where
-    pub was-refused : x ≡ answered (reading request) → (x .refusal ≡ 0 → ⊥) → Hands (record { refusal = x .refusal; length = 0 }) out
+    pub was-refused : x ≡ requestAnswered (reading request) → (x .refusal ≡ 0 → ⊥) → Hands (record { refusal = x .refusal; length = 0 }) out
     unfolding cut
     was-refused e ne = refuses (x .refusal) (rw (not-read request x e ne))
 

@@ -9,7 +9,7 @@ use Rattle.request.specs.Request.{readable, unreadable, reading, noTask, noPair
 use Rattle.request.specs.Encode.{twoSections, requestBytes}
 use Rattle.request.specs.declared.Task.{Task}
 use Rattle.request.specs.declared.Pair.{Pair}
-use Rattle.request_writer.specs.Written.{requestAnswer, requestBuffer}
+use Rattle.request.specs.Written.{requestAnswer, requestBuffer}
 use Rattle.cursor.specs.declared.Written.{Written}
 use Rattle.cut.specs.Cut.{cut}
 

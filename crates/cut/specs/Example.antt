@@ -1,18 +1,14 @@
--- "P2 cut at 4 gives P3", byte for byte; the edges of the numbers; pairs on either side, one of them twice: computed.
+-- "P2 cut at 4 gives P3", byte for byte; the edges of the numbers; pairs on either side, one of them twice.
 use Prim.Native.Nat.{ℕ}
-use mathlib.Core.Path.{_≡_, refl}
-use mathlib.Core.List.{List, [], _∷_, _++_, map, flatMap}
+use mathlib.Core.Path.{_≡_}
+use mathlib.Core.List.{List, [], _∷_, _++_, map}
 use lib.ListN.{replicate}
-use Rattle.cursor.specs.Parsed.{records}
-use Rattle.cursor.specs.Fields.{byteOf, wordOf, wordBytes}
-use Rattle.request.specs.Request.{taskRule, judgedTask, taskOf, tasksOf, pairRule, judgedPair, pairOf, pairsOf, silentOf, reading}
-use Rattle.request.specs.Encode.{taskBytes, pairBytes, sectionBytes, silentBytes, requestBytes}
+use Rattle.request.specs.Request.{reading}
+use Rattle.request.specs.Encode.{requestBytes}
 use Rattle.request.specs.declared.Task.{Task}
 use Rattle.request.specs.declared.Pair.{Pair}
-use Rattle.cursor.specs.Written.{written, buffer}
-use Rattle.request_writer.specs.Written.{requestAnswer, requestBuffer}
-use Rattle.request_writer.specs.FileLaws.{fileOf}
-use Rattle.cut.specs.Cut.{cutTasks, cutPairs, cuttable, cut}
+use Rattle.request.specs.Written.{requestAnswer, requestBuffer, fileOf}
+use Rattle.cut.specs.Cut.{cut}
 
 abbrev task : ℕ → ℕ → ℕ → ℕ → Task
 task c t d p = record { c = c; t = t; d = d; p = p }
@@ -27,11 +23,11 @@ abbrev pub P3 : List ℕ
 P3 = requestBytes (task 2 6 6 0 ∷ task 2 8 8 0 ∷ task 4 24 24 0 ∷ task 4 24 24 0 ∷ []) (pair 2 3 ∷ []) 0
 
 -- three tasks alike, with pairs below, through and above task 1, one of them twice, and g
-abbrev pub linked : List ℕ
-linked = requestBytes (task 3 9 9 0 ∷ task 5 9 9 0 ∷ task 1 9 9 0 ∷ []) (pair 0 1 ∷ pair 1 2 ∷ pair 0 2 ∷ pair 1 2 ∷ []) 3
+abbrev pub in-chain : List ℕ
+in-chain = requestBytes (task 3 9 9 0 ∷ task 5 9 9 0 ∷ task 1 9 9 0 ∷ []) (pair 0 1 ∷ pair 1 2 ∷ pair 0 2 ∷ pair 1 2 ∷ []) 3
 
-abbrev pub linked-cut : List ℕ
-linked-cut =
+abbrev pub in-chain-cut : List ℕ
+in-chain-cut =
     requestBytes (task 3 9 9 0 ∷ task 4 9 9 0 ∷ task 1 9 9 0 ∷ task 1 9 9 0 ∷ [])
     (pair 1 2 ∷ pair 0 1 ∷ pair 2 3 ∷ pair 0 3 ∷ pair 2 3 ∷ []) 3
 
@@ -47,7 +43,7 @@ pub record Examples : Type 0 where
   -- "P2 cut at 4 gives P3."
   pub P2-gives-P3 : fileOf (cut 2 4 (reading P2)) (replicate 164 255) ≡ P3
   pub behind : requestBuffer (cut 2 4 (reading P2)) (replicate 40 255) ≡ P3 ++ replicate 4 255
-  pub linked-is : fileOf (cut 1 4 (reading linked)) (replicate 164 0) ≡ linked-cut
+  pub linked-is : fileOf (cut 1 4 (reading in-chain)) (replicate 164 0) ≡ in-chain-cut
   -- u of 0, 1, C − 1, C; a task that is not there
   pub u-edges : map (number 164 P2 2) (0 ∷ 1 ∷ 7 ∷ 8 ∷ []) ≡ 24 ∷ 0 ∷ 0 ∷ 24 ∷ []
   pub unknown : number 164 P2 3 1 ≡ 24
@@ -55,17 +51,3 @@ pub record Examples : Type 0 where
   pub order : number 0 (many 16 16) 0 2 ∷ number 0 (many 16 16) 0 1 ∷ number 0 (many 15 16) 0 1 ∷ number 0 (many 15 15) 0 1 ∷ number 0 (0 ∷ []) 9 0 ∷ []
       ≡ 24 ∷ 25 ∷ 19 ∷ 11 ∷ 2 ∷ []
   pub boundary : number 162 (many 15 15) 14 1 ∷ number 161 (many 15 15) 14 1 ∷ [] ≡ 0 ∷ 11 ∷ []
-
-pub examples : Examples
-unfolding reading tasksOf taskOf judgedTask taskRule pairsOf pairOf judgedPair pairRule silentOf records byteOf wordOf
-    requestBytes sectionBytes taskBytes pairBytes silentBytes wordBytes flatMap
-    cutTasks cutPairs cuttable cut written buffer requestAnswer requestBuffer
-examples = record {
-  P2-gives-P3 = refl;
-  behind = refl;
-  linked-is = refl;
-  u-edges = refl;
-  unknown = refl;
-  order = refl;
-  boundary = refl;
-}

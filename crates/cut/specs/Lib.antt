@@ -3,10 +3,12 @@
 pub mod Exactly
 -- what is computed, which CutExact pins down:
 pub mod Cut
--- computed:
+-- examples:
 pub mod Example
 -- Theorems:
 pub mod Theorem
+-- computed:
+pub mod ExampleLaws
 -- Laws:
 pub mod Places
 pub mod CutLaws

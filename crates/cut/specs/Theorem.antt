@@ -2,7 +2,7 @@
 -- Each condition gives its number, and one of the conditions holds. So the number tells which one.
 use Prim.Native.Nat.{ℕ, _+_, _≤_, _<_}
 use mathlib.Core.Path.{_≡_, refl, ap, _∙_}
-use mathlib.Core.Bool.{Bool, true, false}
+use mathlib.Core.Bool.{Bool, true, false, _&&_}
 use mathlib.Core.Logic.{_⊎_, inl, inr, ⊎-elim}
 use mathlib.Core.List.{List, _++_}
 use native.Mathlib.Nat.{eq-or-lt-of-le}
@@ -11,19 +11,19 @@ use lib.ListN.{length, getD, drop}
 use lib.Seq.{take-append-seam}
 use lib.Dec.{leb, ltb}
 use borrow.Author.Tests.{lt-ltb, le-ltb, eq-eqb, ne-eqb, ltb-false, leb-false}
-use Rattle.cursor.specs.Choice.{both}
 use Rattle.cursor.specs.ChoiceLaws.{lt-or-ge}
 use Rattle.cursor.specs.ParsedLaws.{never}
 use Rattle.request.specs.Request.{Reading, readable, unreadable, reading, noTask}
 use Rattle.request.specs.Encode.{requestBytes}
 use Rattle.request.specs.EncodeLaws.{read-encode}
-use Rattle.request.specs.Readable.{readable-kept, silent-few, UnreadNumber, unreadable-number}
+use Rattle.request.specs.Readable.{UnreadNumber}
+use Rattle.request.specs.ReadableLaws.{readable-kept, silent-few, unreadable-number}
 use Rattle.request.specs.declared.Task.{Task}
 use Rattle.request.specs.declared.Pair.{Pair}
 use Rattle.cursor.specs.Written.{written, buffer}
-use Rattle.request_writer.specs.Written.{requestAnswer, requestBuffer}
-use Rattle.request_writer.specs.WriteLaws.{bytes-short}
-use Rattle.request_writer.specs.FileLaws.{no-silence, refusal-answered, request-answered, fileOf}
+use Rattle.request.specs.Written.{requestAnswer, requestBuffer, fileOf}
+use Rattle.request.specs.WriteLaws.{bytes-short}
+use Rattle.request.specs.FileLaws.{no-silence, refusal-answered, request-answered}
 use Rattle.cursor.specs.declared.Written.{Written}
 use Rattle.cut.specs.Cut.{cutTasks, cutPairs, cuttable, cut}
 use Rattle.cut.specs.CutLaws.{can-means}
@@ -39,7 +39,7 @@ module _ (tasks : List Task) (i u : ℕ) where
   unfolding cuttable
   bad-says q = go (ltb i (length tasks)) refl (leb 1 u) refl (ltb u (getD tasks i noTask .c)) refl q
     where
-      go : (a : Bool) → ltb i (length tasks) ≡ a → (b : Bool) → leb 1 u ≡ b → (c : Bool) → ltb u (getD tasks i noTask .c) ≡ c → both a (both b c) ≡ false → BadCut i u tasks
+      go : (a : Bool) → ltb i (length tasks) ≡ a → (b : Bool) → leb 1 u ≡ b → (c : Bool) → ltb u (getD tasks i noTask .c) ≡ c → a && (b && c) ≡ false → BadCut i u tasks
       go false p b r c w z = inl (ltb-false i (length tasks) p)
       go true p false r c w z = inr (inl (let none = leb-false 1 u r in omega arith))
       go true p true r false w z = inr (inr (ltb-false u (getD tasks i noTask .c) w))

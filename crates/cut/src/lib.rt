@@ -7,8 +7,8 @@ ghost use Prim.Native.Nat.{_+_, _≤_, _<_};
 ghost use lib.ListN.{getD};
 ghost use Rattle.cursor.specs.Padded.{padded, firsts};
 ghost use Rattle.request.specs.Request.{noTask, noPair, reading};
-ghost use Rattle.request_writer.specs.Written.{requestAnswer, requestBuffer};
-ghost use Rattle.request_writer.specs.Places.{Few};
+ghost use Rattle.request.specs.Written.{requestAnswer, requestBuffer};
+ghost use Rattle.request.specs.Places.{Few};
 ghost use Rattle.cut.specs.Cut.{piece, cutTasks, asFirst, asSecond, cutPairs, cuttable, cut};
 
 // A cut leaves both pieces at least one tick.
@@ -138,5 +138,5 @@ pub fn cut(request: &[u8], task: u8, first: u16, out: &mut [u8]) -> Written
     let pieces = cut_tasks(tasks, x.n, i, first);
     let pairs = x.pairs;
     let links = cut_pairs(pairs, x.m, task);
-    request_writer::write(pieces, x.n + 1, links, x.m + 1, x.g, out)
+    request::write::write(pieces, x.n + 1, links, x.m + 1, x.g, out)
 }

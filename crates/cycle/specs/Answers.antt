@@ -2,9 +2,9 @@
 use Prim.Native.Nat.{ℕ, _≤_, _<_, _∣_}
 use mathlib.Core.Path.{_≡_}
 use mathlib.Core.List.{List, map}
+use mathlib.Core.Bool.{cond}
 use lib.ListN.{length, take, getD, replicate}
 use lib.Dec.{ltb, eqb}
-use Rattle.cursor.specs.Choice.{pick}
 use Rattle.cursor.specs.Padded.{padded}
 use Rattle.request.specs.Request.{Reading, readable, unreadable, noTask, noPair, periodOf}
 use Rattle.request.specs.Answers as request
@@ -18,7 +18,7 @@ use Rattle.cycle.specs.declared.Cycle as answer
 
 -- H, or 0 where it is above 10,000
 unfoldable pub shortCycle : List Task → ℕ
-shortCycle tasks = pick (ltb 10000 (hyperperiod tasks)) 0 (hyperperiod tasks)
+shortCycle tasks = cond (ltb 10000 (hyperperiod tasks)) 0 (hyperperiod tasks)
 
 -- the first n places hold tasks that keep their rule
 pub record Sized (places : List Task) (n : ℕ) : Type 0 where
@@ -48,11 +48,11 @@ phasesOf tasks = padded 16 0 (map (λ x. x .p) tasks)
 unfoldable pub listed : List Job → List Job
 listed jobs = padded 128 noJob jobs
 
-abbrev pub refused : ℕ → answer.Cycle
-refused number = record { refusal = number; n = 0; tasks = replicate 16 noTask; m = 0; pairs = replicate 16 noPair; g = 0; h = 0; count = 0; jobs = replicate 128 noJob }
+abbrev pub refusedCycle : ℕ → answer.Cycle
+refusedCycle number = record { refusal = number; n = 0; tasks = replicate 16 noTask; m = 0; pairs = replicate 16 noPair; g = 0; h = 0; count = 0; jobs = replicate 128 noJob }
 
-abbrev pub answered : Cycle → answer.Cycle
-answered (cycle tasks pairs g h jobs) =
+abbrev pub cycleAnswered : Cycle → answer.Cycle
+cycleAnswered (cycle tasks pairs g h jobs) =
     record {
       refusal = 0;
       n = length tasks;
@@ -64,11 +64,11 @@ answered (cycle tasks pairs g h jobs) =
       count = length jobs;
       jobs = listed jobs;
     }
-answered (noCycle number) = refused number
+cycleAnswered (noCycle number) = refusedCycle number
 
 -- the reading that stands in a request's places
 unfoldable pub readingOf : Request → Reading
-readingOf r = pick (eqb (r .refusal) 0) (readable (take (r .n) (r .tasks)) (take (r .m) (r .pairs)) (r .g)) (unreadable (r .refusal))
+readingOf r = cond (eqb (r .refusal) 0) (readable (take (r .n) (r .tasks)) (take (r .m) (r .pairs)) (r .g)) (unreadable (r .refusal))
 
 -- the cycle of a request that was read already
 unfoldable pub cycleFor : Request → Cycle
@@ -77,5 +77,5 @@ cycleFor r = afterReading (readingOf r)
 -- what is asked of such a request: its places hold a reading that keeps the form, and nothing else, as in the answers of `request::read`
 pub record AsRead (r : Request) : Type 0 where
   pub read : Reading
-  pub is : r ≡ request.answered read
+  pub is : r ≡ request.requestAnswered read
   pub kept : KeptReading read

@@ -2,7 +2,7 @@
 -- periods of each task, so every job is released within the cycle, and due within the next one.
 use Prim.Native.Nat.{ℕ, zero, suc, _+_, _*_, _/_, _≤_, _<_, _∣_}
 use mathlib.Core.Path.{_≡_, refl, subst}
-use mathlib.Core.Bool.{Bool, true, false}
+use mathlib.Core.Bool.{Bool, true, false, cond}
 use mathlib.Core.List.{List, [], _∷_}
 use mathlib.Core.Logic.{_↔_, _⊎_, inl, inr, ⊎-elim}
 use native.Mathlib.Nat.{dvd-refl, dvd-trans, one-dvd, le-of-dvd, div-mul-cancel, mul-le-mul-right, lt-of-mul-lt-mul-right}
@@ -10,11 +10,12 @@ use native.Mathlib.Omega.{arith}
 use lib.ListN.{length, getD}
 use lib.Dec.{ltb}
 use borrow.Author.Tests.{ltb-false}
-use Rattle.cursor.specs.Choice.{pick}
-use Rattle.arith.specs.Lcm.{lcmOf, dvd-lcm-left, dvd-lcm-right, lcm-dvd, lcm-pos}
+use Rattle.arith.specs.Lcm.{lcmOf}
+use Rattle.arith.specs.LcmLaws.{dvd-lcm-left, dvd-lcm-right, lcm-dvd, lcm-pos}
 use Rattle.arith.specs.Residue.{quotient-pos}
 use Rattle.request.specs.Request.{Reading, readable, unreadable, reading, noTask, periodOf}
-use Rattle.request.specs.Readable.{TaskKept, Readable, KeptReading, reading-kept}
+use Rattle.request.specs.Readable.{TaskKept, Readable, KeptReading}
+use Rattle.request.specs.ReadableLaws.{reading-kept}
 use Rattle.request.specs.declared.Task.{Task}
 use Rattle.request.specs.declared.Pair.{Pair}
 use Rattle.cycle.specs.Cycle.{lcmWith, hyperperiod, jobsIn, jobOf, allJobs, planned, Cycle, cycle, noCycle, afterReading, cycleOf}
@@ -142,7 +143,7 @@ after-kept (unreadable number) k = ⊎-elim (λ n. inl (n .0, omega (arith, n .1
 after-kept (readable tasks pairs g) k = go (ltb 10000 (hyperperiod tasks)) (ltb 128 (length (allJobs tasks (hyperperiod tasks)))) refl refl
   where
     go : (s t : Bool) → ltb 10000 (hyperperiod tasks) ≡ s → ltb 128 (length (allJobs tasks (hyperperiod tasks))) ≡ t
-        → Kept (readable tasks pairs g) (pick s (noCycle 7) (pick t (noCycle 8) (cycle tasks pairs g (hyperperiod tasks) (planned tasks (hyperperiod tasks)))))
+        → Kept (readable tasks pairs g) (cond s (noCycle 7) (cond t (noCycle 8) (cycle tasks pairs g (hyperperiod tasks) (planned tasks (hyperperiod tasks)))))
     go true t p q = inl (omega arith, omega arith)
     go false true p q = inl (omega arith, omega arith)
     go false false p q = (within-limits tasks pairs k (ltb-false _ _ p) (ltb-false _ _ q), refl)

@@ -1,15 +1,17 @@
 -- A request that was read, with another phase for one of its tasks, is still one that could have been read.
-use Prim.Native.Nat.{ℕ, _-_, _<_}
+use Prim.Native.Nat.{ℕ, _<_}
 use mathlib.Core.Path.{_≡_, refl, sym, ap, subst, _∙_}
 use mathlib.Core.Bool.{Bool, true, false}
 use mathlib.Core.List.{List}
 use mathlib.Core.Logic.{_⊎_, inl, inr, ⊎-elim}
 use native.Mathlib.Omega.{arith}
-use lib.ListN.{length, getD, set, replicate, length-set}
-use lib.Seq.{set-append-left, getD-set-same, getD-set-other}
+use lib.ListN.{length, getD, set, length-set}
+use lib.Seq.{getD-set-same, getD-set-other}
 use lib.Dec.{eqb}
 use borrow.Author.Tests.{eqb-true, eqb-false}
-use Rattle.cursor.specs.Padded.{padded, getD-padded}
+use Rattle.cursor.specs.Padded.{padded}
+use Rattle.cursor.specs.PaddedLaws.{getD-padded}
+use Rattle.cursor.specs.ArrayLaws.{set-inside}
 use Rattle.request.specs.Request.{Reading, readable, unreadable, noTask, periodOf}
 use Rattle.request.specs.Answers as request
 use Rattle.request.specs.Readable.{Readable, TaskKept, KeptReading}
@@ -69,18 +71,16 @@ module _ (tasks : List Task) (i p : ℕ) (known : i < length tasks) (early : p <
 
 -- "phases from 0 to T − 1": the request with such a phase is as if it had been read
 pub phase-as-read : {r : Request} → AsRead r → (i p : ℕ) → i < r .n → p < periodOf (r .tasks) i → AsRead (requestWith r i p)
-unfolding padded
 phase-as-read {r} a i p known early = go (a .read) (a .is) (a .kept)
   where
-    go : (x : Reading) → r ≡ request.answered x → KeptReading x → AsRead (requestWith r i p)
+    go : (x : Reading) → r ≡ request.requestAnswered x → KeptReading x → AsRead (requestWith r i p)
     go (readable tasks pairs g) is kept =
         let inside : i < length tasks = omega (arith, known, ap (λ (y : Request). y .n) is) in
         let task : getD (r .tasks) i noTask ≡ getD tasks i noTask = ap (λ (y : Request). getD (y .tasks) i noTask) is ∙ getD-padded 16 noTask tasks i inside in
         let soon : p < periodOf tasks i = omega (arith, early, ap (λ (x : Task). x .t) task) in
         let size : length (tasksWith tasks i p) ≡ length tasks = length-set tasks i (taskWith (getD tasks i noTask) p) in
         let places : tasksWith (r .tasks) i p ≡ padded 16 noTask (tasksWith tasks i p)
-        = rw (task, ap (λ (y : Request). y .tasks) is, size)
-        (set-append-left tasks (replicate (16 - length tasks) noTask) i (taskWith (getD tasks i noTask) p) inside) in
+        = rw (task, ap (λ (y : Request). y .tasks) is) (set-inside 16 noTask tasks i (taskWith (getD tasks i noTask) p) inside) in
         record {
           read = readable (tasksWith tasks i p) pairs g;
           is = λ q. record { refusal = is q .refusal; n = (ap (λ (y : Request). y .n) is ∙ sym size) q; tasks = places q; m = is q .m; pairs = is q .pairs; g = is q .g };

@@ -1,17 +1,18 @@
 -- The laws by which the cycle of a request that was read is found: each way out is one case of the definition.
 use Prim.Native.Nat.{ℕ, _≤_, _<_, _∣_}
 use mathlib.Core.Path.{_≡_, refl, sym, ap, subst, subst₂, _∙_}
-use mathlib.Core.Bool.{Bool, true, false}
+use mathlib.Core.Bool.{Bool, true, false, cond}
 use mathlib.Core.List.{List}
 use native.Mathlib.Omega.{arith}
 use lib.ListN.{length, take}
 use lib.Dec.{ltb}
 use borrow.Author.Tests.{lt-ltb, le-ltb, ltb-true, ltb-false, ne-eqb}
-use Rattle.cursor.specs.Choice.{pick}
-use Rattle.cursor.specs.Padded.{padded, padded-length, take-padded, getD-padded}
+use Rattle.cursor.specs.Padded.{padded}
+use Rattle.cursor.specs.PaddedLaws.{padded-length, take-padded, getD-padded}
 use Rattle.request.specs.Request.{Reading, readable, unreadable, reading, noTask, noPair, periodOf}
 use Rattle.request.specs.Answers as request
-use Rattle.request.specs.Readable.{Readable, TaskKept, KeptReading, reading-kept, unread-pos}
+use Rattle.request.specs.Readable.{Readable, TaskKept, KeptReading}
+use Rattle.request.specs.ReadableLaws.{reading-kept, unread-pos}
 use Rattle.request.specs.declared.Task.{Task}
 use Rattle.request.specs.declared.Pair.{Pair}
 use Rattle.request.specs.declared.Request.{Request}
@@ -19,18 +20,18 @@ use Rattle.cycle.specs.Cycle.{hyperperiod, allJobs, planned, cycle, limi
 use Rattle.cycle.specs.PlannedLaws.{planned-length}
 use Rattle.cycle.specs.LimitLaws.{hyperperiod-pos, hyperperiod-divides, readable-periodic}
 use Rattle.cycle.specs.LoopLaws.{task-at}
-use Rattle.cycle.specs.Answers.{shortCycle, Sized, Listable, AsRead, readingOf, cycleFor, listed, refused, answered}
+use Rattle.cycle.specs.Answers.{shortCycle, Sized, Listable, AsRead, readingOf, cycleFor, listed, refusedCycle, cycleAnswered}
 use Rattle.cycle.specs.declared.Job.{Job}
 use Rattle.cycle.specs.declared.Cycle as answer
 
 -- a reading is found again in the places that hold it
-pub reading-back : (x : Reading) → KeptReading x → readingOf (request.answered x) ≡ x
+pub reading-back : (x : Reading) → KeptReading x → readingOf (request.requestAnswered x) ≡ x
 unfolding readingOf
 reading-back (readable tasks pairs g) k = rw (take-padded 16 noTask tasks, take-padded 16 noPair pairs)
 reading-back (unreadable number) k = rw (ne-eqb number 0 (λ z. omega (arith, unread-pos k)))
 
 -- every answer of `request::read` is as it was read, and its cycle is that of the bytes
-module _ (s : List ℕ) {r : Request} (e : r ≡ request.answered (reading s)) where
+module _ (s : List ℕ) {r : Request} (e : r ≡ request.requestAnswered (reading s)) where
   pub bytes-as-read : AsRead r
   bytes-as-read = record { read = reading s; is = e; kept = reading-kept s }
 
@@ -46,13 +47,13 @@ pub as-read-cycle : {r : Request} (a : AsRead r) → cycleFor r ≡ afterReading
 unfolding cycleFor
 as-read-cycle a = ap afterReading (as-read-is a)
 
--- the request is refused
-pub not-read : {r : Request} → AsRead r → (r .refusal ≡ 0 → ⊥) → refused (r .refusal) ≡ answered (cycleFor r)
-not-read {r} a ne = go (a .read) (a .is) ∙ ap answered (sym (as-read-cycle a))
+-- the request is refusedCycle
+pub not-read : {r : Request} → AsRead r → (r .refusal ≡ 0 → ⊥) → refusedCycle (r .refusal) ≡ cycleAnswered (cycleFor r)
+not-read {r} a ne = go (a .read) (a .is) ∙ ap cycleAnswered (sym (as-read-cycle a))
   where
-    go : (x : Reading) → r ≡ request.answered x → refused (r .refusal) ≡ answered (afterReading x)
+    go : (x : Reading) → r ≡ request.requestAnswered x → refusedCycle (r .refusal) ≡ cycleAnswered (afterReading x)
     go (readable tasks pairs g) q = absurd (ne (ap (λ (y : Request). y .refusal) q))
-    go (unreadable number) q = ap refused (ap (λ (y : Request). y .refusal) q)
+    go (unreadable number) q = ap refusedCycle (ap (λ (y : Request). y .refusal) q)
 
 -- what is known where it is not
 pub record Read (r : Request) : Type 0 where
@@ -61,7 +62,7 @@ pub record Read (r : Request) : Type 0 where
   pub g : ℕ
   pub is : readingOf r ≡ readable tasks pairs g
   pub kept : Readable tasks pairs
-  pub request-is : r ≡ request.answered (readable tasks pairs g)
+  pub request-is : r ≡ request.requestAnswered (readable tasks pairs g)
   pub sized : Sized (r .tasks) (r .n)
   pub named : take (r .n) (r .tasks) ≡ tasks
 
@@ -76,7 +77,7 @@ sized-of tasks pairs kept = record {
 pub was-read : {r : Request} → AsRead r → r .refusal ≡ 0 → Read r
 was-read {r} a z = go (a .read) (as-read-is a) (a .is) (a .kept)
   where
-    go : (x : Reading) → readingOf r ≡ x → r ≡ request.answered x → KeptReading x → Read r
+    go : (x : Reading) → readingOf r ≡ x → r ≡ request.requestAnswered x → KeptReading x → Read r
     go (readable tasks pairs g) is q kept = record {
       tasks = tasks;
       pairs = pairs;
@@ -97,7 +98,7 @@ short-cases : (tasks : List Task) (h : ℕ) → 0 < hyperperiod tasks → h ≡ 
 unfolding shortCycle
 short-cases tasks h pos e = go (ltb 10000 (hyperperiod tasks)) refl e
   where
-    go : (t : Bool) → ltb 10000 (hyperperiod tasks) ≡ t → h ≡ pick t 0 (hyperperiod tasks) → ShortOr0 tasks h
+    go : (t : Bool) → ltb 10000 (hyperperiod tasks) ≡ t → h ≡ cond t 0 (hyperperiod tasks) → ShortOr0 tasks h
     go true q w = (λ z. ltb-true 10000 (hyperperiod tasks) q, λ ne. absurd (ne w))
     go false q w = (λ z. absurd (omega arith), λ ne. (w, ltb-false 10000 (hyperperiod tasks) q))
 
@@ -116,7 +117,7 @@ module _ {r : Request} (read : Read r) {h : ℕ} (h-is : h ≡ shortCycle (take 
   cycle-is = ap afterReading (read .is)
 
   -- 7
-  pub too-long : h ≡ 0 → refused 7 ≡ answered (cycleFor r)
+  pub too-long : h ≡ 0 → refusedCycle 7 ≡ cycleAnswered (cycleFor r)
   too-long z = rw (cycle-is, lt-ltb 10000 (hyperperiod tasks) (cases .0 z)) refl
 
   module _ (some : h ≡ 0 → ⊥) {count : ℕ} (count-is : count ≡ length (allJobs (take (r .n) (r .tasks)) h)) where
@@ -130,7 +131,7 @@ module _ {r : Request} (read : Read r) {h : ℕ} (h-is : h ≡ shortCycle (take 
     counted = count-is ∙ rw (read .named, h-all)
 
     -- 8
-    pub too-many : 128 < count → refused 8 ≡ answered (cycleFor r)
+    pub too-many : 128 < count → refusedCycle 8 ≡ cycleAnswered (cycleFor r)
     too-many more = rw (cycle-is, le-ltb 10000 (hyperperiod tasks) few, lt-ltb 128 (length (allJobs tasks (hyperperiod tasks))) (rw counted at more)) refl
 
     pub listable : count ≤ 128 → Listable (r .tasks) (r .n) h count
@@ -153,12 +154,12 @@ module _ {r : Request} (read : Read r) {h : ℕ} (h-is : h ≡ shortCycle (take 
     abbrev parts : List Job → answer.Cycle
     parts jobs = record { refusal = 0; n = r .n; tasks = r .tasks; m = r .m; pairs = r .pairs; g = r .g; h = h; count = count; jobs = jobs }
 
-    pub all-read : count ≤ 128 → {jobs : List Job} → jobs ≡ listed (planned (take (r .n) (r .tasks)) h) → parts jobs ≡ answered (cycleFor r)
+    pub all-read : count ≤ 128 → {jobs : List Job} → jobs ≡ listed (planned (take (r .n) (r .tasks)) h) → parts jobs ≡ cycleAnswered (cycleFor r)
     all-read l {jobs} e =
         let in-order : jobs ≡ listed (planned tasks (hyperperiod tasks)) = e ∙ rw (read .named, h-all) in
         let total : count ≡ length (planned tasks (hyperperiod tasks)) = counted ∙ sym (planned-length tasks (hyperperiod tasks)) in
         let e = read .request-is in
-        let same : parts jobs ≡ answered (cycle tasks (read .pairs) (read .g) (hyperperiod tasks) (planned tasks (hyperperiod tasks))) = λ q. record {
+        let same : parts jobs ≡ cycleAnswered (cycle tasks (read .pairs) (read .g) (hyperperiod tasks) (planned tasks (hyperperiod tasks))) = λ q. record {
           refusal = 0;
           n = e q .n;
           tasks = e q .tasks;

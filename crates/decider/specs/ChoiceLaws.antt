@@ -1,10 +1,9 @@
 -- The loop over the numbers of rows: with those left to try, it comes to the definition's choice.
 use Prim.Native.Nat.{ℕ, suc, _+_, _-_, _/_, _≤_, _<_}
 use mathlib.Core.Path.{_≡_, refl, sym, ap, _∙_}
-use mathlib.Core.Bool.{Bool, true, false, false≢true}
+use mathlib.Core.Bool.{Bool, true, false, false≢true, cond}
 use mathlib.Core.List.{List, []}
 use native.Mathlib.Omega.{arith}
-use Rattle.cursor.specs.Choice.{pick}
 use Rattle.cursor.specs.Padded.{padded}
 use Rattle.search.specs.Search.{Found, none, at}
 use Rattle.search.specs.Placing.{planWalk}
@@ -70,7 +69,7 @@ module _ {x : Instance} {rows : ℕ} {some : Bool} (v : Choosing x rows some) wh
 
   -- all lengths are passed
   module _ (all : 256 < rows) where
-    passed : choose x ≡ pick some noPlan noPlausible
+    passed : choose x ≡ cond some noPlan noPlausible
     passed = let none-left : 257 - rows ≡ 0 = omega arith in v .rest ∙ rw none-left (choose-end phaseRule x rows some)
 
     pub some-passed : some ≡ true → noneDecided 10 ≡ decision (choose x)

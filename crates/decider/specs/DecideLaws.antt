@@ -1,21 +1,20 @@
 -- The laws by which a request is decided: it is refused, or its choice decides. What is answered, and left in the buffer, is the full search's.
 use Prim.Native.Nat.{ℕ, _≤_, _<_}
 use mathlib.Core.Path.{_≡_, refl, sym, ap, subst, _∙_}
-use mathlib.Core.Bool.{Bool, true, false}
+use mathlib.Core.Bool.{Bool, true, false, cond}
 use mathlib.Core.Logic.{⊎-elim}
 use mathlib.Core.List.{List}
 use lib.ListN.{length}
 use native.Mathlib.Omega.{arith}
 use Rattle.cycle.specs.Cycle.{noCycle, cycleOf}
 use Rattle.cycle.specs.declared.Cycle as c
-use Rattle.cursor.specs.Choice.{pick}
 use Rattle.cursor.specs.ChoiceLaws.{lt-or-ge}
 use Rattle.cursor.specs.Written.{tooShort, written}
 use Rattle.cursor.specs.declared.Written.{Written}
 use Rattle.table.specs.Table.{encode}
 use Rattle.model.specs.Plan.{Instance}
 use Rattle.model.specs.Answers.{instanceOf}
-use Rattle.model.specs.Within.{Taken}
+use Rattle.model.specs.WithinLaws.{Taken}
 use Rattle.model.specs.Chosen.{Choice, chosen, noPlan, noPlausible, choose, RightBy, RightChoice}
 use Rattle.model.specs.ChosenLaws.{choose-right}
 use Rattle.model.specs.Described.{planTable}
@@ -80,7 +79,7 @@ never-open : (bytes out : List ℕ) → written bytes out .refusal ≡ 23 → �
 unfolding written
 never-open bytes out e = go (tooShort bytes out) e
   where
-    go : (b : Bool) → pick {A = Written} b (record { refusal = 11; length = 0 }) (record { refusal = 0; length = length bytes }) .refusal ≡ 23 → ⊥
+    go : (b : Bool) → cond {A = Written} b (record { refusal = 11; length = 0 }) (record { refusal = 0; length = length bytes }) .refusal ≡ 23 → ⊥
     go true q = omega arith
     go false q = omega arith
 

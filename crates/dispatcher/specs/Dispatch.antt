@@ -1,10 +1,10 @@
 -- The dispatcher: its answers and its state after them, of what the bytes of a table or a request say. 01, "Dispatching".
 use Prim.Native.Nat.{ℕ, _+_, _%_}
-use mathlib.Core.Bool.{Bool, true, false, not}
+use mathlib.Core.Bool.{Bool, true, false, not, cond}
 use mathlib.Core.List.{List, [], _∷_}
 use lib.ListN.{length, getD, set, replicate}
 use lib.Dec.{ltb, eqb}
-use Rattle.cursor.specs.Choice.{pick, keep}
+use Rattle.cursor.specs.Choice.{keep}
 use Rattle.request.specs.Request.{Reading, readable, unreadable, noTask}
 use Rattle.request.specs.declared.Task.{Task}
 use Rattle.table.specs.Table.{Entry, Decoded, table, malformed, rowOf}
@@ -33,7 +33,7 @@ uncarried (e ∷ es) = keep (not (e .carried)) e (uncarried es)
 
 -- "the row's entries, leaving out carried ones while the mark is set"
 abbrev pub served : Bool → List Entry → List Entry
-served first es = pick first (uncarried es) es
+served first es = cond first (uncarried es) es
 
 -- a row as the table reader gives it, with the state for the next call
 abbrev pub framed : Row → State → Frame
@@ -57,12 +57,12 @@ around s = record { row = 0; first = false; counts = s .counts }
 
 -- "the row moves on by one, and from the last row to 0 with the mark cleared"
 unfoldable pub moved : ℕ → State → State
-moved height s = pick (eqb (s .row + 1) height) (around s) (onward s)
+moved height s = cond (eqb (s .row + 1) height) (around s) (onward s)
 
 -- 12: not a table; 15: row not below F
 unfoldable pub nextFrame : Decoded → State → Frame
 nextFrame (table t) s =
-    pick (ltb (s .row) (length (t .rows))) (shown (served (s .first) (rowOf t (s .row))) (moved (length (t .rows)) s)) (noFrame 15 s)
+    cond (ltb (s .row) (length (t .rows))) (shown (served (s .first) (rowOf t (s .row))) (moved (length (t .rows)) s)) (noFrame 15 s)
 nextFrame malformed s = noFrame 12 s
 
 -- the ticks "exceed C"
@@ -71,7 +71,7 @@ exceeds tasks task ticks = ltb (getD tasks task noTask .c) ticks
 
 -- "if these exceed C the count rises by one, stopping at 65,535"
 unfoldable pub raised : Bool → ℕ → ℕ
-raised over count = pick over (pick (ltb count 65535) (count + 1) count) count
+raised over count = cond over (cond (ltb count 65535) (count + 1) count) count
 
 -- "A report raises only its own task's count." (02, R-2)
 unfoldable pub raisedAt : Bool → ℕ → List ℕ → List ℕ
@@ -93,7 +93,7 @@ reportRefused number s = record { refusal = number; state = s }
 
 -- 1 to 6 and 17: not a request; 16: task number not below n
 unfoldable pub reported : Reading → ℕ → ℕ → State → Reported
-reported (readable tasks pairs g) task ticks s = pick (ltb task (length tasks)) (reportTaken (counted (exceeds tasks task ticks) task s)) (reportRefused 16 s)
+reported (readable tasks pairs g) task ticks s = cond (ltb task (length tasks)) (reportTaken (counted (exceeds tasks task ticks) task s)) (reportRefused 16 s)
 reported (unreadable number) task ticks s = reportRefused number s
 
 -- what a frame's answer shows, and the entries that it says

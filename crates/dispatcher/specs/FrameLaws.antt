@@ -1,7 +1,7 @@
 -- The laws of next-frame that crates above go by: what it answers of a table, that what it serves rises, and how its state moves.
 use Prim.Native.Nat.{ℕ, suc, _+_, _%_, _≤_, _<_}
 use mathlib.Core.Path.{_≡_, refl, sym, _∙_}
-use mathlib.Core.Bool.{Bool, true, false, not}
+use mathlib.Core.Bool.{Bool, true, false, not, cond}
 use mathlib.Core.List.{List, [], _∷_}
 use native.Mathlib.Nat.{mod-lt, mod-le, mod-eq-of-lt, mod-self, suc-mod, zero-mod}
 use native.Mathlib.Numerals.{add-one}
@@ -9,7 +9,7 @@ use native.Mathlib.Omega.{arith}
 use lib.ListN.{length}
 use lib.Dec.{ltb, eqb}
 use borrow.Author.Tests.{ltb-true, ltb-false, eqb-true, eqb-false, lt-ltb, le-ltb, eq-eqb, ne-eqb}
-use Rattle.cursor.specs.Choice.{keep, pick}
+use Rattle.cursor.specs.Choice.{keep}
 use Rattle.table.specs.Table.{Entry, Table, Decoded, table, malformed, decode, rowOf}
 use Rattle.table.specs.WellFormed.{RisingFrom}
 use Rattle.table.specs.RisingLaws.{rising-none, rising-first, rising-cons, rising-less, rising-few, row-rises}
@@ -82,7 +82,7 @@ module _ (bytes : List ℕ) (s : State) where
   frame-few = go (decode bytes) refl
     where
       in-table : (t : Table) → decode bytes ≡ table t → (b : Bool)
-          → pick b (shown (served (s .first) (rowOf t (s .row))) (moved (length (t .rows)) s)) (noFrame 15 s) .count ≤ 16
+          → cond b (shown (served (s .first) (rowOf t (s .row))) (moved (length (t .rows)) s)) (noFrame 15 s) .count ≤ 16
       in-table t is true =
           let es = served (s .first) (rowOf t (s .row)) in
           let rises = served-rises (s .first) (rowOf t (s .row)) (row-rises t (s .row) (decode-wellformed bytes t is)) in
@@ -98,8 +98,8 @@ pub frame-refused-still : (d : Decoded) (s : State) → (nextFrame d s .refusal 
 unfolding nextFrame
 frame-refused-still (table t) s ne = go (ltb (s .row) (length (t .rows))) ne
   where
-    go : (b : Bool) → (pick b (shown (served (s .first) (rowOf t (s .row))) (moved (length (t .rows)) s)) (noFrame 15 s) .refusal ≡ 0 → ⊥)
-        → pick b (shown (served (s .first) (rowOf t (s .row))) (moved (length (t .rows)) s)) (noFrame 15 s) .state ≡ s
+    go : (b : Bool) → (cond b (shown (served (s .first) (rowOf t (s .row))) (moved (length (t .rows)) s)) (noFrame 15 s) .refusal ≡ 0 → ⊥)
+        → cond b (shown (served (s .first) (rowOf t (s .row))) (moved (length (t .rows)) s)) (noFrame 15 s) .state ≡ s
     go true ne = absurd (ne (given-refusal (served (s .first) (rowOf t (s .row)))))
     go false ne = refl
 frame-refused-still malformed s ne = refl
@@ -120,7 +120,7 @@ pub frame-counts : (d : Decoded) (s : State) → nextFrame d s .state .counts �
 unfolding nextFrame moved
 frame-counts (table t) s = go (ltb (s .row) (length (t .rows))) (eqb (s .row + 1) (length (t .rows)))
   where
-    go : (b last : Bool) → pick b (shown (served (s .first) (rowOf t (s .row))) (pick last (around s) (onward s))) (noFrame 15 s) .state .counts ≡ s .counts
+    go : (b last : Bool) → cond b (shown (served (s .first) (rowOf t (s .row))) (cond last (around s) (onward s))) (noFrame 15 s) .state .counts ≡ s .counts
     go true true = refl
     go true false = refl
     go false last = refl

@@ -1,14 +1,14 @@
 -- The laws of report that crates above go by.
 use Prim.Native.Nat.{ℕ, _+_, _≤_, _<_, min}
 use mathlib.Core.Path.{_≡_, refl, sym, _∙_}
-use mathlib.Core.Bool.{Bool, true, false}
+use mathlib.Core.Bool.{Bool, true, false, cond, _&&_}
 use mathlib.Core.List.{List}
 use native.Mathlib.Omega.{arith}
 use lib.ListN.{length, getD, length-set}
 use lib.Seq.{getD-set-same, getD-set-other}
 use lib.Dec.{ltb, eqb}
 use borrow.Author.Tests.{ltb-true, ltb-false, lt-ltb, le-ltb, eqb-true, eqb-false}
-use Rattle.cursor.specs.Choice.{pick, both, bit}
+use Rattle.cursor.specs.Choice.{bit}
 use Rattle.request.specs.Request.{Reading, readable, unreadable}
 use Rattle.request.specs.declared.Task.{Task}
 use Rattle.request.specs.declared.Pair.{Pair}
@@ -37,8 +37,8 @@ unfolding reported
 report-refused-still (unreadable number) task ticks s ne = refl
 report-refused-still (readable tasks pairs g) task ticks s ne = go (ltb task (length tasks)) ne
   where
-    go : (b : Bool) → (pick b (reportTaken (counted (exceeds tasks task ticks) task s)) (reportRefused 16 s) .refusal ≡ 0 → ⊥)
-        → pick b (reportTaken (counted (exceeds tasks task ticks) task s)) (reportRefused 16 s) .state ≡ s
+    go : (b : Bool) → (cond b (reportTaken (counted (exceeds tasks task ticks) task s)) (reportRefused 16 s) .refusal ≡ 0 → ⊥)
+        → cond b (reportTaken (counted (exceeds tasks task ticks) task s)) (reportRefused 16 s) .state ≡ s
     go true ne = absurd (ne refl)
     go false ne = refl
 
@@ -51,7 +51,7 @@ report-as-many (readable tasks pairs g) task ticks s = go (ltb task (length task
     over : Bool
     over = exceeds tasks task ticks
 
-    go : (b : Bool) → length (pick b (reportTaken (counted over task s)) (reportRefused 16 s) .state .counts) ≡ length (s .counts)
+    go : (b : Bool) → length (cond b (reportTaken (counted over task s)) (reportRefused 16 s) .state .counts) ≡ length (s .counts)
     go true = length-set (s .counts) task (raised over (getD (s .counts) task 0))
     go false = refl
 
@@ -60,17 +60,17 @@ pub raised-is : (over : Bool) (count : ℕ) → count ≤ 65535 → raised over 
 unfolding raised
 raised-is true count h = go (ltb count 65535) refl
   where
-    go : (b : Bool) → ltb count 65535 ≡ b → pick b (count + 1) count ≡ min 65535 (count + 1)
+    go : (b : Bool) → ltb count 65535 ≡ b → cond b (count + 1) count ≡ min 65535 (count + 1)
     go true e = let below = ltb-true count 65535 e in omega arith
     go false e = let above = ltb-false count 65535 e in omega arith
 raised-is false count h = omega arith
 
 -- the reported task's count rises, and no other
 pub raised-only : (over : Bool) (task : ℕ) (counts : List ℕ) (i : ℕ) → i < length counts → getD counts i 0 ≤ 65535
-    → getD (raisedAt over task counts) i 0 ≡ min 65535 (getD counts i 0 + bit (both (eqb task i) over))
+    → getD (raisedAt over task counts) i 0 ≡ min 65535 (getD counts i 0 + bit (eqb task i && over))
 unfolding raisedAt
 raised-only over task counts i within small = go (eqb task i) refl
   where
-    go : (b : Bool) → eqb task i ≡ b → getD (raisedAt over task counts) i 0 ≡ min 65535 (getD counts i 0 + bit (both b over))
+    go : (b : Bool) → eqb task i ≡ b → getD (raisedAt over task counts) i 0 ≡ min 65535 (getD counts i 0 + bit (b && over))
     go true q = rw (eqb-true task i q) (getD-set-same counts i (raised over (getD counts i 0)) 0 within ∙ raised-is over (getD counts i 0) small)
     go false q = getD-set-other counts task i (raised over (getD counts task 0)) 0 (λ e. eqb-false task i q (sym e)) ∙ omega arith

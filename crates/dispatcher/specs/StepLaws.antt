@@ -10,16 +10,16 @@ use lib.Seq.{append-snoc}
 use lib.Dec.{ltb}
 use borrow.Author.Tests.{leb-false}
 use Rattle.request.specs.Request.{reading, noTask}
-use Rattle.request.specs.Answers.{answered}
+use Rattle.request.specs.Answers.{requestAnswered}
 use Rattle.request.specs.AnswerLaws.{WasRead, not-read}
 use Rattle.request.specs.declared.Request.{Request}
 use Rattle.table.specs.Table.{Entry, carriedIn, decode, entryOf, rowOf}
 use Rattle.table.specs.EntryLaws.{carried-of-byte}
 use Rattle.table.specs.RisingLaws.{row-rises, row-few}
 use Rattle.table.specs.Inverse.{decode-wellformed}
-use Rattle.table.specs.Answers.{sizesOf, rowGiven, rowAnswer, entriesAt, entriesSaid}
+use Rattle.table.specs.Answers.{sizesOf, rowGiven, rowAnswer, entriesSaid}
 use Rattle.table.specs.AnswerLaws.{EntriesPlaced, none-placed, one-placed, placed-given}
-use Rattle.table.specs.AnswerLaws.{entries-more, entries-none, entries-given, given-count, given-refusal, height-is}
+use Rattle.table.specs.AnswerLaws.{entriesAt, entries-more, entries-none, entries-given, given-count, given-refusal, height-is}
 use Rattle.table.specs.AnswerLaws.{RowSought, found, behind, no-table, row-sought, RowFound}
 use Rattle.table.specs.declared.Row.{Row}
 use Rattle.table.specs.declared.Sizes.{Sizes}
@@ -106,7 +106,7 @@ module _ (bytes : List ℕ) (s : State) (r : Row) (w : RowFound bytes (s .row) r
 -- Report
 
 -- 1 to 6 and 17 are the request reader's
-pub report-refused : (bytes : List ℕ) (task ticks : ℕ) (s : State) (r : Request) → r ≡ answered (reading bytes) → (r .refusal ≡ 0 → ⊥)
+pub report-refused : (bytes : List ℕ) (task ticks : ℕ) (s : State) (r : Request) → r ≡ requestAnswered (reading bytes) → (r .refusal ≡ 0 → ⊥)
     → reportRefused (r .refusal) s ≡ reported (reading bytes) task ticks s
 report-refused bytes task ticks s r e ne = sym (report-unreadable (reading bytes) task ticks s (r .refusal) (not-read bytes r e ne))
 

@@ -1,10 +1,11 @@
 -- Moving a job by hand, in the words of 02's R-10: what the four calls answer. A job is named by its place in planning order.
-use Prim.Native.Nat.{ℕ, zero, suc, _+_, _-_, _%_}
-use mathlib.Core.Bool.{Bool, not}
-use mathlib.Core.List.{List, [], _∷_}
+use Prim.Native.Nat.{ℕ, _+_, _-_, _%_}
+use mathlib.Core.Bool.{Bool, not, cond, _&&_}
+use mathlib.Core.List.{List, [], _∷_, map}
 use lib.ListN.{length, getD, set, replicate}
 use lib.Dec.{ltb, eqb}
-use Rattle.cursor.specs.Choice.{pick, both, keep}
+use Rattle.cursor.specs.Choice.{keep}
+use Rattle.cursor.specs.Range.{range}
 use Rattle.cursor.specs.Padded.{padded, firsts}
 use Rattle.cycle.specs.Cycle.{Cycle, cycle, noCycle, cycleOf}
 use Rattle.table.specs.Table.{decode}
@@ -68,21 +69,20 @@ module _ (x : Instance) (d : Draft) where
   -- "a draft whose frame length is not plausible, whose loads are not its row sums or whose placed jobs break window, capacity or order": not so
   unfoldable pub soundDraft : Bool
   soundDraft =
-      both (plausible x (d .f))
-      (both (rulesRight placedPart rowCount (d .f) placedFrames)
-      (every rowCount loadRight))
+      plausible x (d .f)
+      && (rulesRight placedPart rowCount (d .f) placedFrames
+      && every rowCount loadRight)
 
 -- Starting. "Unused places start as frame 0 and load 0"; "Starting a draft refuses as the check does, and then gives frame length 0 and unused places only."
 abbrev pub noDraft : Draft
 noDraft = record { f = 0; frames = replicate 128 0; loads = replicate 256 0 }
 
--- "the load of each row, counted as C + g": of n rows, from row r on
-unfoldable pub loadsFrom : ℕ → List ℕ → List ℕ → ℕ → ℕ → List ℕ
-loadsFrom rows cost frames zero r = []
-loadsFrom rows cost frames (suc n) r = row-sum rows cost frames r ∷ loadsFrom rows cost frames n (r + 1)
+-- "the load of each row, counted as C + g"
+abbrev pub loadsOf : ℕ → List ℕ → List ℕ → List ℕ
+loadsOf rows cost frames = map (row-sum rows cost frames) (range 0 rows)
 
 unfoldable pub draftOf : Instance → ℕ → List ℕ → Draft
-draftOf x f frames = record { f = f; frames = padded 128 0 frames; loads = padded 256 0 (loadsFrom (rowsAt x f) (costs x) frames (rowsAt x f) 0) }
+draftOf x f frames = record { f = f; frames = padded 128 0 frames; loads = padded 256 0 (loadsOf (rowsAt x f) (costs x) frames) }
 
 abbrev pub startOf : Cycle → checker.Verdict → Drafted
 startOf (cycle tasks pairs g h jobs) (checker.accepted f frames) = record { refusal = 0; draft = draftOf (instance tasks pairs g h jobs) f frames }
@@ -119,23 +119,23 @@ module _ (x : Instance) (d : Draft) where
 
   -- not "an unknown job"
   abbrev pub canMove : ℕ → Bool
-  canMove y = both (ltb y (length (x .jobs))) (soundDraft x d)
+  canMove y = ltb y (length (x .jobs)) && soundDraft x d
 
   -- not "a row over f or a pair out of order with a placed job": the row has room for the job's C + g, and with the job there the draft is sound
-  abbrev pub hasPlace : ℕ → ℕ → Bool
-  hasPlace y k = both (hasRoom (loadAt x d (rowIn k)) (d .f) (costAt y)) (soundDraft x (afterPut y k))
+  abbrev pub canStand : ℕ → ℕ → Bool
+  canStand y k = hasRoom (loadAt x d (rowIn k)) (d .f) (costAt y) && soundDraft x (afterPut y k)
 
   -- "a lift of a lifted job"
   unfoldable pub liftIn : ℕ → Drafted
-  liftIn y = pick (canMove y) (pick (isLifted (frameOf x d y)) (kept 26 d) (kept 0 (afterLift y))) (kept 26 d)
+  liftIn y = cond (canMove y) (cond (isLifted (frameOf x d y)) (kept 26 d) (kept 0 (afterLift y))) (kept 26 d)
 
   -- "then with 27 a frame outside the window, then with 28"
   unfoldable pub putThere : ℕ → ℕ → Drafted
-  putThere y k = pick (inWindow (d .f) (jobAt x y) k) (pick (hasPlace y k) (kept 0 (afterPut y k)) (kept 28 d)) (kept 27 d)
+  putThere y k = cond (inWindow (d .f) (jobAt x y) k) (cond (canStand y k) (kept 0 (afterPut y k)) (kept 28 d)) (kept 27 d)
 
   -- "a put of a placed one"
   unfoldable pub putIn : ℕ → ℕ → Drafted
-  putIn y k = pick (canMove y) (pick (isLifted (frameOf x d y)) (putThere y k) (kept 26 d)) (kept 26 d)
+  putIn y k = cond (canMove y) (cond (isLifted (frameOf x d y)) (putThere y k) (kept 26 d)) (kept 26 d)
 
   -- not "writing while a job is lifted"
   unfoldable pub noneLifted : Bool
@@ -143,7 +143,7 @@ module _ (x : Instance) (d : Draft) where
 
   -- "A draft with no job lifted writes the table of exactly its frame length and frames"
   unfoldable pub writeIn : Outcome
-  writeIn = pick (both noneLifted (soundDraft x d)) (handed (planTable x (d .f) (framesHeld x d))) (refusal 26)
+  writeIn = cond (noneLifted && soundDraft x d) (handed (planTable x (d .f) (framesHeld x d))) (refusal 26)
 
 -- "Each later call takes the request too and first refuses it by its own numbers, 7 and 8 included."
 abbrev pub liftOf : Cycle → Draft → ℕ → Drafted

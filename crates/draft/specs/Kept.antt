@@ -3,10 +3,11 @@ use Prim.Native.Nat.{ℕ, _+_, _*_, _≤_, _<_}
 use mathlib.Core.Path.{_≡_}
 use mathlib.Core.Bool.{true}
 use mathlib.Core.Logic.{_↔_}
+use mathlib.Core.List.{List}
 use lib.ListN.{length}
 use Rattle.model.specs.Plan.{Instance, jobAt, pairAt}
-use Rattle.model.specs.Good.{Good}
 use Rattle.model.specs.Plausible.{plausible}
+use Rattle.model.specs.Within.{Within}
 use Rattle.draft.specs.Draft.{lifted, frameOf, loadAt, rowCount, sumOf, soundDraft}
 use Rattle.draft.specs.declared.Draft.{Draft}
 
@@ -45,4 +46,4 @@ pub record Sound (x : Instance) (d : Draft) : Type 0 where
 
 -- The test says so, and nothing else.
 abbrev pub SoundTheorem : Type 0
-SoundTheorem = (x : Instance) → Good x → (d : Draft) → (soundDraft x d ≡ true) ↔ Sound x d
+SoundTheorem = (request : List ℕ) (x : Instance) → Within request x → (d : Draft) → (soundDraft x d ≡ true) ↔ Sound x d

@@ -10,7 +10,8 @@ use lib.ListN.{getD, set, replicate}
 use lib.Seq.{getD-set-other}
 use borrow.Author.Tests.{le-leb}
 use Rattle.cursor.specs.ChoiceLaws.{lt-or-ge}
-use Rattle.cursor.specs.Padded.{firsts, getD-blanks}
+use Rattle.cursor.specs.Padded.{firsts}
+use Rattle.cursor.specs.PaddedLaws.{getD-blanks}
 use Rattle.search.specs.Placing.{row-sum}
 use Rattle.plan_rules.specs.Every.{every}
 use Rattle.plan_rules.specs.EveryLaws.{says-every}

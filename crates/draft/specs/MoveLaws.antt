@@ -1,5 +1,5 @@
 -- The steps of lifting, putting, starting and writing, on the answers of the functions that are called.
-use Prim.Native.Nat.{ℕ, zero, suc, _+_, _-_, _/_, _%_, _≤_, _<_, min}
+use Prim.Native.Nat.{ℕ, _+_, _-_, _/_, _%_, _≤_, _<_, min}
 use mathlib.Core.Path.{_≡_, refl, sym, ap, ap₂, _∙_}
 use mathlib.Core.Bool.{Bool, true, false}
 use mathlib.Core.List.{List}
@@ -10,12 +10,14 @@ use lib.Seq.{ext-getD}
 use lib.Dec.{ltb}
 use borrow.Author.Tests.{lt-ltb, le-ltb, ltb-true, ltb-false, leb-true, eq-eqb, ne-eqb, eqb-true, eqb-false}
 use Rattle.arith.specs.Residue.{quotient-pos}
+use Rattle.cursor.specs.RangeLaws.{over-length, over-here}
 use Rattle.cursor.specs.ParsedLaws.{both-true}
-use Rattle.cursor.specs.Padded.{padded, padded-length, getD-padded-any, firsts, firsts-length, getD-firsts, firsts-padded}
+use Rattle.cursor.specs.Padded.{padded, firsts}
+use Rattle.cursor.specs.PaddedLaws.{padded-length, getD-padded-any, firsts-length, getD-firsts, firsts-padded}
 use Rattle.request.specs.Request.{noTask}
 use Rattle.cycle.specs.Cycle.{Cycle, cycle, noCycle, cycleOf}
 use Rattle.cycle.specs.Planned.{noJob}
-use Rattle.cycle.specs.Answers.{answered}
+use Rattle.cycle.specs.Answers.{cycleAnswered}
 use Rattle.cycle.specs.declared.Cycle as answer
 use Rattle.table.specs.Table.{decode}
 use Rattle.search.specs.Placing.{row-sum, hasRoom}
@@ -23,8 +25,9 @@ use Rattle.model.specs.Plan.{Instance, jobAt, slot, costs}
 use Rattle.model.specs.PlanLaws.{costs-length, cost-at, length-pos, rows-pos}
 use Rattle.model.specs.Plausible.{plausible}
 use Rattle.model.specs.PlausibleLaws.{IsPlausible, plausible-says}
-use Rattle.model.specs.Answers.{instanceOf, jobs-counted}
-use Rattle.model.specs.Within.{Taken}
+use Rattle.model.specs.Answers.{instanceOf}
+use Rattle.model.specs.AnswerLaws.{jobs-counted}
+use Rattle.model.specs.WithinLaws.{Taken}
 use Rattle.plan_rules.specs.Every.{every}
 use Rattle.plan_rules.specs.EveryLaws.{every-says}
 use Rattle.plan_rules.specs.Rules.{inWindow, rulesRight}
@@ -35,11 +38,11 @@ use Rattle.checker.specs.Verdicts.{HandedOn, handed-on}
 use Rattle.checker.specs.declared.Read.{Read}
 use Rattle.cursor.specs.declared.Written.{Written}
 use Rattle.model.specs.Described.{planTable}
-use Rattle.model.specs.LayoutPlan.{layout-is-table}
 use Rattle.plan_writer.specs.Outcome.{handed, refusal, outcomeAnswer, outcomeBuffer}
-use Rattle.plan_writer.specs.OutcomeLaws.{refused-answer, refused-buffer}
-use Rattle.plan_writer.specs.Written.{layoutOf, planWritten, planBuffer}
-use Rattle.draft.specs.Draft.{lifted, isLifted, framesHeld, placedPart, placedFrames, rowCount, sumOf, loadRight, soundDraft, noDraft, loadsFrom, draftOf, startOf, start, kept, touched}
+use Rattle.plan_writer.specs.OutcomeLaws.{refused-answer, refused-buffer, table-answer, table-buffer}
+use Rattle.plan_writer.specs.Written.{planWritten, planBuffer}
+use Rattle.draft.specs.Draft.{lifted, isLifted, framesHeld, placedPart, placedFrames, rowCount, sumOf, loadRight, soundDraft, noDraft, loadsOf, draftOf, startOf, start, kept, touched}
+use Rattle.plan_writer.specs.WriteLaws.{held-written}
 use Rattle.draft.specs.Draft.{afterLift, afterPut, canMove, liftIn, putThere, putIn, liftOf, putOf, lift, put, isDown, noneLifted, writeIn, writeOf, write}
 use Rattle.draft.specs.Answers.{RowsFit, LoadsAre, Movable}
 use Rattle.draft.specs.SumLaws.{placed-cost}
@@ -197,41 +200,33 @@ module _ (request : List ℕ) (d : Draft) (y : ℕ) where
 
 -- the list of the loads
 module _ (rows : ℕ) (cost frames : List ℕ) where
-  loads-count : (n r : ℕ) → length (loadsFrom rows cost frames n r) ≡ n
-  unfolding loadsFrom
-  loads-count zero r = refl
-  loads-count (suc n) r = ap suc (loads-count n (r + 1))
+  loads-count : length (loadsOf rows cost frames) ≡ rows
+  loads-count = over-length (row-sum rows cost frames) 0 rows
 
-  loads-at : (n r j : ℕ) → j < n → getD (loadsFrom rows cost frames n r) j 0 ≡ row-sum rows cost frames (r + j)
-  unfolding loadsFrom
-  loads-at zero r j h = absurd (omega arith)
-  loads-at (suc n) r zero h = ap (row-sum rows cost frames) (omega arith)
-  loads-at (suc n) r (suc j) h = loads-at n (r + 1) j (omega arith) ∙ ap (row-sum rows cost frames) (omega arith)
+  pub load-there : (j : ℕ) → j < rows → getD (loadsOf rows cost frames) j 0 ≡ row-sum rows cost frames j
+  load-there j h = over-here (row-sum rows cost frames) 0 rows j h
 
-  pub load-there : (j : ℕ) → j < rows → getD (loadsFrom rows cost frames rows 0) j 0 ≡ row-sum rows cost frames j
-  load-there j h = loads-at rows 0 j h ∙ ap (row-sum rows cost frames) (omega arith)
+  pub load-behind : (j : ℕ) → rows ≤ j → getD (loadsOf rows cost frames) j 0 ≡ 0
+  load-behind j h = List·getD-eq-default (loadsOf rows cost frames) 0 {n = j} (omega (arith, loads-count))
 
-  pub load-behind : (j : ℕ) → rows ≤ j → getD (loadsFrom rows cost frames rows 0) j 0 ≡ 0
-  load-behind j h = List·getD-eq-default (loadsFrom rows cost frames rows 0) 0 {n = j} (omega (arith, loads-count rows 0))
+  pub loads-length : rows ≤ 256 → length (padded 256 0 (loadsOf rows cost frames)) ≡ 256
+  loads-length few = padded-length 256 0 (loadsOf rows cost frames) (omega (arith, loads-count))
 
-  pub loads-length : rows ≤ 256 → length (padded 256 0 (loadsFrom rows cost frames rows 0)) ≡ 256
-  loads-length few = padded-length 256 0 (loadsFrom rows cost frames rows 0) (omega (arith, loads-count rows 0))
-
-  loads-listed : rows ≤ 256 → (loads : List ℕ) → LoadsAre rows cost frames loads → loads ≡ padded 256 0 (loadsFrom rows cost frames rows 0)
+  loads-listed : rows ≤ 256 → (loads : List ℕ) → LoadsAre rows cost frames loads → loads ≡ padded 256 0 (loadsOf rows cost frames)
   loads-listed few loads are =
-      ext-getD 0 loads (padded 256 0 (loadsFrom rows cost frames rows 0)) (are .size ∙ sym (loads-length few)) (λ r h. there r (ltb r rows) refl)
+      ext-getD 0 loads (padded 256 0 (loadsOf rows cost frames)) (are .size ∙ sym (loads-length few)) (λ r h. there r (ltb r rows) refl)
     where
-      there : (r : ℕ) (b : Bool) → ltb r rows ≡ b → getD loads r 0 ≡ getD (padded 256 0 (loadsFrom rows cost frames rows 0)) r 0
-      there r true q = rw (getD-padded-any 256 0 (loadsFrom rows cost frames rows 0) r, load-there r (ltb-true r rows q)) (are .sums r (ltb-true r rows q))
-      there r false q = rw (getD-padded-any 256 0 (loadsFrom rows cost frames rows 0) r, load-behind r (ltb-false r rows q)) (are .unused r (ltb-false r rows q))
+      there : (r : ℕ) (b : Bool) → ltb r rows ≡ b → getD loads r 0 ≡ getD (padded 256 0 (loadsOf rows cost frames)) r 0
+      there r true q = rw (getD-padded-any 256 0 (loadsOf rows cost frames) r, load-there r (ltb-true r rows q)) (are .sums r (ltb-true r rows q))
+      there r false q = rw (getD-padded-any 256 0 (loadsOf rows cost frames) r, load-behind r (ltb-false r rows q)) (are .unused r (ltb-false r rows q))
 
 -- the answer of the check, and the cycle that it hands on
-module _ (request bytes : List ℕ) (r : Read) (e : r ≡ readAnswer (answered (cycleOf request)) (checker.checked (cycleOf request) (decode bytes))) where
+module _ (request bytes : List ℕ) (r : Read) (e : r ≡ readAnswer (cycleAnswered (cycleOf request)) (checker.checked (cycleOf request) (decode bytes))) where
   pub start-refused : (r .refusal ≡ 0 → ⊥) → kept (r .refusal) noDraft ≡ start request bytes
   unfolding start
   start-refused ne = go (checker.checked (cycleOf request) (decode bytes)) (cycleOf request) e
     where
-      go : (v : checker.Verdict) (c : Cycle) → r ≡ readAnswer (answered (cycleOf request)) v → kept (r .refusal) noDraft ≡ startOf c v
+      go : (v : checker.Verdict) (c : Cycle) → r ≡ readAnswer (cycleAnswered (cycleOf request)) v → kept (r .refusal) noDraft ≡ startOf c v
       go (checker.accepted f frames) c q = absurd (ne (ap (λ (z : Read). z .refusal) q))
       go (checker.refusal n) (cycle tasks pairs g h jobs) q = rw (ap (λ (z : Read). z .refusal) q)
       go (checker.refusal n) (noCycle number) q = rw (ap (λ (z : Read). z .refusal) q)
@@ -291,7 +286,7 @@ unfolding write
 write-in request d c t = ap (λ (z : Cycle). writeOf z d) (t .within)
 
 module _ (request : List ℕ) (d : Draft) (out : List ℕ) where
-  -- what is answered, and left in the buffer
+  -- what is cycleAnswered, and left in the buffer
   abbrev pub Hands : Written → List ℕ → Type 0
   Hands w out′ = (w ≡ outcomeAnswer (write request d) out) × (out′ ≡ outcomeBuffer (write request d) out)
 
@@ -316,8 +311,9 @@ module _ (request : List ℕ) (d : Draft) (out : List ℕ) where
       write-unsound e = refuses 26 (write-in request d c t ∙ rw (sym none-is ∙ down, e))
 
       pub write-done : soundDraft (instanceOf c) d ≡ true → Hands (planWritten (instanceOf c) (d .f) (d .frames) out) (planBuffer (instanceOf c) (d .f) (d .frames) out)
-      unfolding writeIn outcomeAnswer outcomeBuffer planWritten planBuffer layoutOf
+      unfolding writeIn
       write-done e =
           let x = instanceOf c in
-          let is : write request d ≡ handed (planTable x (d .f) (framesHeld x d)) = write-in request d c t ∙ rw (sym none-is ∙ down, e) in
-          rw (is, layout-is-table x (t .limits .good) (d .f) (framesHeld x d)) (refl, refl)
+          let table = planTable x (d .f) (framesHeld x d) in
+          let is : write request d ≡ handed table = write-in request d c t ∙ rw (sym none-is ∙ down, e) in
+          rw (is, table-answer table out, table-buffer table out) (held-written x (t .limits .good) (d .f) (d .frames) out)

@@ -8,7 +8,8 @@ use native.Mathlib.Omega.{arith}
 use lib.ListN.{length, getD, set, replicate, length-append}
 use borrow.Author.Tests.{eq-eqb, ne-eqb, eqb-false}
 use Rattle.cursor.specs.Choice.{keep}
-use Rattle.cursor.specs.Padded.{padded, padded-none, set-padded, firsts, firsts-length}
+use Rattle.cursor.specs.Padded.{padded, firsts}
+use Rattle.cursor.specs.PaddedLaws.{padded-none, set-padded, firsts-length}
 use Rattle.cycle.specs.Planned.{noJob}
 use Rattle.cycle.specs.declared.Job.{Job}
 use Rattle.draft.specs.Draft.{lifted, isLifted, placedOf}

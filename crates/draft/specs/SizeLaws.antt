@@ -1,22 +1,21 @@
 -- What a call gives: the draft as it was, or with one job and one row touched. So a draft keeps the sizes of its arrays.
 use Prim.Native.Nat.{ℕ}
 use mathlib.Core.Path.{_≡_, refl, ap, subst, sym, _∙_}
-use mathlib.Core.Bool.{Bool, true, false}
+use mathlib.Core.Bool.{Bool, true, false, cond}
 use mathlib.Core.List.{List}
 use mathlib.Core.Logic.{_⊎_, inl, inr}
 use native.Mathlib.Omega.{arith}
 use lib.ListN.{length-set, length-replicate}
-use Rattle.cursor.specs.Choice.{pick}
-use Rattle.cursor.specs.Padded.{padded-length}
+use Rattle.cursor.specs.PaddedLaws.{padded-length}
 use Rattle.cycle.specs.Cycle.{Cycle, cycle, noCycle, cycleOf}
 use Rattle.table.specs.Table.{decode}
 use Rattle.model.specs.Plan.{Instance, jobAt, rowsAt, costs}
 use Rattle.model.specs.Answers.{instance}
-use Rattle.model.specs.Within.{within-good}
+use Rattle.model.specs.WithinLaws.{within-good}
 use Rattle.plan_rules.specs.Rules.{inWindow}
 use Rattle.checker.specs.Checked as checker
 use Rattle.checker.specs.Verdicts.{plan-read}
-use Rattle.draft.specs.Draft.{isLifted, frameOf, noDraft, draftOf, startOf, start, kept, touched, afterLift, afterPut, canMove, hasPlace, liftIn, putThere, putIn, liftOf, putOf, lift, put}
+use Rattle.draft.specs.Draft.{isLifted, frameOf, noDraft, draftOf, startOf, start, kept, touched, afterLift, afterPut, canMove, canStand, liftIn, putThere, putIn, liftOf, putOf, lift, put}
 use Rattle.draft.specs.Kept.{Sized}
 use Rattle.draft.specs.MoveLaws.{loads-length}
 use Rattle.draft.specs.declared.Draft.{Draft}
@@ -32,7 +31,7 @@ module _ (d : Draft) where
   unfolding lift liftIn
   lift-came request y = go (cycleOf request)
     where
-      tested : (x : Instance) (a b : Bool) → CameTo d (pick a (pick b (kept 26 d) (kept 0 (afterLift x d y))) (kept 26 d))
+      tested : (x : Instance) (a b : Bool) → CameTo d (cond a (cond b (kept 26 d) (kept 0 (afterLift x d y))) (kept 26 d))
       tested x true true = inl (26, refl)
       tested x true false = inr (y, _, _, _, refl)
       tested x false b = inl (26, refl)
@@ -46,7 +45,7 @@ module _ (d : Draft) where
   put-came request y k = go (cycleOf request)
     where
       tested : (x : Instance) (a b inside place : Bool)
-          → CameTo d (pick a (pick b (pick inside (pick place (kept 0 (afterPut x d y k)) (kept 28 d)) (kept 27 d)) (kept 26 d)) (kept 26 d))
+          → CameTo d (cond a (cond b (cond inside (cond place (kept 0 (afterPut x d y k)) (kept 28 d)) (kept 27 d)) (kept 26 d)) (kept 26 d))
       tested x true true true true = inr (y, k, _, _, refl)
       tested x true true true false = inl (28, refl)
       tested x true true false place = inl (27, refl)
@@ -56,7 +55,7 @@ module _ (d : Draft) where
       go : (c : Cycle) → CameTo d (putOf c d y k)
       go (cycle tasks pairs g h jobs) =
           let x = instance tasks pairs g h jobs in
-          tested x (canMove x d y) (isLifted (frameOf x d y)) (inWindow (d .f) (jobAt x y) k) (hasPlace x d y k)
+          tested x (canMove x d y) (isLifted (frameOf x d y)) (inWindow (d .f) (jobAt x y) k) (canStand x d y k)
       go (noCycle number) = inl (number, refl)
 
   pub came-sized : (made : Drafted) → Sized d → CameTo d made → Sized (made .draft)

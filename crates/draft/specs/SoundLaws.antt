@@ -2,16 +2,18 @@
 use Prim.Native.Nat.{ℕ, _≤_, _<_}
 use mathlib.Core.Path.{_≡_, sym, subst, _∙_}
 use mathlib.Core.Bool.{true}
+use mathlib.Core.Logic.{_↔_}
 use native.Mathlib.Omega.{arith}
 use lib.ListN.{length, getD}
 use borrow.Author.Tests.{eq-eqb}
 use Rattle.arith.specs.Residue.{quotient-pos}
 use Rattle.cursor.specs.ParsedLaws.{both-true}
-use Rattle.cursor.specs.Padded.{firsts-length, getD-firsts}
+use Rattle.cursor.specs.PaddedLaws.{firsts-length, getD-firsts}
 use Rattle.cycle.specs.Planned.{noJob}
 use Rattle.cycle.specs.declared.Job.{Job}
 use Rattle.model.specs.Plan.{Instance, jobAt, pairAt, frameAt, PairsKept, InWindow}
 use Rattle.model.specs.Good.{Good}
+use Rattle.model.specs.WithinLaws.{within-good}
 use Rattle.model.specs.Plausible.{plausible}
 use Rattle.model.specs.PlausibleLaws.{IsPlausible, plausible-says}
 use Rattle.plan_rules.specs.EveryLaws.{says-every}
@@ -95,5 +97,8 @@ module _ (x : Instance) (d : Draft) where
         rw (s .plausible-f, say-rules (placedPart x d) (rowCount x d) (d .f) (placedFrames x d) rules)
         (says-every (loadRight x d) (rowCount x d) (λ r low. eq-eqb _ _ (s .loads-are r low)))
 
+pub sound-exactly : (x : Instance) → Good x → (d : Draft) → (soundDraft x d ≡ true) ↔ Sound x d
+sound-exactly x g d = (sound-says x d, says-sound x d g)
+
 pub sound-theorem : SoundTheorem
-sound-theorem x g d = (sound-says x d, says-sound x d g)
+sound-theorem request x w d = sound-exactly x (within-good request x w) d

@@ -1,12 +1,14 @@
 -- The steps of the test of a draft, on the answers of the functions that it calls.
-use Prim.Native.Nat.{ℕ, zero, suc, _+_, _/_, _≤_, _<_, min}
+use Prim.Native.Nat.{ℕ, _/_, _≤_, _<_, min}
 use mathlib.Core.Path.{_≡_, refl, sym, ap, _∙_}
-use mathlib.Core.Bool.{Bool, true, false}
-use mathlib.Core.List.{List}
+use mathlib.Core.Bool.{Bool, true, false, _&&_}
+use mathlib.Core.List.{List, foldr}
 use native.Mathlib.Omega.{arith}
 use lib.ListN.{length, getD}
 use lib.Dec.{eqb}
-use Rattle.cursor.specs.Padded.{padded, firsts, firsts-length, firsts-padded}
+use Rattle.cursor.specs.Padded.{padded, firsts}
+use Rattle.cursor.specs.PaddedLaws.{firsts-length, firsts-padded}
+use Rattle.cursor.specs.RangeLaws.{over-same}
 use Rattle.cycle.specs.Planned.{noJob}
 use Rattle.cycle.specs.declared.Job.{Job}
 use Rattle.cycle.specs.declared.Cycle as answer
@@ -15,7 +17,7 @@ use Rattle.model.specs.PlanLaws.{costs-length}
 use Rattle.model.specs.Plausible.{plausible}
 use Rattle.model.specs.PlausibleLaws.{plausible-says}
 use Rattle.model.specs.Answers.{instanceOf}
-use Rattle.plan_rules.specs.Every.{allFrom, every}
+use Rattle.plan_rules.specs.Every.{every}
 use Rattle.plan_rules.specs.Rules.{rulesRight}
 use Rattle.plan_rules.specs.RulesSay.{RulesKept, rules-say}
 use Rattle.draft.specs.Draft.{placedOf, framesHeld, placedPart, placedFrames, loadRight, soundDraft}
@@ -26,12 +28,7 @@ use Rattle.draft.specs.declared.Placing.{Placing}
 
 -- two tests that answer alike of every number below n
 every-same : (a b : ℕ → Bool) (n : ℕ) → ((r : ℕ) → r < n → a r ≡ b r) → every n a ≡ every n b
-unfolding allFrom
-every-same a b n h = go n 0 (λ r low high. h r (omega arith))
-  where
-    go : (k i : ℕ) → ((r : ℕ) → i ≤ r → r < i + k → a r ≡ b r) → allFrom a k i ≡ allFrom b k i
-    go zero i h = refl
-    go (suc k) i h = rw (h i (omega arith) (omega arith), go k (i + 1) (λ r low high. h r (omega arith) (omega arith)))
+every-same a b n h = ap (foldr _&&_ true) (over-same a b 0 n (λ r low high. h r (omega arith)))
 
 module _ (c : answer.Cycle) (d : Draft) where
   abbrev x : Instance

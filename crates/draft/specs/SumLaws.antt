@@ -1,14 +1,14 @@
 -- The sum of a row over the placed jobs: job by job it is the C + g of those in the row, and 0 for a lifted one.
 use Prim.Native.Nat.{ℕ, zero, suc, _+_, _%_, _≤_, _<_}
 use mathlib.Core.Path.{_≡_, refl, sym, _∙_}
-use mathlib.Core.Bool.{Bool, true, false, not}
+use mathlib.Core.Bool.{Bool, true, false, not, cond, _&&_}
 use mathlib.Core.List.{List, [], _∷_}
 use native.Mathlib.Omega.{arith}
 use lib.ListN.{length, getD}
 use lib.Dec.{eqb}
 use borrow.Author.Tests.{eq-eqb, ne-eqb}
-use Rattle.cursor.specs.Choice.{pick, both, keep}
-use Rattle.cursor.specs.Padded.{firsts-length, getD-firsts}
+use Rattle.cursor.specs.Choice.{keep}
+use Rattle.cursor.specs.PaddedLaws.{firsts-length, getD-firsts}
 use Rattle.search.specs.Placing.{row-sum}
 use Rattle.model.specs.Plan.{Instance, costs, costOf}
 use Rattle.model.specs.PlanLaws.{costs-length}
@@ -20,7 +20,7 @@ module _ (rows : ℕ) where
   unfoldable pub placedSum : List ℕ → List ℕ → ℕ → ℕ
   placedSum [] ks r = 0
   placedSum (c ∷ cs) [] r = 0
-  placedSum (c ∷ cs) (k ∷ ks) r = pick (both (not (isLifted k)) (eqb (k % rows) r)) c 0 + placedSum cs ks r
+  placedSum (c ∷ cs) (k ∷ ks) r = cond (not (isLifted k) && eqb (k % rows) r) c 0 + placedSum cs ks r
 
   sum-is : (r : ℕ) (cs ks : List ℕ) → length cs ≡ length ks → row-sum rows (placedOf ks cs) (placedOf ks ks) r ≡ placedSum cs ks r
   unfolding row-sum placedOf placedSum
@@ -30,7 +30,7 @@ module _ (rows : ℕ) where
   sum-is r (c ∷ cs) (k ∷ ks) e = rw (← sum-is r cs ks (omega arith)) (go (isLifted k) (eqb (k % rows) r) refl)
     where
       go : (a b : Bool) → eqb (k % rows) r ≡ b → row-sum rows (keep (not a) c (placedOf ks cs)) (keep (not a) k (placedOf ks ks)) r
-          ≡ pick (both (not a) b) c 0 + row-sum rows (placedOf ks cs) (placedOf ks ks) r
+          ≡ cond (not a && b) c 0 + row-sum rows (placedOf ks cs) (placedOf ks ks) r
       go true b q = omega arith
       go false true q = rw q
       go false false q = rw q

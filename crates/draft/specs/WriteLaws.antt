@@ -7,11 +7,12 @@ use mathlib.Core.Logic.{_⊎_, inl, inr}
 use native.Mathlib.Omega.{arith}
 use lib.ListN.{length, getD}
 use borrow.Author.Tests.{ne-eqb, eqb-false, not-true}
-use Rattle.cursor.specs.Padded.{firsts-length, getD-firsts}
+use Rattle.cursor.specs.PaddedLaws.{firsts-length, getD-firsts}
 use Rattle.cycle.specs.Cycle.{noCycle, cycleOf}
 use Rattle.model.specs.Plan.{Instance, IsPlan}
 use Rattle.model.specs.Answers.{instance}
-use Rattle.model.specs.Within.{Within, within-or-not}
+use Rattle.model.specs.Within.{Within}
+use Rattle.model.specs.WithinLaws.{within-or-not}
 use Rattle.model.specs.Described.{planTable}
 use Rattle.plan_rules.specs.EveryLaws.{every-says}
 use Rattle.plan_rules.specs.RulesSay.{RulesKept}

@@ -9,12 +9,13 @@ use Rattle.cycle.specs.Cycle.{noCycle, cycleOf}
 use Rattle.cycle.specs.LimitLaws.{RequestNumber, no-cycle-number, request-number-pos, request-number-few}
 use Rattle.model.specs.Plan.{Instance}
 use Rattle.model.specs.Good.{Good}
-use Rattle.model.specs.Within.{Within, within-good, within-or-not}
+use Rattle.model.specs.Within.{Within}
+use Rattle.model.specs.WithinLaws.{within-good, within-or-not}
 use Rattle.draft.specs.Draft.{lifted, afterPut, lift, put}
 use Rattle.draft.specs.Kept.{Sized, IsLifted, IsPlaced, Sound}
 use Rattle.draft.specs.declared.Draft.{Draft}
 use Rattle.draft.specs.declared.Drafted.{Drafted}
-use Rattle.draft_moves.specs.Exactly.{OfRequest, Unknown, InWindow, RowOver, OutOfOrder, Lifted, Put, LiftTheorem, PutTheorem}
+use Rattle.draft_moves.specs.Exactly.{OfInstance, Unknown, InItsWindow, RowOver, OutOfOrder, Lifted, Put, LiftTheorem, PutTheorem}
 use Rattle.draft_moves.specs.StepLaws.{some-length, had-room, had-order, is-put, is-lifted}
 use Rattle.draft_moves.specs.Ways.{LiftWay, unsound-lift, unknown-lift, lifted-lift, lifts, lift-way}
 use Rattle.draft_moves.specs.Ways.{PutWay, unsound-put, unknown-put, placed-put, outside-put, no-place, puts, put-way, frame-real}
@@ -32,13 +33,13 @@ clash p q other = other (sym p ∙ q)
 -- 26 to 28, 11 and 0 are no number of a request: a claim for each request within the limits is all that is to be shown
 module _ (request : List ℕ) (answer m : ℕ) (Claim : Instance → Type 0) (other : RequestNumber m → ⊥)
     (own : (number : ℕ) → cycleOf request ≡ noCycle number → answer ≡ number) where
-  pub for-request : ((x : Instance) → Within request x → answer ≡ m → Claim x) → answer ≡ m → OfRequest request Claim
+  pub for-request : ((x : Instance) → Within request x → answer ≡ m → Claim x) → answer ≡ m → OfInstance request Claim
   for-request each e =
       ⊎-elim (λ w. (w .0, w .1, each (w .0) (w .1) e))
       (λ w. absurd (other (subst RequestNumber (sym (own (w .0) (w .1)) ∙ e) (no-cycle-number request (w .0) (w .1)))))
       (within-or-not request)
 
-  pub of-request : ((x : Instance) → Within request x → (answer ≡ m) ↔ Claim x) → (answer ≡ m) ↔ OfRequest request Claim
+  pub of-request : ((x : Instance) → Within request x → (answer ≡ m) ↔ Claim x) → (answer ≡ m) ↔ OfInstance request Claim
   of-request each = (for-request (λ x w. each x w .0), λ c. each (c .0) (c .1) .1 (c .2))
 
 pub above-numbers : (m : ℕ) → 17 < m → RequestNumber m → ⊥
@@ -115,7 +116,7 @@ module _ (x : Instance) (d : Draft) (y k : ℕ) (a : Drafted) where
   put-twenty-six (no-place s u w o e) = (λ q. absurd (clash (refusal-is e) q (λ z. omega (arith, z))), λ c. absurd (not-twenty-six s u c))
   put-twenty-six (puts s u w t e) = (λ q. absurd (clash (refusal-is e) q (λ z. omega (arith, z))), λ c. absurd (not-twenty-six s u c))
 
-  pub put-twenty-seven : PutWay x d y k a → (a .refusal ≡ 27) ↔ (Sound x d × IsLifted x d y × (InWindow x d y k → ⊥))
+  pub put-twenty-seven : PutWay x d y k a → (a .refusal ≡ 27) ↔ (Sound x d × IsLifted x d y × (InItsWindow x d y k → ⊥))
   put-twenty-seven (unsound-put n e) = (λ q. absurd (clash (refusal-is e) q (λ z. omega (arith, z))), λ c. absurd (n (c .0)))
   put-twenty-seven (unknown-put o e) = (λ q. absurd (clash (refusal-is e) q (λ z. omega (arith, z))), λ c. absurd (omega (arith, o, c .1 .known)))
   put-twenty-seven (placed-put p e) = (λ q. absurd (clash (refusal-is e) q (λ z. omega (arith, z))), λ c. absurd (p .down (c .1 .up)))
@@ -136,13 +137,13 @@ module _ (x : Instance) (d : Draft) (y k : ℕ) (a : Drafted) where
     abbrev g : Good x
     g = within-good request x within
 
-    frame : Sound x d → IsLifted x d y → InWindow x d y k → k ≡ lifted → ⊥
+    frame : Sound x d → IsLifted x d y → InItsWindow x d y k → k ≡ lifted → ⊥
     frame s u w = frame-real request x within (d .f) y k (some-length x g d s) (u .known) (w .not-late)
 
-    never : IsLifted x d y → InWindow x d y k → Sound x d → RowOver x d y k ⊎ OutOfOrder x d y k → Sound x (afterPut x d y k) → ⊥
+    never : IsLifted x d y → InItsWindow x d y k → Sound x d → RowOver x d y k ⊎ OutOfOrder x d y k → Sound x (afterPut x d y k) → ⊥
     never u w s o t = ⊎-elim (had-room x g d sized y k u (frame s u w) s t) (had-order x g d sized y k u (frame s u w) s t) o
 
-    pub put-twenty-eight : PutWay x d y k a → (a .refusal ≡ 28) ↔ (Sound x d × IsLifted x d y × InWindow x d y k × (RowOver x d y k ⊎ OutOfOrder x d y k))
+    pub put-twenty-eight : PutWay x d y k a → (a .refusal ≡ 28) ↔ (Sound x d × IsLifted x d y × InItsWindow x d y k × (RowOver x d y k ⊎ OutOfOrder x d y k))
     put-twenty-eight (unsound-put n e) = (λ q. absurd (clash (refusal-is e) q (λ z. omega (arith, z))), λ c. absurd (n (c .0)))
     put-twenty-eight (unknown-put o e) = (λ q. absurd (clash (refusal-is e) q (λ z. omega (arith, z))), λ c. absurd (omega (arith, o, c .1 .known)))
     put-twenty-eight (placed-put p e) = (λ q. absurd (clash (refusal-is e) q (λ z. omega (arith, z))), λ c. absurd (p .down (c .1 .up)))
@@ -150,7 +151,7 @@ module _ (x : Instance) (d : Draft) (y k : ℕ) (a : Drafted) where
     put-twenty-eight (no-place s u w o e) = (λ q. (s, u, w, o), λ c. refusal-is e)
     put-twenty-eight (puts s u w t e) = (λ q. absurd (clash (refusal-is e) q (λ z. omega (arith, z))), λ c. absurd (never u w s (c .3) t))
 
-    pub put-zero : PutWay x d y k a → (a .refusal ≡ 0) ↔ (Sound x d × IsLifted x d y × InWindow x d y k × (RowOver x d y k → ⊥) × (OutOfOrder x d y k → ⊥))
+    pub put-zero : PutWay x d y k a → (a .refusal ≡ 0) ↔ (Sound x d × IsLifted x d y × InItsWindow x d y k × (RowOver x d y k → ⊥) × (OutOfOrder x d y k → ⊥))
     put-zero (unsound-put n e) = (λ q. absurd (clash (refusal-is e) q (λ z. omega (arith, z))), λ c. absurd (n (c .0)))
     put-zero (unknown-put o e) = (λ q. absurd (clash (refusal-is e) q (λ z. omega (arith, z))), λ c. absurd (omega (arith, o, c .1 .known)))
     put-zero (placed-put p e) = (λ q. absurd (clash (refusal-is e) q (λ z. omega (arith, z))), λ c. absurd (p .down (c .1 .up)))
@@ -184,11 +185,11 @@ put-theorem request d sized y k =
       own-number = own;
       twenty-six = of-request request (a .refusal) 26 (λ x. (Sound x d → ⊥) ⊎ (Unknown x y ⊎ IsPlaced x d y)) (above-numbers 26 (omega arith)) own
           (λ x w. put-twenty-six x d y k a (goes x w));
-      twenty-seven = of-request request (a .refusal) 27 (λ x. Sound x d × IsLifted x d y × (InWindow x d y k → ⊥)) (above-numbers 27 (omega arith)) own
+      twenty-seven = of-request request (a .refusal) 27 (λ x. Sound x d × IsLifted x d y × (InItsWindow x d y k → ⊥)) (above-numbers 27 (omega arith)) own
           (λ x w. put-twenty-seven x d y k a (goes x w));
-      twenty-eight = of-request request (a .refusal) 28 (λ x. Sound x d × IsLifted x d y × InWindow x d y k × (RowOver x d y k ⊎ OutOfOrder x d y k))
+      twenty-eight = of-request request (a .refusal) 28 (λ x. Sound x d × IsLifted x d y × InItsWindow x d y k × (RowOver x d y k ⊎ OutOfOrder x d y k))
           (above-numbers 28 (omega arith)) own (λ x w. put-twenty-eight x d y k a request w sized (goes x w));
-      puts = of-request request (a .refusal) 0 (λ x. Sound x d × IsLifted x d y × InWindow x d y k × (RowOver x d y k → ⊥) × (OutOfOrder x d y k → ⊥)) not-zero own
+      puts = of-request request (a .refusal) 0 (λ x. Sound x d × IsLifted x d y × InItsWindow x d y k × (RowOver x d y k → ⊥) × (OutOfOrder x d y k → ⊥)) not-zero own
           (λ x w. put-zero x d y k a request w sized (goes x w));
       after = for-request request (a .refusal) 0 (λ x. Put x d y k (a .draft)) not-zero own (λ x w. put-after x d y k a request w sized (goes x w));
       unchanged = λ ne. ⊎-elim (λ w. put-kept (w .0) d y k a (goes (w .0) (w .1)) ne) (λ w. put-none request d y k (w .0) (w .1)) (within-or-not request);

@@ -3,17 +3,16 @@ use Prim.Native.Nat.{ℕ, _+_, _*_, _≤_, _<_}
 use mathlib.Core.Path.{_≡_}
 use mathlib.Core.Logic.{_↔_, _⊎_}
 use mathlib.Core.List.{List, _++_}
+use mathlib.Core.Bool.{cond}
 use lib.ListN.{length, set, take, drop}
 use lib.Dec.{eqb}
-use Rattle.cursor.specs.Choice.{pick}
-use Rattle.cursor.specs.Front.{Bytes}
+use Rattle.cursor.specs.Fields.{Bytes}
 use Rattle.cursor.specs.declared.Written.{Written}
 use Rattle.cycle.specs.Cycle.{noCycle, cycleOf}
 use Rattle.table.specs.Table.{Table, encode, decode}
 use Rattle.table.specs.TableBytes.{SaysTable}
 use Rattle.search.specs.Placing.{row-sum}
-use Rattle.model.specs.Plan.{Instance, jobAt, rowsAt, costs, frameAt, IsPlan}
-use Rattle.model.specs.Good.{Good}
+use Rattle.model.specs.Plan.{Instance, jobAt, rowsAt, costs, frameAt, InWindow, IsPlan}
 use Rattle.model.specs.Within.{Within}
 use Rattle.model.specs.Described.{Describes}
 use Rattle.checker.specs.Checked.{accepted, checked, checkNumber}
@@ -34,10 +33,10 @@ pub record SumMeans (x : Instance) (d : Draft) : Type 0 where
   pub none : ((y : ℕ) → y < length (x .jobs) → IsLifted x d y) → (r : ℕ) → sumOf x d r ≡ 0
   pub all : AllPlaced x d → (r : ℕ) → sumOf x d r ≡ row-sum (rowCount x d) (costs x) (framesHeld x d) r
   pub one-more : (e : Draft) (y k r : ℕ) → IsLifted x d y → (k ≡ lifted → ⊥) → e .f ≡ d .f → e .frames ≡ set (d .frames) y k
-      → sumOf x e r ≡ sumOf x d r + pick (eqb (rowIn x d k) r) (costAt x d y) 0
+      → sumOf x e r ≡ sumOf x d r + cond (eqb (rowIn x d k) r) (costAt x d y) 0
 
 abbrev pub SumTheorem : Type 0
-SumTheorem = (x : Instance) → Good x → (d : Draft) → Sized d → SumMeans x d
+SumTheorem = (request : List ℕ) (x : Instance) → Within request x → (d : Draft) → Sized d → SumMeans x d
 
 -- A sound draft with no job lifted is a plan of its frame length and frames, with that plan's loads; and the other way round.
 abbrev pub PlanHeld : Instance → Draft → Type 0
@@ -48,8 +47,8 @@ abbrev pub PlanTheorem : Type 0
 PlanTheorem = (request : List ℕ) (x : Instance) → Within request x → (d : Draft) → Sized d → (Sound x d × AllPlaced x d) ↔ PlanHeld x d
 
 -- the request is within the limits, and `Claim` holds of what is planned for it
-abbrev pub OfRequest : List ℕ → (Instance → Type 0) → Type 0
-OfRequest request Claim = (x : Instance) × Within request x × Claim x
+abbrev pub OfInstance : List ℕ → (Instance → Type 0) → Type 0
+OfInstance request Claim = (x : Instance) × Within request x × Claim x
 
 -- Starting
 
@@ -112,18 +111,17 @@ pub record LiftExact (request : List ℕ) (d : Draft) (y : ℕ) : Type 0 where
   -- "first refuses it by its own numbers, 7 and 8 included"
   pub own-number : (number : ℕ) → cycleOf request ≡ noCycle number → lift request d y .refusal ≡ number
   -- 26: a draft that is not sound, "an unknown job, a lift of a lifted job"
-  pub twenty-six : (lift request d y .refusal ≡ 26) ↔ OfRequest request (λ x. (Sound x d → ⊥) ⊎ (Unknown x y ⊎ IsLifted x d y))
-  pub lifts : (lift request d y .refusal ≡ 0) ↔ OfRequest request (λ x. Sound x d × IsPlaced x d y)
-  pub after : lift request d y .refusal ≡ 0 → OfRequest request (λ x. Lifted x d y (lift request d y .draft))
+  pub twenty-six : (lift request d y .refusal ≡ 26) ↔ OfInstance request (λ x. (Sound x d → ⊥) ⊎ (Unknown x y ⊎ IsLifted x d y))
+  pub lifts : (lift request d y .refusal ≡ 0) ↔ OfInstance request (λ x. Sound x d × IsPlaced x d y)
+  pub after : lift request d y .refusal ≡ 0 → OfInstance request (λ x. Lifted x d y (lift request d y .draft))
   -- 01: "A refusal returns its number, .. the state unchanged"
   pub unchanged : (lift request d y .refusal ≡ 0 → ⊥) → lift request d y .draft ≡ d
 
 -- Putting job y into frame k
 
 -- not "a frame outside the window"
-pub record InWindow (x : Instance) (d : Draft) (y k : ℕ) : Type 0 where
-  pub not-early : jobAt x y .release ≤ k * d .f
-  pub not-late : (k + 1) * d .f ≤ jobAt x y .due
+abbrev pub InItsWindow : Instance → Draft → ℕ → ℕ → Type 0
+InItsWindow x d y k = InWindow (d .f) (jobAt x y .release) (jobAt x y .due) k
 
 -- "a row over f": with the job's C + g
 abbrev pub RowOver : Instance → Draft → ℕ → ℕ → Type 0
@@ -145,15 +143,15 @@ pub record Put (x : Instance) (d : Draft) (y k : ℕ) (e : Draft) : Type 0 where
 pub record PutExact (request : List ℕ) (d : Draft) (y k : ℕ) : Type 0 where
   pub own-number : (number : ℕ) → cycleOf request ≡ noCycle number → put request d y k .refusal ≡ number
   -- 26: a draft that is not sound, "an unknown job, .. a put of a placed one"
-  pub twenty-six : (put request d y k .refusal ≡ 26) ↔ OfRequest request (λ x. (Sound x d → ⊥) ⊎ (Unknown x y ⊎ IsPlaced x d y))
+  pub twenty-six : (put request d y k .refusal ≡ 26) ↔ OfInstance request (λ x. (Sound x d → ⊥) ⊎ (Unknown x y ⊎ IsPlaced x d y))
   -- "then with 27 a frame outside the window"
-  pub twenty-seven : (put request d y k .refusal ≡ 27) ↔ OfRequest request (λ x. Sound x d × IsLifted x d y × (InWindow x d y k → ⊥))
+  pub twenty-seven : (put request d y k .refusal ≡ 27) ↔ OfInstance request (λ x. Sound x d × IsLifted x d y × (InItsWindow x d y k → ⊥))
   -- "then with 28 a row over f or a pair out of order with a placed job"
   pub twenty-eight : (put request d y k .refusal ≡ 28)
-      ↔ OfRequest request (λ x. Sound x d × IsLifted x d y × InWindow x d y k × (RowOver x d y k ⊎ OutOfOrder x d y k))
+      ↔ OfInstance request (λ x. Sound x d × IsLifted x d y × InItsWindow x d y k × (RowOver x d y k ⊎ OutOfOrder x d y k))
   pub puts : (put request d y k .refusal ≡ 0)
-      ↔ OfRequest request (λ x. Sound x d × IsLifted x d y × InWindow x d y k × (RowOver x d y k → ⊥) × (OutOfOrder x d y k → ⊥))
-  pub after : put request d y k .refusal ≡ 0 → OfRequest request (λ x. Put x d y k (put request d y k .draft))
+      ↔ OfInstance request (λ x. Sound x d × IsLifted x d y × InItsWindow x d y k × (RowOver x d y k → ⊥) × (OutOfOrder x d y k → ⊥))
+  pub after : put request d y k .refusal ≡ 0 → OfInstance request (λ x. Put x d y k (put request d y k .draft))
   pub unchanged : (put request d y k .refusal ≡ 0 → ⊥) → put request d y k .draft ≡ d
 
 -- Writing
@@ -184,11 +182,11 @@ module _ (request : List ℕ) (d : Draft) (out : List ℕ) where
   pub record WriteExact : Type 0 where
     pub own-number : (number : ℕ) → cycleOf request ≡ noCycle number → writeAnswer .refusal ≡ number
     -- 26: a draft that is not sound, "or writing while a job is lifted"
-    pub twenty-six : (writeAnswer .refusal ≡ 26) ↔ OfRequest request (λ x. (Sound x d → ⊥) ⊎ ((y : ℕ) × IsLifted x d y))
+    pub twenty-six : (writeAnswer .refusal ≡ 26) ↔ OfInstance request (λ x. (Sound x d → ⊥) ⊎ ((y : ℕ) × IsLifted x d y))
     -- "a short buffer gives 11 last"
-    pub eleven : (writeAnswer .refusal ≡ 11) ↔ OfRequest request (λ x. Sound x d × AllPlaced x d × (length out < sizeOf x d))
-    pub writes : (writeAnswer .refusal ≡ 0) ↔ OfRequest request (λ x. Sound x d × AllPlaced x d × (sizeOf x d ≤ length out))
-    pub written-out : writeAnswer .refusal ≡ 0 → OfRequest request WrittenOut
+    pub eleven : (writeAnswer .refusal ≡ 11) ↔ OfInstance request (λ x. Sound x d × AllPlaced x d × (length out < sizeOf x d))
+    pub writes : (writeAnswer .refusal ≡ 0) ↔ OfInstance request (λ x. Sound x d × AllPlaced x d × (sizeOf x d ≤ length out))
+    pub written-out : writeAnswer .refusal ≡ 0 → OfInstance request WrittenOut
     pub untouched : (writeAnswer .refusal ≡ 0 → ⊥) → (writeAnswer .length ≡ 0) × (bufferAfter ≡ out)
 
 -- THE THEOREMS of the later calls: of every request, every draft, every job, frame and buffer

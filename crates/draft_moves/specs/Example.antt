@@ -1,4 +1,4 @@
--- Drafts at work: P1's table moved by hand, P3's with its pair, P7's carried job, and damaged drafts: computed.
+-- Drafts at work: P1's table moveAnswer by hand, P3's with its pair, P7's carried job, and damaged drafts: computed.
 use Prim.Native.Nat.{ℕ}
 use mathlib.Core.Path.{_≡_, refl}
 use mathlib.Core.List.{List, [], _∷_, _++_, map, flatMap}
@@ -13,22 +13,21 @@ use Rattle.request.specs.Request.{taskRule, judgedTask, taskOf, tasksOf, pairRu
 use Rattle.request.specs.Encode.{taskBytes, pairBytes, sectionBytes, silentBytes, requestBytes}
 use Rattle.request.specs.declared.Task.{Task}
 use Rattle.request.specs.declared.Pair.{Pair}
-use Rattle.cycle.specs.Cycle.{lcmWith, hyperperiod, jobsIn, jobOf, jobsFrom, jobsOf, allJobs, before, insert, inOrder, planned, cycleOf}
+use Rattle.cycle.specs.Cycle.{lcmWith, hyperperiod, jobsIn, jobOf, allJobs, before, insert, inOrder, planned, cycleOf}
 use Rattle.table.specs.Table.{jobByte, entryOf, entryFrom, entriesFrom, rowFrom, sizesFrom, heightFits, rowsFrom, decode}
 use Rattle.table.specs.Table.{entriesBytes, rowBytes, headBytes, encode}
 use Rattle.search.specs.Placing.{row-sum}
 use Rattle.model.specs.Plan.{slot, costOf, costs}
 use Rattle.model.specs.Plausible.{commonRule, phaseRule, frameRule, frameRules, plausibleBy}
 use Rattle.model.specs.Named.{isJob}
-use Rattle.model.specs.Described.{rowFor, entryFor, placesOf, placesFrom, placesByTask, placesIn, planRows, planTable}
+use Rattle.model.specs.Described.{rowFor, entryFor, placesByTask, placesIn, planTable}
 use Rattle.plan_writer.specs.Outcome.{outcomeAnswer, outcomeBuffer}
-use Rattle.plan_rules.specs.Every as every
 use Rattle.plan_rules.specs.Rules as rules
 use Rattle.checker.specs.Checked as checker
-use Rattle.draft.specs.Draft.{lifted, isDown, placedOf, soundDraft, noDraft, loadsFrom, draftOf, start, liftIn, putThere, putIn}
+use Rattle.draft.specs.Draft.{lifted, isDown, placedOf, soundDraft, noDraft, draftOf, start, liftIn, putThere, putIn}
 use Rattle.draft.specs.Draft.{noneLifted, writeIn, lift, put, write}
 use Rattle.draft.specs.declared.Draft.{Draft}
-use Rattle.draft_moves.specs.Moves.{Move, lifts, puts, moved, draftAfter}
+use Rattle.draft_moves.specs.Moves.{Move, lifts, puts, moveAnswer, draftAfter}
 
 abbrev task : ℕ → ℕ → ℕ → ℕ → Task
 task c t d p = record { c = c; t = t; d = d; p = p }
@@ -39,7 +38,7 @@ pair a b = record { a = a; b = b }
 -- the numbers that a list of moves gets, one behind the other
 unfoldable pub numbers : List ℕ → Draft → List Move → List ℕ
 numbers request d [] = []
-numbers request d (m ∷ ms) = moved request d m .refusal ∷ numbers request (moved request d m .draft) ms
+numbers request d (m ∷ ms) = moveAnswer request d m .refusal ∷ numbers request (moveAnswer request d m .draft) ms
 
 -- a draft with these frames and loads in its first places
 abbrev pub draft : ℕ → List ℕ → List ℕ → Draft
@@ -134,14 +133,14 @@ pub examples : Examples
 unfolding cycleOf reading tasksOf taskOf judgedTask taskRule pairsOf pairOf judgedPair pairRule silentOf records byteOf wordOf
     requestBytes sectionBytes taskBytes pairBytes silentBytes wordBytes flatMap
     costs costOf slot plausibleBy frameRules frameRule phaseRule commonRule isJob padded row-sum
-    planned inOrder insert before allJobs jobsOf jobsFrom jobOf jobsIn hyperperiod lcmWith lcmOf gcdOf gcdSteps
-    planTable planRows placesIn placesByTask placesFrom placesOf entryFor rowFor
+    planned inOrder insert before allJobs jobOf jobsIn hyperperiod lcmWith lcmOf gcdOf gcdSteps
+    planTable placesIn placesByTask entryFor rowFor
     encode headBytes rowBytes entriesBytes jobByte decode rowsFrom heightFits sizesFrom rowFrom entriesFrom entryFrom entryOf
     checker.checkedBy checker.judgedBy checker.planOf rules.rulesRight rules.heightRight rules.orderRight rules.capacityRight rules.windowsRight
     checker.entriesRight rules.capacityKept checker.rowsKept checker.rowKept checker.entryKept rules.pairKept rules.oneKept rules.otherKept rules.windowKept
-    checker.isThere rules.inWindow checker.isPlaced checker.framesIn checker.frameIn checker.frameFor checker.placeIn checker.placeInRow
-    every.someFrom every.allFrom outcomeAnswer outcomeBuffer written buffer firsts
-    placedOf isDown loadsFrom soundDraft draftOf start liftIn putThere putIn noneLifted writeIn lift put write draftAfter numbers
+    checker.isThere rules.inWindow checker.isPlaced checker.framesIn checker.frameIn checker.frameFor checker.positionIn checker.positionInRow
+    outcomeAnswer outcomeBuffer written buffer firsts
+    placedOf isDown soundDraft draftOf start liftIn putThere putIn noneLifted writeIn lift put write draftAfter numbers
 examples = record {
   P1-started = refl;
   P1-refused = refl;

@@ -10,12 +10,13 @@ use lib.ListN.{length}
 use Rattle.table.specs.Table.{Table}
 use Rattle.model.specs.Plan.{Instance}
 use Rattle.model.specs.Good.{Good}
-use Rattle.model.specs.Within.{Within, within-good}
+use Rattle.model.specs.Within.{Within}
+use Rattle.model.specs.WithinLaws.{within-good}
 use Rattle.draft.specs.Draft.{frameOf, loadAt, rowCount, rowIn, start, lift, put}
 use Rattle.draft.specs.Kept.{Sized, Sound}
 use Rattle.draft.specs.declared.Draft.{Draft}
 use Rattle.draft_moves.specs.Exactly.{Touched, StartedFrom}
-use Rattle.draft_moves.specs.Moves.{Move, lifts, puts, moved, draftAfter, LiftSays, PutSays, Holds, MovesTheorem}
+use Rattle.draft_moves.specs.Moves.{Move, lifts, puts, moveAnswer, draftAfter, LiftSays, PutSays, Holds, MovesTheorem}
 use Rattle.draft_moves.specs.StepLaws.{row-low}
 use Rattle.draft_moves.specs.Decided.{equal}
 use Rattle.draft_moves.specs.Ways.{lift-way, put-way}
@@ -87,7 +88,7 @@ module _ (request : List ℕ) (x : Instance) (within : Within request x) (t : Ta
     same-draft e is =
         (0, 0, rw is (record { same-f = refl; sized = k .sized; other-jobs = λ z ne. refl; other-rows = λ s ne. refl }))
 
-    next-touches : (m : Move) → (y : ℕ) × (r : ℕ) × Touched x d (moved request d m .draft) y r
+    next-touches : (m : Move) → (y : ℕ) × (r : ℕ) × Touched x d (moveAnswer request d m .draft) y r
     next-touches (lifts y) =
         ⊎-elim (λ z. (y, rowIn x d (frameOf x d y), next-lift y .after z .touched)) (λ ne. same-draft (lift request d y .draft) (next-lift y .unchanged ne))
         (equal (lift request d y .refusal) 0)
@@ -95,7 +96,7 @@ module _ (request : List ℕ) (x : Instance) (within : Within request x) (t : Ta
         ⊎-elim (λ z. (y, rowIn x d f, next-put y f .after z .touched)) (λ ne. same-draft (put request d y f .draft) (next-put y f .unchanged ne))
         (equal (put request d y f .refusal) 0)
 
-    move-keeps : (m : Move) → Keeps x t (moved request d m .draft)
+    move-keeps : (m : Move) → Keeps x t (moveAnswer request d m .draft)
     move-keeps (lifts y) =
         ⊎-elim
         (λ z. let done = next-lift y .after z in
@@ -130,7 +131,7 @@ module _ (request : List ℕ) (x : Instance) (within : Within request x) (t : Ta
   after-keeps : (moves : List Move) (d : Draft) → Keeps x t d → Keeps x t (draftAfter request d moves)
   unfolding draftAfter
   after-keeps [] d k = k
-  after-keeps (m ∷ moves) d k = after-keeps moves (moved request d m .draft) (move-keeps d k m)
+  after-keeps (m ∷ moves) d k = after-keeps moves (moveAnswer request d m .draft) (move-keeps d k m)
 
 begun-keeps : (request bytes : List ℕ) (d : Draft) (s : StartedFrom request bytes d) → Keeps (s .x) (s .t) d
 begun-keeps request bytes d s =

@@ -5,7 +5,7 @@ use mathlib.Core.Path.{_≡_}
 use mathlib.Core.Logic.{_↔_, _⊎_}
 use mathlib.Core.List.{List, [], _∷_}
 use lib.ListN.{length, take}
-use Rattle.cursor.specs.Front.{Bytes}
+use Rattle.cursor.specs.Fields.{Bytes}
 use Rattle.table.specs.Table.{Table}
 use Rattle.table.specs.TableBytes.{SaysTable}
 use Rattle.model.specs.Plan.{Instance}
@@ -15,7 +15,7 @@ use Rattle.draft.specs.Draft.{frameOf, loadAt, rowCount, sumOf, start, lift, pu
 use Rattle.draft.specs.Kept.{Sized, IsLifted, IsPlaced, Sound}
 use Rattle.draft.specs.declared.Draft.{Draft}
 use Rattle.draft.specs.declared.Drafted.{Drafted}
-use Rattle.draft_moves.specs.Exactly.{AllPlaced, Unknown, InWindow, RowOver, OutOfOrder, Touched, Lifted, Put}
+use Rattle.draft_moves.specs.Exactly.{AllPlaced, Unknown, InItsWindow, RowOver, OutOfOrder, Touched, Lifted, Put}
 use Rattle.draft_moves.specs.Exactly.{writeAnswer, bufferAfter, sizeOf, WrittenOut}
 
 -- a lift of job y; a put of job y into frame k
@@ -23,14 +23,14 @@ pub data Move : Type 0 where
   lifts : ℕ → Move
   puts : ℕ → ℕ → Move
 
-abbrev pub moved : List ℕ → Draft → Move → Drafted
-moved request d (lifts y) = lift request d y
-moved request d (puts y k) = put request d y k
+abbrev pub moveAnswer : List ℕ → Draft → Move → Drafted
+moveAnswer request d (lifts y) = lift request d y
+moveAnswer request d (puts y k) = put request d y k
 
 -- the draft after a list of them, refused ones among them: each takes the draft that the last one gave
 unfoldable pub draftAfter : List ℕ → Draft → List Move → Draft
 draftAfter request d [] = d
-draftAfter request d (m ∷ ms) = draftAfter request (moved request d m .draft) ms
+draftAfter request d (m ∷ ms) = draftAfter request (moveAnswer request d m .draft) ms
 
 -- What a move answers on a draft that is sound: 26 is given only for an unknown job, a lift of a lifted one or a put of a placed one
 pub record LiftSays (x : Instance) (d : Draft) (y : ℕ) (a : Drafted) : Type 0 where
@@ -41,9 +41,9 @@ pub record LiftSays (x : Instance) (d : Draft) (y : ℕ) (a : Drafted) : Type 0 
 
 pub record PutSays (x : Instance) (d : Draft) (y k : ℕ) (a : Drafted) : Type 0 where
   pub twenty-six : (a .refusal ≡ 26) ↔ (Unknown x y ⊎ IsPlaced x d y)
-  pub twenty-seven : (a .refusal ≡ 27) ↔ (IsLifted x d y × (InWindow x d y k → ⊥))
-  pub twenty-eight : (a .refusal ≡ 28) ↔ (IsLifted x d y × InWindow x d y k × (RowOver x d y k ⊎ OutOfOrder x d y k))
-  pub placed : (a .refusal ≡ 0) ↔ (IsLifted x d y × InWindow x d y k × (RowOver x d y k → ⊥) × (OutOfOrder x d y k → ⊥))
+  pub twenty-seven : (a .refusal ≡ 27) ↔ (IsLifted x d y × (InItsWindow x d y k → ⊥))
+  pub twenty-eight : (a .refusal ≡ 28) ↔ (IsLifted x d y × InItsWindow x d y k × (RowOver x d y k ⊎ OutOfOrder x d y k))
+  pub placed : (a .refusal ≡ 0) ↔ (IsLifted x d y × InItsWindow x d y k × (RowOver x d y k → ⊥) × (OutOfOrder x d y k → ⊥))
   pub after : a .refusal ≡ 0 → Put x d y k (a .draft)
   pub unchanged : (a .refusal ≡ 0 → ⊥) → a .draft ≡ d
 
@@ -59,7 +59,7 @@ pub record Holds (request : List ℕ) (x : Instance) (t : Table) (d : Draft) : T
   pub unused-jobs : (y : ℕ) → length (x .jobs) ≤ y → frameOf x d y ≡ 0
   pub unused-rows : (r : ℕ) → rowCount x d ≤ r → loadAt x d r ≡ 0
   -- "either touches one job and one row": the next move, refused or not
-  pub next-touches : (m : Move) → (y : ℕ) × (r : ℕ) × Touched x d (moved request d m .draft) y r
+  pub next-touches : (m : Move) → (y : ℕ) × (r : ℕ) × Touched x d (moveAnswer request d m .draft) y r
   -- what the next call answers, whichever it is: a lift, a put, or writing
   pub next-lift : (y : ℕ) → LiftSays x d y (lift request d y)
   pub next-put : (y k : ℕ) → PutSays x d y k (put request d y k)

@@ -6,20 +6,22 @@ use mathlib.Core.List.{List}
 use native.Mathlib.Omega.{arith}
 use lib.ListN.{length, take, drop, List·getD-eq-default}
 use lib.Seq.{ext-getD, take-append-seam}
-use Rattle.cursor.specs.Padded.{padded, padded-length, getD-padded-any, firsts, firsts-length, getD-firsts, firsts-padded}
-use Rattle.cursor.specs.Front.{Bytes}
+use Rattle.cursor.specs.Padded.{padded, firsts}
+use Rattle.cursor.specs.PaddedLaws.{padded-length, getD-padded-any, firsts-length, getD-firsts, firsts-padded}
+use Rattle.cursor.specs.Fields.{Bytes}
 use Rattle.cycle.specs.Cycle.{Cycle, cycle, noCycle, cycleOf}
 use Rattle.table.specs.Table.{Table, Decoded, decode, encode}
-use Rattle.table.specs.TableBytes.{decodes-says}
+use Rattle.table.specs.TableBytesLaws.{decodes-says}
 use Rattle.model.specs.Plan.{Instance, rowsAt, costs, IsPlan}
 use Rattle.model.specs.Good.{Good}
-use Rattle.model.specs.Within.{Within, within-good}
+use Rattle.model.specs.Within.{Within}
+use Rattle.model.specs.WithinLaws.{within-good}
 use Rattle.model.specs.Described.{Describes, planTable}
 use Rattle.model.specs.PlanTable.{describes-is, plan-table-length}
-use Rattle.checker.specs.Checked.{Verdict, accepted, refusal, numberOf, checkedBy, checked, checkNumber}
+use Rattle.checker.specs.Checked.{Verdict, accepted, refusal, verdictNumber, checkedBy, checked, checkNumber}
 use Rattle.checker.specs.Accepts.{accepts-described}
 use Rattle.checker.specs.Verdicts.{plan-read, refusal-number}
-use Rattle.draft.specs.Draft.{framesHeld, noDraft, loadsFrom, draftOf, startOf, start}
+use Rattle.draft.specs.Draft.{framesHeld, noDraft, loadsOf, draftOf, startOf, start}
 use Rattle.draft.specs.Kept.{Sound}
 use Rattle.draft.specs.MoveLaws.{load-there, load-behind, loads-length}
 use Rattle.draft.specs.declared.Draft.{Draft}
@@ -30,14 +32,14 @@ use Rattle.draft_moves.specs.WrittenLaws.{held-plan, write-zero, write-o
 
 -- the number, and the draft of a refusal
 by-check : (c : Cycle) (bytes : Decoded)
-    → (startOf c (checked c bytes) .refusal ≡ numberOf (checked c bytes))
-    × ((numberOf (checked c bytes) ≡ 0 → ⊥) → startOf c (checked c bytes) .draft ≡ noDraft)
+    → (startOf c (checked c bytes) .refusal ≡ verdictNumber (checked c bytes))
+    × ((verdictNumber (checked c bytes) ≡ 0 → ⊥) → startOf c (checked c bytes) .draft ≡ noDraft)
 unfolding checkedBy
 by-check (noCycle number) bytes = (refl, λ ne. refl)
 by-check (cycle tasks pairs g h jobs) bytes = go (checked (cycle tasks pairs g h jobs) bytes)
   where
-    go : (v : Verdict) → (startOf (cycle tasks pairs g h jobs) v .refusal ≡ numberOf v)
-        × ((numberOf v ≡ 0 → ⊥) → startOf (cycle tasks pairs g h jobs) v .draft ≡ noDraft)
+    go : (v : Verdict) → (startOf (cycle tasks pairs g h jobs) v .refusal ≡ verdictNumber v)
+        × ((verdictNumber v ≡ 0 → ⊥) → startOf (cycle tasks pairs g h jobs) v .draft ≡ noDraft)
     go (accepted f frames) = (refl, λ ne. absurd (ne refl))
     go (refusal number) = (refl, λ ne. refl)
 
@@ -53,8 +55,8 @@ module _ (x : Instance) (g : Good x) (f : ℕ) (frames : List ℕ) (v : IsPlan x
     sized = record { frames-are = padded-length 128 0 frames few; loads-are = loads-length (rowsAt x f) (costs x) frames (v .few-rows) };
     frames-are = λ y h. getD-padded-any 128 0 frames y;
     unused-jobs = λ y h. getD-padded-any 128 0 frames y ∙ List·getD-eq-default frames 0 {n = y} (omega (arith, v .all, h));
-    loads-are = λ r h. getD-padded-any 256 0 (loadsFrom (rowsAt x f) (costs x) frames (rowsAt x f) 0) r ∙ load-there (rowsAt x f) (costs x) frames r h;
-    unused-rows = λ r h. getD-padded-any 256 0 (loadsFrom (rowsAt x f) (costs x) frames (rowsAt x f) 0) r ∙ load-behind (rowsAt x f) (costs x) frames r h;
+    loads-are = λ r h. getD-padded-any 256 0 (loadsOf (rowsAt x f) (costs x) frames) r ∙ load-there (rowsAt x f) (costs x) frames r h;
+    unused-rows = λ r h. getD-padded-any 256 0 (loadsOf (rowsAt x f) (costs x) frames) r ∙ load-behind (rowsAt x f) (costs x) frames r h;
   }
 
   held : framesHeld x (draftOf x f frames) ≡ frames
@@ -73,7 +75,7 @@ module _ (request bytes : List ℕ) (are : Bytes bytes) where
     where
       go : (verdict : Verdict) → checked (cycleOf request) (decode bytes) ≡ verdict
           → StartedFrom request bytes (startOf (cycleOf request) (checked (cycleOf request) (decode bytes)) .draft)
-      go (refusal n) is = absurd (omega (arith, refusal-number request bytes n is .0, sym (ap numberOf is) ∙ z))
+      go (refusal n) is = absurd (omega (arith, refusal-number request bytes n is .0, sym (ap verdictNumber is) ∙ z))
       go (accepted f frames) is =
           let p = plan-read request bytes f frames is in
           let x = p .x in

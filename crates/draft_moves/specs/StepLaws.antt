@@ -2,7 +2,7 @@
 -- e is; and e is sound if d is, k lies in the window, the row has room and no pair is out of order. A lift goes from e to d, a put from d to e.
 use Prim.Native.Nat.{ℕ, _+_, _-_, _≤_, _<_}
 use mathlib.Core.Path.{_≡_, refl, sym, ap, subst, _∙_}
-use mathlib.Core.Bool.{Bool, true, false}
+use mathlib.Core.Bool.{Bool, true, false, cond}
 use mathlib.Core.Logic.{inl, inr, ⊎-elim}
 use mathlib.Core.List.{List}
 use native.Mathlib.Nat.{mod-lt}
@@ -12,7 +12,6 @@ use lib.Seq.{ext-getD, getD-set-same, getD-set-other}
 use lib.Dec.{eqb}
 use borrow.Author.Tests.{eq-eqb, eqb-true, eqb-false}
 use Rattle.arith.specs.Residue.{quotient-pos}
-use Rattle.cursor.specs.Choice.{pick}
 use Rattle.cursor.specs.ChoiceLaws.{lt-or-ge}
 use Rattle.model.specs.Plan.{Instance}
 use Rattle.model.specs.Good.{Good}
@@ -21,8 +20,8 @@ use Rattle.draft.specs.Draft.{lifted, frameOf, loadAt, rowCount, sumOf, rowIn, 
 use Rattle.draft.specs.Kept.{Sized, IsLifted, IsPlaced, LinkedBy, Sound}
 use Rattle.draft.specs.SumLaws.{placed-cost}
 use Rattle.draft.specs.declared.Draft.{Draft}
-use Rattle.draft_moves.specs.Exactly.{InWindow, RowOver, OutOfOrder, Touched, Lifted, Put}
-use Rattle.draft_moves.specs.SumsAre.{sum-theorem}
+use Rattle.draft_moves.specs.Exactly.{InItsWindow, RowOver, OutOfOrder, Touched, Lifted, Put}
+use Rattle.draft_moves.specs.SumsAre.{sum-means}
 
 -- the rows of a frame length that is plausible
 module _ (x : Instance) (g : Good x) (d : Draft) (s : Sound x d) where
@@ -62,14 +61,14 @@ module _ (x : Instance) (g : Good x) (d : Draft) (sized : Sized d) (y k : ℕ) (
       let ne : z ≡ y → ⊥ = λ q. p .down (ap (frameOf x d) q ∙ up .up) in
       (ne, record { known = p .known; down = λ q. p .down (sym (others z ne) ∙ q) })
 
-  sums : (r : ℕ) → sumOf x e r ≡ sumOf x d r + pick (eqb (rowIn x d k) r) (costAt x d y) 0
-  sums r = sum-theorem x g d sized .one-more e y k r up frame refl refl
+  sums : (r : ℕ) → sumOf x e r ≡ sumOf x d r + cond (eqb (rowIn x d k) r) (costAt x d y) 0
+  sums r = sum-means x g d sized .one-more e y k r up frame refl refl
 
-  loads : rowIn x d k < 256 → (r : ℕ) → loadAt x e r ≡ loadAt x d r + pick (eqb (rowIn x d k) r) (costAt x d y) 0
+  loads : rowIn x d k < 256 → (r : ℕ) → loadAt x e r ≡ loadAt x d r + cond (eqb (rowIn x d k) r) (costAt x d y) 0
   loads low r = go (eqb (rowIn x d k) r) refl
     where
       go : (b : Bool) → eqb (rowIn x d k) r ≡ b
-          → getD (set (d .loads) (rowIn x d k) (loadAt x d (rowIn x d k) + costAt x d y)) r 0 ≡ loadAt x d r + pick b (costAt x d y) 0
+          → getD (set (d .loads) (rowIn x d k) (loadAt x d (rowIn x d k) + costAt x d y)) r 0 ≡ loadAt x d r + cond b (costAt x d y) 0
       go true q =
           let is : rowIn x d k ≡ r = eqb-true _ _ q in
           ap (λ (i : ℕ). getD (set (d .loads) (rowIn x d k) (loadAt x d (rowIn x d k) + costAt x d y)) i 0) (sym is)
@@ -112,11 +111,11 @@ module _ (x : Instance) (g : Good x) (d : Draft) (sized : Sized d) (y k : ℕ) (
     put-loads = let here : eqb (rowIn x d k) (rowIn x d k) ≡ true = eq-eqb (rowIn x d k) (rowIn x d k) refl in rw here at (loads row-few (rowIn x d k))
 
     -- with the job
-    module _ (w : InWindow x d y k) (room : RowOver x d y k → ⊥) (order : OutOfOrder x d y k → ⊥) where
-      fits : (r : ℕ) → r < rowCount x d → sumOf x d r + pick (eqb (rowIn x d k) r) (costAt x d y) 0 ≤ d .f
+    module _ (w : InItsWindow x d y k) (room : RowOver x d y k → ⊥) (order : OutOfOrder x d y k → ⊥) where
+      fits : (r : ℕ) → r < rowCount x d → sumOf x d r + cond (eqb (rowIn x d k) r) (costAt x d y) 0 ≤ d .f
       fits r low = go (eqb (rowIn x d k) r) refl
         where
-          go : (b : Bool) → eqb (rowIn x d k) r ≡ b → sumOf x d r + pick b (costAt x d y) 0 ≤ d .f
+          go : (b : Bool) → eqb (rowIn x d k) r ≡ b → sumOf x d r + cond b (costAt x d y) 0 ≤ d .f
           go true q =
               let is : rowIn x d k ≡ r = eqb-true _ _ q in
               ⊎-elim (λ over. absurd (room (subst (λ (i : ℕ). d .f < sumOf x d i + costAt x d y) (sym is) over))) (λ le. le)
@@ -146,10 +145,10 @@ module _ (x : Instance) (g : Good x) (d : Draft) (sized : Sized d) (y k : ℕ) (
               let nb : b ≡ y → ⊥ = eqb-false _ _ q in
               omega (arith, others a na, others b nb, s .order u a b l (was-placed a na pa) (was-placed b nb pb))
 
-      windows : (z : ℕ) → IsPlaced x e z → InWindow x d z (frameOf x e z)
+      windows : (z : ℕ) → IsPlaced x e z → InItsWindow x d z (frameOf x e z)
       windows z p = go (eqb z y) refl
         where
-          go : (b : Bool) → eqb z y ≡ b → InWindow x d z (frameOf x e z)
+          go : (b : Bool) → eqb z y ≡ b → InItsWindow x d z (frameOf x e z)
           go true q =
               let is : z ≡ y = eqb-true _ _ q in
               let at-k : frameOf x e z ≡ k = ap (frameOf x e) is ∙ there in

@@ -8,15 +8,18 @@ use lib.ListN.{length, getD, set, length-set}
 use lib.Seq.{ext-getD, getD-set-same, getD-set-other}
 use lib.Dec.{eqb}
 use borrow.Author.Tests.{eq-eqb, ne-eqb, eqb-true, eqb-false}
-use Rattle.cursor.specs.Choice.{pick}
-use Rattle.cursor.specs.Padded.{firsts, firsts-length, getD-firsts}
+use Rattle.cursor.specs.Padded.{firsts}
+use Rattle.cursor.specs.PaddedLaws.{firsts-length, getD-firsts}
 use Rattle.search.specs.Placing.{row-sum}
 use Rattle.model.specs.Plan.{Instance, costs}
 use Rattle.model.specs.PlanLaws.{costs-length}
+use Rattle.model.specs.Good.{Good}
+use Rattle.model.specs.WithinLaws.{within-good}
 use Rattle.draft.specs.Draft.{lifted, isLifted, frameOf, framesHeld, rowCount}
 use Rattle.draft.specs.SumLaws.{placedSum, sum-by-job}
+use Rattle.draft.specs.Kept.{Sized}
 use Rattle.draft.specs.declared.Draft.{Draft}
-use Rattle.draft_moves.specs.Exactly.{SumTheorem}
+use Rattle.draft_moves.specs.Exactly.{SumMeans, SumTheorem}
 
 module _ (rows r : ℕ) where
   none : (cs ks : List ℕ) → ((y : ℕ) → y < length cs → getD ks y 0 ≡ lifted) → placedSum rows cs ks r ≡ 0
@@ -36,12 +39,12 @@ module _ (rows r : ℕ) where
       let down : isLifted k ≡ false = ne-eqb k lifted (h 0 (omega arith)) in
       rw (down, all cs ks (omega arith) (λ y l. h (suc y) (omega arith))) (go (eqb (k % rows) r))
     where
-      go : (b : Bool) → pick b c 0 + row-sum rows cs ks r ≡ cond b c 0 + row-sum rows cs ks r
+      go : (b : Bool) → cond b c 0 + row-sum rows cs ks r ≡ cond b c 0 + row-sum rows cs ks r
       go true = refl
       go false = refl
 
   one : (cs ks : List ℕ) (y k : ℕ) → y < length cs → length cs ≡ length ks → getD ks y 0 ≡ lifted → (k ≡ lifted → ⊥)
-      → placedSum rows cs (set ks y k) r ≡ placedSum rows cs ks r + pick (eqb (k % rows) r) (getD cs y 0) 0
+      → placedSum rows cs (set ks y k) r ≡ placedSum rows cs ks r + cond (eqb (k % rows) r) (getD cs y 0) 0
   unfolding placedSum
   one [] ks y k h l up down = absurd (omega arith)
   one (c ∷ cs) [] y k h l up down = absurd (omega arith)
@@ -79,8 +82,8 @@ module _ (x : Instance) (d : Draft) where
   same : length (costs x) ≡ length (framesHeld x d)
   same = counts ∙ sym (firsts-length 0 (d .frames) (length (x .jobs)))
 
-pub sum-theorem : SumTheorem
-sum-theorem x g d sized = record {
+pub sum-means : (x : Instance) → Good x → (d : Draft) → Sized d → SumMeans x d
+sum-means x g d sized = record {
   none = λ h r. sum-by-job x d r
       ∙ none (rowCount x d) r (costs x) (framesHeld x d) (λ y l. let low : y < length (x .jobs) = omega (arith, counts x d) in here x d y low ∙ h y low .up);
   all = λ h r. sum-by-job x d r
@@ -94,5 +97,8 @@ sum-theorem x g d sized = record {
       sum-by-job x e r
       ∙ ap₂ (λ (m : ℕ) (ks : List ℕ). placedSum m (costs x) ks r) rows held
       ∙ one (rowCount x d) r (costs x) (framesHeld x d) y k (omega (arith, up .known, counts x d)) (same x d) (here x d y (up .known) ∙ up .up) down
-      ∙ ap (λ (s : ℕ). s + pick (eqb (k % rowCount x d) r) (getD (costs x) y 0) 0) (sym (sum-by-job x d r));
+      ∙ ap (λ (s : ℕ). s + cond (eqb (k % rowCount x d) r) (getD (costs x) y 0) 0) (sym (sum-by-job x d r));
 }
+
+pub sum-theorem : SumTheorem
+sum-theorem request x w d sized = sum-means x (within-good request x w) d sized

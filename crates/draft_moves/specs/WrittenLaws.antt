@@ -7,7 +7,7 @@ use native.Mathlib.Omega.{arith}
 use lib.ListN.{length, getD, take, drop}
 use lib.Seq.{take-append-seam}
 use Rattle.cursor.specs.ChoiceLaws.{lt-or-ge}
-use Rattle.cursor.specs.Padded.{getD-firsts}
+use Rattle.cursor.specs.PaddedLaws.{getD-firsts}
 use Rattle.cursor.specs.declared.Written.{Written}
 use Rattle.cycle.specs.Cycle.{noCycle, cycleOf}
 use Rattle.cycle.specs.LimitLaws.{RequestNumber, request-number-own}
@@ -18,21 +18,22 @@ use Rattle.model.specs.Plan.{Instance, costs, IsPlan}
 use Rattle.model.specs.PlanLaws.{length-pos}
 use Rattle.model.specs.PlausibleLaws.{plausible-needed}
 use Rattle.model.specs.Good.{Good}
-use Rattle.model.specs.Within.{Within, within-good, within-limits, within-or-not}
+use Rattle.model.specs.Within.{Within}
+use Rattle.model.specs.WithinLaws.{within-good, within-limits, within-or-not}
 use Rattle.model.specs.Described.{Describes, planTable}
 use Rattle.model.specs.PlanTable.{plan-table-describes, plan-table-length}
-use Rattle.checker.specs.Checked.{accepted, checked, numberOf}
+use Rattle.checker.specs.Checked.{accepted, checked, verdictNumber}
 use Rattle.checker.specs.Accepts.{accepts-described}
 use Rattle.plan_writer.specs.Outcome.{Outcome, handed, refusal, outcomeAnswer, outcomeBuffer}
 use Rattle.plan_writer.specs.OutcomeLaws.{refused-answer, refused-buffer, handed-answer, handed-buffer, short-answer, short-buffer}
 use Rattle.draft.specs.Draft.{lifted, frameOf, framesHeld, rowCount, sumOf, write}
 use Rattle.draft.specs.Kept.{Sized, IsLifted, Sound}
 use Rattle.draft.specs.MoveLaws.{write-none}
-use Rattle.draft.specs.SoundLaws.{sound-theorem}
+use Rattle.draft.specs.SoundLaws.{sound-exactly}
 use Rattle.draft.specs.WriteLaws.{draft-is-plan}
 use Rattle.draft.specs.declared.Draft.{Draft}
 use Rattle.draft_moves.specs.Exactly.{AllPlaced, PlanHeld, PlanTheorem, sizeOf, writeAnswer, bufferAfter, WrittenOut, WriteTheorem}
-use Rattle.draft_moves.specs.SumsAre.{sum-theorem}
+use Rattle.draft_moves.specs.SumsAre.{sum-means}
 use Rattle.draft_moves.specs.Ways.{WriteWay, unsound-write, lifted-write, hands, none-up, write-way, frame-real}
 use Rattle.draft_moves.specs.ExactLaws.{for-request, of-request, above-numbers, not-zero, clash}
 
@@ -44,11 +45,11 @@ module _ (request : List ℕ) (x : Instance) (within : Within request x) (d : Dr
   here y h = getD-firsts 0 (d .frames) (length (x .jobs)) y h
 
   abbrev sums : AllPlaced x d → (r : ℕ) → sumOf x d r ≡ row-sum (rowCount x d) (costs x) (framesHeld x d) r
-  sums all r = sum-theorem x g d sized .all all r
+  sums all r = sum-means x g d sized .all all r
 
   pub plan-held : Sound x d → AllPlaced x d → PlanHeld x d
   plan-held s all = (
-    draft-is-plan x d (none-up request x within d all) (sound-theorem x g d .1 s),
+    draft-is-plan x d (none-up request x within d all) (sound-exactly x g d .1 s),
     λ r low. s .loads-are r low ∙ sums all r,
   )
 
@@ -135,7 +136,7 @@ module _ (request : List ℕ) (x : Instance) (within : Within request x) (d : Dr
         length-is = length-of answer-is ∙ size;
         encoded-length = size;
         accepts = reads;
-        check-answers = ap numberOf reads;
+        check-answers = ap verdictNumber reads;
       }
 
   -- a table is handed out: 11 or 0

@@ -1,17 +1,16 @@
 -- Laws of the whole search: it may begin with no job placed and no row loaded, and what it comes to is what is answered. Assumes nothing.
 use mathlib.Core.Path.{_≡_, sym, ap, subst, _∙_}
 use mathlib.Core.Bool.{Bool, true, false}
-use mathlib.Core.List.{List, [], _++_}
-use Prim.Native.Nat.{ℕ, _-_, _≤_}
+use mathlib.Core.List.{List, []}
+use Prim.Native.Nat.{ℕ, _≤_}
 use native.Mathlib.Omega.{arith}
-use lib.ListN.{length, take, drop, replicate, length-replicate, take-append-drop}
-use lib.Seq.{length-take-le}
-use Rattle.cursor.specs.Padded.{padded}
+use lib.ListN.{length, replicate, length-replicate}
+use Rattle.cursor.specs.ArrayLaws.{blank-behind}
 use Rattle.search.specs.Search.{Found, none}
 use Rattle.search.specs.Placing.{planWalk, Problem}
 use Rattle.searcher.specs.Arrays.{Placeable, problemOf, countsIn, jobsIn, problemIn}
 use Rattle.searcher.specs.declared.Given.{Given}
-use Rattle.searcher.proofs.AllLaws.{begins, drop-zeros}
+use Rattle.searcher.proofs.AllLaws.{begins}
 use Rattle.prune.specs.Arrays.{Packed, Marked}
 use Rattle.exact_searcher.proofs.HopelessLaws.{is-packed, none-placed}
 use Rattle.exact_searcher.specs.Arrays.{Searching, Decided, DecidedJob, foundAnswer}
@@ -48,15 +47,11 @@ module _ {given : Given} (p : Placeable given) (packed : List (List ℕ)) (same 
     d = subst (λ (q : Found). Decided q n (replicate 128 0) (replicate 256 0) 0 answer place load) same-found e
 
     pub yes-answered : answer ≡ true → _≡_ {A = FirstPlacing} (record { found = answer; frames = place }) (foundAnswer o)
-    unfolding foundAnswer padded
+    unfolding foundAnswer
     yes-answered q =
         let few : n ≤ 128 = packed-first .few in
-        let size : length (take n place) ≡ n = length-take-le n place (omega (arith, d .size, length-replicate {A = ℕ} 128 0, few)) in
-        let rest : drop n place ≡ replicate (128 - length (take n place)) 0 =
-        d .beyond ∙ drop-zeros 128 n ∙ ap (λ (k : ℕ). replicate (128 - k) 0) (sym size) in
-        let frames : take n place ++ replicate (128 - length (take n place)) 0 ≡ place =
-        ap (λ (l : List ℕ). take n place ++ l) (sym rest) ∙ take-append-drop n place in
-        rw (d .yes q, frames, q)
+        let room : n ≤ length place = omega (arith, d .size, length-replicate {A = ℕ} 128 0, few) in
+        rw (d .yes q, blank-behind 128 0 place n room (d .beyond), q)
 
     pub no-answered : answer ≡ false → _≡_ {A = FirstPlacing} (record { found = answer; frames = replicate 128 0 }) (foundAnswer o)
     unfolding foundAnswer

@@ -1,10 +1,9 @@
 -- Lists of calls: what the dispatcher answers to one, and the plain dispatcher beside it. 01, "What demand 3 compares".
-use mathlib.Core.Bool.{Bool}
+use mathlib.Core.Bool.{Bool, cond}
 use mathlib.Core.List.{List, [], _∷_}
 use Prim.Native.Nat.{ℕ, _+_, _%_}
 use lib.ListN.{length}
 use lib.Dec.{ltb, eqb}
-use Rattle.cursor.specs.Choice.{pick}
 use Rattle.request.specs.Request.{Reading, readable, unreadable, reading}
 use Rattle.table.specs.Table.{Entry, Table, decode, rowOf}
 use Rattle.table.specs.Answers.{rowGiven, entriesSaid}
@@ -74,7 +73,7 @@ plainTurn n s = record { answer = number n; after = s }
 -- "On a report whose bytes have the form of a request with none behind it, and whose task number is below the n in them, it answers no number, and v
 -- rises by one if the ticks exceed that task's C in them, stopping at 65,535. Any other report gives its number by the table below and changes nothing."
 unfoldable pub heard : Reading → ℕ → ℕ → Plain → Turn Plain
-heard (readable tasks pairs g) task ticks s = pick (ltb task (length tasks)) (plainTurn 0 (oneHeard (exceeds tasks task ticks) task s)) (plainTurn 16 s)
+heard (readable tasks pairs g) task ticks s = cond (ltb task (length tasks)) (plainTurn 0 (oneHeard (exceeds tasks task ticks) task s)) (plainTurn 16 s)
 heard (unreadable n) task ticks s = plainTurn n s
 
 -- "It never refuses a next-frame call of the list."
@@ -95,7 +94,7 @@ final step s (c ∷ cs) = final step (step s c .after) cs
 -- the entries of each frame that was answered with no number, from frame 0 on
 
 abbrev pub withFrame : Answer → List (List Entry) → List (List Entry)
-withFrame (frame r) rest = pick (eqb (r .refusal) 0) (entriesSaid r ∷ rest) rest
+withFrame (frame r) rest = cond (eqb (r .refusal) 0) (entriesSaid r ∷ rest) rest
 withFrame (number n) rest = rest
 
 unfoldable pub framesShown : List Answer → List (List Entry)

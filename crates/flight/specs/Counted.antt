@@ -1,14 +1,14 @@
 -- Each count is what the list of calls says, whatever bytes are taken for the table: a report raises its own task's count alone, next-frame none.
 use mathlib.Core.Path.{_≡_, refl, ap, _∙_}
-use mathlib.Core.Bool.{Bool, true, false}
+use mathlib.Core.Bool.{Bool, true, false, _&&_}
 use mathlib.Core.List.{List, [], _∷_}
 use Prim.Native.Nat.{ℕ, _+_, _≤_, _<_, min}
 use native.Mathlib.Omega.{arith}
 use lib.ListN.{length, getD}
 use lib.Dec.{ltb, eqb}
 use borrow.Author.Tests.{ltb-true, ltb-false}
-use Rattle.cursor.specs.Choice.{both, bit}
-use Rattle.cursor.specs.Padded.{getD-blanks}
+use Rattle.cursor.specs.Choice.{bit}
+use Rattle.cursor.specs.PaddedLaws.{getD-blanks}
 use Rattle.request.specs.Request.{Reading, readable, unreadable, reading}
 use Rattle.table.specs.Table.{decode}
 use Rattle.dispatcher.specs.Dispatch.{noOverruns, freshState, exceeds, reported}
@@ -29,12 +29,12 @@ module _ (i : ℕ) where
   Rises more before after = getD after i 0 ≡ min 65535 (getD before i 0 + more)
 
   -- no report, or not an accepted one above C
-  stays : (own : Bool) (counts : List ℕ) → getD counts i 0 ≤ 65535 → Rises (bit (both own false)) counts counts
+  stays : (own : Bool) (counts : List ℕ) → getD counts i 0 ≤ 65535 → Rises (bit (own && false)) counts counts
   stays true counts small = omega arith
   stays false counts small = omega arith
 
   report-rises : (r : Reading) (task ticks : ℕ) (s : State) → i < length (s .counts) → getD (s .counts) i 0 ≤ 65535
-      → Rises (bit (both (eqb task i) (overran r task ticks))) (s .counts) (reported r task ticks s .state .counts)
+      → Rises (bit (eqb task i && overran r task ticks)) (s .counts) (reported r task ticks s .state .counts)
   unfolding overran
   report-rises (unreadable n) task ticks s within small =
       rw (report-unreadable (unreadable n) task ticks s n refl) (stays (eqb task i) (s .counts) small)
@@ -47,7 +47,7 @@ module _ (i : ℕ) where
       over = exceeds tasks task ticks
 
       go : (b : Bool) → ltb task (length tasks) ≡ b
-          → Rises (bit (both (eqb task i) (both (ltb task (length tasks)) over))) (s .counts) (reported r task ticks s .state .counts)
+          → Rises (bit (eqb task i && (ltb task (length tasks) && over))) (s .counts) (reported r task ticks s .state .counts)
       go true q = rw (report-counted r task ticks s tasks pairs g refl (ltb-true task (length tasks) q), q) (raised-only over task (s .counts) i within small)
       go false q = rw (report-unknown r task ticks s tasks pairs g refl (ltb-false task (length tasks) q), q) (stays (eqb task i) (s .counts) small)
 

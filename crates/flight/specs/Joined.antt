@@ -3,9 +3,10 @@
 use Prim.Native.Nat.{ℕ}
 use mathlib.Core.Path.{_≡_}
 use mathlib.Core.List.{List}
-use Rattle.cursor.specs.Front.{Bytes}
+use Rattle.cursor.specs.Fields.{Bytes}
 use Rattle.table.specs.Table.{Table}
-use Rattle.table.specs.TableBytes.{SaysTable, says-decodes}
+use Rattle.table.specs.TableBytes.{SaysTable}
+use Rattle.table.specs.TableBytesLaws.{says-decodes}
 use Rattle.model.specs.Plan.{Instance}
 use Rattle.model.specs.Within.{Within}
 use Rattle.model.specs.Described.{Accepted}

@@ -16,10 +16,12 @@ use Rattle.search.specs.Placing.{row-sum}
 use Rattle.model.specs.Plan.{Instance, taskAt, pairAt, jobAt, slot, costs, frameAt, IsPlan}
 use Rattle.model.specs.Slots.{slotOf, slots}
 use Rattle.model.specs.PlanLaws.{costs-length, cost-at}
-use Rattle.model.specs.Good.{Good, PlaceOf}
+use Rattle.model.specs.Good.{Good}
+use Rattle.model.specs.GoodLaws.{PlaceOf}
 use Rattle.model.specs.Described.{Among, entryFor, Describes}
+use Rattle.model.specs.DescribedLaws.{stands-named}
 use Rattle.flight.specs.Calls.{height, plainFrame}
-use Rattle.flight.specs.Timing.{noEntry, servedAt, Served, KeepToC, start, finish, releasedIn, dueIn, late, Starts, StandsForSome, EndedBy}
+use Rattle.flight.specs.Timing.{noEntry, servedAt, Served, KeepToC, startTime, finish, releasedIn, dueIn, late, Starts, StandsForSome, EndedBy}
 use Rattle.flight.specs.Rows.{among-at, PlaceIn, place-in, rising-before, slotsTo, slotsTo-next, slotsTo-le, slots-served}
 use Rattle.flight.specs.Rows.{EntryLoad, slots-le-load, meant}
 use Rattle.flight.specs.Serving.{place-of-job, job-of-place, job-there, some-row, whole, height-is, row-is, frame-rising, its-place, its-frame}
@@ -35,24 +37,24 @@ slot-is x i = refl
 -- an entry starts no later than if all before it took their time in the row
 start-le : (x : Instance) (f : ℕ) (actual : ℕ → ℕ → ℕ) (m : ℕ) (es : List Entry)
     → ((p : ℕ) → p < length es → actual m p + x .g ≤ slotOf x (getD es p noEntry)) → (p : ℕ) → p ≤ length es
-    → start (x .g) f actual m p ≤ m * f + slotsTo x es p
-unfolding start
+    → startTime (x .g) f actual m p ≤ m * f + slotsTo x es p
+unfolding startTime
 start-le x f actual m es fits zero h = omega arith
 start-le x f actual m es fits (suc p) h = omega (arith, start-le x f actual m es fits p (omega arith), fits p h, slotsTo-next x es p h)
 
 -- what stands next starts when the silent ticks are over
-pub starts-next : (g f : ℕ) (actual : ℕ → ℕ → ℕ) (m p : ℕ) → start g f actual m (suc p) ≡ finish g f actual m p + g
-unfolding start
+pub starts-next : (g f : ℕ) (actual : ℕ → ℕ → ℕ) (m p : ℕ) → startTime g f actual m (suc p) ≡ finish g f actual m p + g
+unfolding startTime
 starts-next g f actual m p = refl
 
 -- nothing starts before its frame, and what stands later starts later
-pub frame-begins : (g f : ℕ) (actual : ℕ → ℕ → ℕ) (m p : ℕ) → m * f ≤ start g f actual m p
-unfolding start
+pub frame-begins : (g f : ℕ) (actual : ℕ → ℕ → ℕ) (m p : ℕ) → m * f ≤ startTime g f actual m p
+unfolding startTime
 frame-begins g f actual m zero = omega arith
 frame-begins g f actual m (suc p) = omega (arith, frame-begins g f actual m p)
 
-pub one-by-one : (g f : ℕ) (actual : ℕ → ℕ → ℕ) (m p q : ℕ) → p < q → finish g f actual m p ≤ start g f actual m q
-unfolding start
+pub one-by-one : (g f : ℕ) (actual : ℕ → ℕ → ℕ) (m p q : ℕ) → p < q → finish g f actual m p ≤ startTime g f actual m q
+unfolding startTime
 one-by-one g f actual m p zero h = absurd (omega arith)
 one-by-one g f actual m p (suc q) h =
     ⊎-elim (λ (e : p ≡ q). rw e (omega arith)) (λ (l : p < q). omega (arith, one-by-one g f actual m p q l))
@@ -61,7 +63,6 @@ one-by-one g f actual m p (suc q) h =
 module _ (x : Instance) (g : Good x) (t : Table) (frames : List ℕ) (v : IsPlan x (t .f) frames) (d : Describes x (t .f) frames t) where
   -- a row's entries take at most f
   row-fits : (r : ℕ) → r < height t → slots x (rowOf t r) ≤ t .f
-  unfolding entryFor
   row-fits r h =
       let all : slots x (rowOf t r) ≤ row-sum (height t) (costs x) frames r =
       slots-le-load x (λ y. jobAt x y .task) (height t) frames r 0 (rowOf t r) (costs x) (row-rises t r (d .form)) there in
@@ -77,8 +78,8 @@ module _ (x : Instance) (g : Good x) (t : Table) (frames : List ℕ) (v : IsPlan
             within = rw (costs-length x) (s .within);
             framed = rw (v .all) (s .within);
             in-row = sym (row-is x g t frames v d y) ∙ s .in-row;
-            its-task = ap (λ (z : Entry). z .task) (sym (s .is-entry));
-            its-cost = cost-at x y (s .within) ∙ ap (slotOf x) (sym (s .is-entry));
+            its-task = stands-named s .task-is;
+            its-cost = cost-at x y (s .within) ∙ ap (λ (i : ℕ). slot (x .g) (taskAt x i)) (stands-named s .task-is);
           }
 
   -- the frames flown, and the actual times
@@ -91,13 +92,13 @@ module _ (x : Instance) (g : Good x) (t : Table) (frames : List ℕ) (v : IsPlan
     served-less m flown = rw (is m flown) (slots-served x (ltb m (height t)) (rowOf t (m % height t)))
 
     -- so behind those served what is left of the row's time is left
-    pub ends-by-slots : (m : ℕ) → m < length fr → start (x .g) (t .f) actual m (length (getD fr m [])) ≤ m * t .f + slots x (rowOf t (m % height t))
+    pub ends-by-slots : (m : ℕ) → m < length fr → startTime (x .g) (t .f) actual m (length (getD fr m [])) ≤ m * t .f + slots x (rowOf t (m % height t))
     ends-by-slots m flown =
         let es : List Entry = getD fr m [] in
         omega (arith, start-le x (t .f) actual m es (in-slot m flown) (length es) (omega arith), slotsTo-le x es (length es), served-less m flown)
 
     -- even with its whole C, an entry ends in its frame with the silent ticks after it
-    pub room : (m p : ℕ) → Served fr m p → start (x .g) (t .f) actual m p + taskAt x (servedAt fr m p .task) .c + x .g ≤ (m + 1) * t .f
+    pub room : (m p : ℕ) → Served fr m p → startTime (x .g) (t .f) actual m p + taskAt x (servedAt fr m p .task) .c + x .g ≤ (m + 1) * t .f
     room m p s =
         let es : List Entry = getD fr m [] in
         omega (
@@ -131,13 +132,13 @@ module _ (x : Instance) (g : Good x) (t : Table) (frames : List ℕ) (v : IsPlan
           let c = ap (λ (z : ℕ). q * z) (whole x g t frames v d) in
           omega arith
 
-      pub after-release : releasedIn x q i j ≤ start (x .g) (t .f) actual m p
+      pub after-release : releasedIn x q i j ≤ startTime (x .g) (t .f) actual m p
       after-release =
           let y = started-place in
           omega (arith, ticks, v .window (y .place) (y .within) .not-early, job-there x g i j y .0, frame-begins (x .g) (t .f) actual m p)
 
       -- even with its whole C it ends by its deadline
-      pub leaves-time : start (x .g) (t .f) actual m p + taskAt x i .c ≤ dueIn x q i j
+      pub leaves-time : startTime (x .g) (t .f) actual m p + taskAt x i .c ≤ dueIn x q i j
       leaves-time =
           let its = meant (m / height t) i j q (servedAt fr m p) (s .stands) .task in
           let y = started-place in
@@ -203,12 +204,12 @@ module _ (x : Instance) (g : Good x) (t : Table) (frames : List ℕ) (v : IsPlan
       first-starts : Starts (height t) fr a j q first-frame (first-entry .place)
       first-starts = record { served-there = first-served; stands = rw (first-entry .is) (stands-then x g t frames v d a j first-place q) }
 
-      ended-in-earlier : first-frame < m → finish (x .g) (t .f) actual first-frame (first-entry .place) ≤ start (x .g) (t .f) actual m p
+      ended-in-earlier : first-frame < m → finish (x .g) (t .f) actual first-frame (first-entry .place) ≤ startTime (x .g) (t .f) actual m p
       ended-in-earlier l =
           let w : (first-frame + 1) * t .f ≤ m * t .f = mul-le-mul-right (t .f) (let n : first-frame + 1 ≤ m = omega arith in n) in
           omega (arith, room first-frame (first-entry .place) first-served, keep first-frame (first-entry .place) first-served, frame-begins (x .g) (t .f) actual m p)
 
-      ended-in-same : first-frame ≡ m → finish (x .g) (t .f) actual first-frame (first-entry .place) ≤ start (x .g) (t .f) actual m p
+      ended-in-same : first-frame ≡ m → finish (x .g) (t .f) actual first-frame (first-entry .place) ≤ startTime (x .g) (t .f) actual m p
       ended-in-same e =
           let of-a : servedAt fr first-frame (first-entry .place) .task ≡ a =
           meant (first-frame / height t) a j q (servedAt fr first-frame (first-entry .place)) (first-starts .stands) .task in
@@ -219,7 +220,7 @@ module _ (x : Instance) (g : Good x) (t : Table) (frames : List ℕ) (v : IsPlan
           rising-before 0 (getD fr m []) (first-entry .place) p rises (rw e at (first-entry .filled)) (s .served-there .place-filled) lower in
           rw e (one-by-one (x .g) (t .f) actual m (first-entry .place) p before)
 
-      pub ended : EndedBy (height t) fr (finish (x .g) (t .f) actual) a j q (start (x .g) (t .f) actual m p)
+      pub ended : EndedBy (height t) fr (finish (x .g) (t .f) actual) a j q (startTime (x .g) (t .f) actual m p)
       ended = record {
         m = first-frame;
         p = first-entry .place;

@@ -1,6 +1,6 @@
 -- The dispatcher is the plain one: its state is that of m and v, turn by turn, and so over every list of calls.
 use mathlib.Core.Path.{_≡_, refl, ap, _∙_}
-use mathlib.Core.Bool.{Bool, true, false}
+use mathlib.Core.Bool.{Bool, true, false, cond}
 use mathlib.Core.List.{List, [], _∷_}
 use Prim.Native.Nat.{ℕ, zero, suc, _+_, _<_}
 use native.Mathlib.Nat.{mod-lt}
@@ -8,7 +8,6 @@ use native.Mathlib.Omega.{arith}
 use lib.ListN.{length, getD}
 use lib.Dec.{ltb}
 use borrow.Author.Tests.{ltb-true, ltb-false}
-use Rattle.cursor.specs.Choice.{pick}
 use Rattle.request.specs.Request.{Reading, readable, unreadable, reading}
 use Rattle.table.specs.Table.{Entry, Table, table, decode}
 use Rattle.table.specs.Answers.{rowGiven, entriesSaid}
@@ -39,7 +38,7 @@ report-same F (readable tasks pairs g) i ticks s = go (ltb i (length tasks)) ref
 
     go : (b : Bool) → ltb i (length tasks) ≡ b
         → reportTurn (reported r i ticks (stateFor F s))
-        ≡ turnOf F (pick (ltb i (length tasks)) (plainTurn 0 (oneHeard (exceeds tasks i ticks) i s)) (plainTurn 16 s))
+        ≡ turnOf F (cond (ltb i (length tasks)) (plainTurn 0 (oneHeard (exceeds tasks i ticks) i s)) (plainTurn 16 s))
     go true q = rw (report-counted r i ticks (stateFor F s) tasks pairs g refl (ltb-true i (length tasks) q), q)
     go false q = rw (report-unknown r i ticks (stateFor F s) tasks pairs g refl (ltb-false i (length tasks) q), q)
 
@@ -102,7 +101,7 @@ unfolding heard
 heard-still (unreadable n) i ticks s = record { same-m = refl; no-frame = λ l. refl }
 heard-still (readable tasks pairs g) i ticks s = go (ltb i (length tasks))
   where
-    go : (b : Bool) → Still s (pick b (plainTurn 0 (oneHeard (exceeds tasks i ticks) i s)) (plainTurn 16 s))
+    go : (b : Bool) → Still s (cond b (plainTurn 0 (oneHeard (exceeds tasks i ticks) i s)) (plainTurn 16 s))
     go true = record { same-m = refl; no-frame = λ l. refl }
     go false = record { same-m = refl; no-frame = λ l. refl }
 

@@ -19,9 +19,11 @@ use Rattle.table.specs.AnswerLaws.{entries-given}
 use Rattle.model.specs.Plan.{Instance, taskAt, jobAt, rowsAt, frameAt, IsPlan}
 use Rattle.model.specs.PlanLaws.{length-pos}
 use Rattle.model.specs.Disjoint.{row-and-cycle}
-use Rattle.model.specs.Good.{Good, PlaceOf, job-facts, same-place, place-of}
+use Rattle.model.specs.Good.{Good}
+use Rattle.model.specs.GoodLaws.{PlaceOf, job-facts, same-place, place-of}
 use Rattle.model.specs.RowLaws.{frame-small}
 use Rattle.model.specs.Described.{Among, rowFor, entryFor, StandsIn, Describes}
+use Rattle.model.specs.DescribedLaws.{row-of-frame, entry-names, entry-carried, stands-named}
 use Rattle.dispatcher.specs.FrameLaws.{served-rises}
 use Rattle.flight.specs.Calls.{height, plainFrame}
 use Rattle.flight.specs.Timing.{late, standsFor, runsIn, runsFrom}
@@ -76,12 +78,10 @@ module _ (x : Instance) (g : Good x) (t : Table) (frames : List ℕ) (v : IsPlan
 
   -- the row and the carry of the job at place y
   pub row-is : (y : ℕ) → rowFor x (t .f) frames y ≡ frameAt frames y % height t
-  unfolding rowFor
-  row-is y = rw height-is
+  row-is y = row-of-frame x (t .f) frames y ∙ rw height-is
 
   late-is : (y : ℕ) → y < length (x .jobs) → late (entryFor x (t .f) frames y) ≡ frameAt frames y / height t
-  unfolding entryFor
-  late-is y h = rw height-is (carry-is (height t) (frameAt frames y) some-row (rw height-is at (frame-small x g (t .f) frames v y h)))
+  late-is y h = rw (entry-carried x (t .f) frames y, height-is) (carry-is (height t) (frameAt frames y) some-row (rw height-is at (frame-small x g (t .f) frames v y h)))
 
   pub frame-rising : (m : ℕ) → RisingFrom 0 (plainFrame t m)
   frame-rising m = served-rises (ltb m (height t)) (rowOf t (m % height t)) (row-rises t (m % height t) (d .form))
@@ -99,14 +99,13 @@ module _ (x : Instance) (g : Good x) (t : Table) (frames : List ℕ) (v : IsPlan
     means-it = meant (m / height t) i j q e stands
 
     pub its-place : PlaceOf x i j
-    unfolding entryFor
     its-place =
         let (y, s) = frame-planned m e there in
         record {
           place = y;
           within = s .within;
-          task = ap (λ (z : Entry). z .task) (sym (s .is-entry)) ∙ means-it .task;
-          number = ap (λ (z : Entry). z .number) (sym (s .is-entry)) ∙ means-it .number;
+          task = stands-named s .task-is ∙ means-it .task;
+          number = stands-named s .number-is ∙ means-it .number;
         }
 
     pub its-frame : m ≡ frameAt frames (its-place .place) + q * height t
@@ -145,20 +144,24 @@ module _ (x : Instance) (g : Good x) (t : Table) (frames : List ℕ) (v : IsPlan
     entryThen = entryFor x (t .f) frames (w .place)
 
     pub served-then : Among entryThen (plainFrame t frameThen)
-    unfolding entryFor
     served-then =
         let row : ℕ = frameAt frames (w .place) % height t in
         let there : Among entryThen (rowOf t row) = subst (λ (r : ℕ). Among entryThen (rowOf t r)) (row-is (w .place)) (d .each (w .place) (w .within)) in
         rw (its-row-and-cycle .0) (among-served (ltb frameThen (height t)) entryThen (rowOf t row) there not-yet)
       where
-        not-yet : ltb frameThen (height t) ≡ true → leb (rowsAt x (t .f)) (frameAt frames (w .place)) ≡ false
-        not-yet e = let before : frameThen < height t = ltb-true _ _ e in rw height-is (lt-leb (height t) (frameAt frames (w .place)) (omega arith))
+        not-yet : ltb frameThen (height t) ≡ true → entryThen .carried ≡ false
+        not-yet e =
+            let before : frameThen < height t = ltb-true _ _ e in
+            rw (entry-carried x (t .f) frames (w .place), height-is) (lt-leb (height t) (frameAt frames (w .place)) (omega arith))
 
     pub stands-then : standsFor (frameThen / height t) i j q entryThen ≡ true
-    unfolding entryFor
     stands-then =
-        means (frameThen / height t) i j q entryThen
-        (record { task = w .task; number = w .number; cycle = omega (arith, its-row-and-cycle .1, late-is (w .place) (w .within)) })
+        let named = entry-names x (t .f) frames (w .place) in
+        means (frameThen / height t) i j q entryThen (record {
+          task = sym (named .task-is) ∙ w .task;
+          number = sym (named .number-is) ∙ w .number;
+          cycle = omega (arith, its-row-and-cycle .1, late-is (w .place) (w .within));
+        })
 
     pub served-when : (m : ℕ) (e : Entry) → Among e (plainFrame t m) → standsFor (m / height t) i j q e ≡ true → m ≡ frameThen
     served-when m e there stands =

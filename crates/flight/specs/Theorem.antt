@@ -7,13 +7,15 @@ use native.Mathlib.Omega.{arith}
 use lib.ListN.{length, getD}
 use Rattle.table.specs.Table.{Entry, Table, table, decode, rowOf}
 use Rattle.model.specs.Plan.{Instance, frameAt, IsPlan}
-use Rattle.model.specs.Good.{Good, PlaceOf}
+use Rattle.model.specs.Good.{Good}
+use Rattle.model.specs.GoodLaws.{PlaceOf}
 use Rattle.model.specs.Slots.{slots}
-use Rattle.model.specs.Within.{Within, within-good}
+use Rattle.model.specs.Within.{Within}
+use Rattle.model.specs.WithinLaws.{within-good}
 use Rattle.model.specs.Described.{Describes, Accepted}
 use Rattle.dispatcher.specs.declared.State.{State}
 use Rattle.flight.specs.Calls.{Call, begin, height, plainFrame, framesShown}
-use Rattle.flight.specs.Timing.{KeepToC, start, timesRun}
+use Rattle.flight.specs.Timing.{KeepToC, startTime, timesRun}
 use Rattle.flight.specs.Flight.{framesFlown, plainAfter, Flight}
 use Rattle.flight.specs.Same.{all-answers, final-state, framesFrom, framesFrom-length, framesFrom-at, asked, m-after, frames-served}
 use Rattle.flight.specs.Serving.{place-of-job, job-there, some-row, some-length, whole, frame-read-off, runs-from}
@@ -88,7 +90,7 @@ module _ (requestBytes tableBytes : List ℕ) (x : Instance) (t : Table) (within
 
   -- and behind the entries served in a frame what is left of its row's time is left
   pub time-left : (m : ℕ) → m < length (framesFlown tableBytes calls)
-      → start (x .g) (t .f) actual m (length (getD (framesFlown tableBytes calls) m [])) ≤ m * t .f + slots x (rowOf t (m % height t))
+      → startTime (x .g) (t .f) actual m (length (getD (framesFlown tableBytes calls) m [])) ≤ m * t .f + slots x (rowOf t (m % height t))
   time-left =
       ends-by-slots x good t (a .frames) own-plan own-table actual (framesFlown tableBytes calls)
       (frame-is x good tableBytes t says (a .frames) own-plan own-table calls) keep

@@ -1,12 +1,12 @@
 -- When a served entry starts and ends, which job of which cycle it stands for, and how often a job has run. 01, "Dispatching".
 -- Frames are lists of the entries served in them, frame 0 first.
 use mathlib.Core.Path.{_≡_}
-use mathlib.Core.Bool.{Bool, true, false}
+use mathlib.Core.Bool.{Bool, true, false, _&&_}
 use mathlib.Core.List.{List, [], _∷_}
 use Prim.Native.Nat.{ℕ, zero, suc, _+_, _*_, _/_, _≤_, _<_}
 use lib.ListN.{length, getD}
 use lib.Dec.{eqb}
-use Rattle.cursor.specs.Choice.{both, bit}
+use Rattle.cursor.specs.Choice.{bit}
 use Rattle.cycle.specs.Cycle.{jobOf}
 use Rattle.cycle.specs.Planned.{IsJob}
 use Rattle.table.specs.Table.{Entry}
@@ -28,13 +28,13 @@ pub record Served (frames : List (List Entry)) (m p : ℕ) : Type 0 where
 abbrev pub KeepToC : Instance → List (List Entry) → (ℕ → ℕ → ℕ) → Type 0
 KeepToC x frames actual = (m p : ℕ) → Served frames m p → actual m p ≤ taskAt x (servedAt frames m p .task) .c
 
--- "In frame m (from 0) the first entry served starts at m·f", and "each later entry of a frame start[s] g ticks after the one before ended"
-unfoldable pub start : ℕ → ℕ → (ℕ → ℕ → ℕ) → ℕ → ℕ → ℕ
-start g f actual m zero = m * f
-start g f actual m (suc p) = start g f actual m p + actual m p + g
+-- "In frame m (from 0) the first entry served starts at m·f", and "each later entry of a frame startTime[s] g ticks after the one before ended"
+unfoldable pub startTime : ℕ → ℕ → (ℕ → ℕ → ℕ) → ℕ → ℕ → ℕ
+startTime g f actual m zero = m * f
+startTime g f actual m (suc p) = startTime g f actual m p + actual m p + g
 
 abbrev pub finish : ℕ → ℕ → (ℕ → ℕ → ℕ) → ℕ → ℕ → ℕ
-finish g f actual m p = start g f actual m p + actual m p
+finish g f actual m p = startTime g f actual m p + actual m p
 
 -- Job j of task i, of cycle q
 
@@ -53,7 +53,7 @@ late e = bit (e .carried)
 -- "An entry of frame m in cycle q = m div F stands for its job of cycle q, or of cycle q − 1 if carried": here `now` is m div F, and the entry
 -- stands for job j of task i of cycle q. A carried entry of cycle 0 would stand for none.
 abbrev pub standsFor : ℕ → ℕ → ℕ → ℕ → Entry → Bool
-standsFor now i j q e = both (eqb (e .task) i) (both (eqb (e .number) j) (eqb (q + late e) now))
+standsFor now i j q e = eqb (e .task) i && (eqb (e .number) j && eqb (q + late e) now)
 
 -- "A job of a cycle starts with a served entry that stands for it": with that at place p of frame m
 pub record Starts (F : ℕ) (frames : List (List Entry)) (i j q m p : ℕ) : Type 0 where

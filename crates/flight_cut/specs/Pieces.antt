@@ -4,10 +4,9 @@ use Prim.Native.Nat.{ℕ, _+_, _*_, _≤_, _<_}
 use mathlib.Core.Path.{_≡_}
 use mathlib.Core.List.{List}
 use lib.ListN.{length}
-use Rattle.cursor.specs.Front.{Bytes}
+use Rattle.cursor.specs.Fields.{Bytes}
 use Rattle.request.specs.Request.{reading}
-use Rattle.request_writer.specs.Written.{requestAnswer}
-use Rattle.request_writer.specs.FileLaws.{fileOf}
+use Rattle.request.specs.Written.{requestAnswer, fileOf}
 use Rattle.cycle.specs.Planned.{IsJob}
 use Rattle.table.specs.Table.{Table}
 use Rattle.table.specs.TableBytes.{SaysTable}

@@ -3,7 +3,7 @@
 use Prim.Native.Nat.{ℕ, zero, suc, _+_, _-_, _/_, _≤_, _<_, _∣_}
 use mathlib.Core.Path.{_≡_, refl, sym, ap, subst, _∙_}
 use mathlib.Core.Logic.{_⊎_, inl, inr}
-use mathlib.Core.List.{List}
+use mathlib.Core.List.{List, flatMap}
 use native.Mathlib.Nat.{eq-or-lt-of-le, dvd-antisymm}
 use native.Mathlib.Omega.{arith}
 use lib.ListN.{length, getD}
@@ -11,9 +11,9 @@ use borrow.Author.Tests.{le-ltb}
 use Rattle.request.specs.Request.{readable, reading, noTask, periodOf}
 use Rattle.request.specs.declared.Task.{Task}
 use Rattle.request.specs.declared.Pair.{Pair}
-use Rattle.cycle.specs.Cycle.{hyperperiod, jobsIn, jobsOf, allJobs, planned, cycle, cycleOf}
+use Rattle.cycle.specs.Cycle.{hyperperiod, jobsIn, allJobs, planned, cycle, cycleOf}
 use Rattle.cycle.specs.LimitLaws.{hyperperiod-divides, hyperperiod-dvd}
-use Rattle.cycle.specs.PlannedLaws.{Periodic, jobs-then-length}
+use Rattle.cycle.specs.PlannedLaws.{Periodic, jobsOf, all-jobs-are, jobs-then-length}
 use Rattle.cut.specs.Exactly.{CutTasks}
 use Rattle.cut.specs.Valid.{around, rest-piece}
 
@@ -24,11 +24,11 @@ module _ (h : ℕ) where
   count tasks k a = length (jobsOf tasks h k a)
 
   count-more : (tasks : List Task) (k a : ℕ) → count tasks (suc k) a ≡ h / periodOf tasks a + count tasks k (a + 1)
-  unfolding jobsOf jobsIn
+  unfolding jobsOf jobsIn flatMap
   count-more tasks k a = jobs-then-length tasks a (h / periodOf tasks a) 0 (jobsOf tasks h k (a + 1))
 
   count-none : (tasks : List Task) (a : ℕ) → count tasks 0 a ≡ 0
-  unfolding jobsOf
+  unfolding jobsOf flatMap
   count-none tasks a = refl
 
   count-split : (tasks : List Task) (j k a : ℕ) → count tasks (j + k) a ≡ count tasks j a + count tasks k (a + j)
@@ -153,7 +153,6 @@ module _ (i u : ℕ) (old tasks : List Task) (are : CutTasks i u old tasks) (kno
   -- and the jobs are not fewer
 
   pub more-jobs : (h : ℕ) → length (allJobs old h) ≤ length (allJobs tasks h)
-  unfolding allJobs
   more-jobs h =
       let b = length old - 1 - i in
       let n : length old ≡ i + suc b = omega arith in
@@ -162,8 +161,8 @@ module _ (i u : ℕ) (old tasks : List Task) (are : CutTasks i u old tasks) (kno
       = count-same h tasks old 0 i 0 (λ m l r. let e : m + 0 ≡ m = omega arith in rw e (before-period m (omega arith))) in
       let back : count h tasks b (i + 1 + 1) ≡ count h old b (i + 1)
       = count-same h tasks old 1 b (i + 1) (λ m l r. later-period m (omega arith)) in
-      let new : length (allJobs tasks h) ≡ count h tasks (i + suc (suc b)) 0 = ap (λ (k : ℕ). count h tasks k 0) n′ in
-      let was : length (allJobs old h) ≡ count h old (i + suc b) 0 = ap (λ (k : ℕ). count h old k 0) n in
+      let new : length (allJobs tasks h) ≡ count h tasks (i + suc (suc b)) 0 = ap length (all-jobs-are tasks h) ∙ ap (λ (k : ℕ). count h tasks k 0) n′ in
+      let was : length (allJobs old h) ≡ count h old (i + suc b) 0 = ap length (all-jobs-are old h) ∙ ap (λ (k : ℕ). count h old k 0) n in
       let z : 0 + i ≡ i = omega arith in
       let split : count h tasks (i + suc (suc b)) 0 ≡ count h tasks i 0 + count h tasks (suc (suc b)) i = rw z at (count-split h tasks i (suc (suc b)) 0) in
       let split′ : count h old (i + suc b) 0 ≡ count h old i 0 + count h old (suc b) i = rw z at (count-split h old i (suc b) 0) in

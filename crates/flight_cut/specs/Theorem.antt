@@ -7,17 +7,18 @@ use mathlib.Core.List.{List}
 use native.Mathlib.Omega.{arith}
 use lib.ListN.{length, getD}
 use Rattle.request.specs.Request.{readable, reading, noTask, noPair}
-use Rattle.request.specs.Readable.{readable-kept}
+use Rattle.request.specs.ReadableLaws.{readable-kept}
 use Rattle.request.specs.declared.Task.{Task}
 use Rattle.request.specs.declared.Pair.{Pair}
-use Rattle.request_writer.specs.Written.{requestAnswer}
+use Rattle.request.specs.Written.{requestAnswer}
 use Rattle.cycle.specs.Cycle.{hyperperiod, jobsIn, jobOf, allJobs, planned}
 use Rattle.cycle.specs.Planned.{IsJob}
 use Rattle.cycle.specs.PlannedLaws.{planned-length}
 use Rattle.cycle.specs.LimitLaws.{WithinLimits, readable-periodic, cycle-reading}
 use Rattle.table.specs.Table.{Table}
 use Rattle.model.specs.Plan.{Instance, pairAt}
-use Rattle.model.specs.Within.{Within, within-limits}
+use Rattle.model.specs.Within.{Within}
+use Rattle.model.specs.WithinLaws.{within-limits}
 use Rattle.planner.specs.HandedBytes.{handedBytes}
 use Rattle.flight.specs.Calls.{Call, height}
 use Rattle.flight.specs.Timing.{Served, KeepToC, releasedIn, dueIn, EndedBy}

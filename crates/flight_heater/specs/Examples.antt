@@ -2,26 +2,25 @@
 use Prim.Native.Nat.{ℕ}
 use mathlib.Core.Path.{_≡_, refl}
 use mathlib.Core.Bool.{Bool, true, false}
-use mathlib.Core.List.{List, [], _∷_, map}
+use mathlib.Core.List.{List, [], _∷_, map, flatMap}
 use Rattle.cursor.specs.Parsed.{records}
 use Rattle.cursor.specs.Fields.{byteOf, wordOf}
 use Rattle.cursor.specs.Padded.{padded}
 use Rattle.arith.specs.Gcd.{gcdOf, gcdSteps}
 use Rattle.arith.specs.Lcm.{lcmOf}
 use Rattle.request.specs.Request.{taskRule, judgedTask, taskOf, tasksOf, pairRule, judgedPair, pairOf, pairsOf, silentOf, reading}
-use Rattle.cycle.specs.Cycle.{lcmWith, hyperperiod, jobsIn, jobOf, jobsFrom, jobsOf, allJobs, before, insert, inOrder, planned, cycleOf}
+use Rattle.cycle.specs.Cycle.{lcmWith, hyperperiod, jobsIn, jobOf, allJobs, before, insert, inOrder, planned, cycleOf}
 use Rattle.table.specs.Table.{jobByte, entryOf, entryFrom, entriesFrom, rowFrom, sizesFrom, heightFits, rowsFrom, decode}
-use Rattle.table.specs.Answers.{rowGiven, entriesAt}
+use Rattle.table.specs.Answers.{rowGiven}
 use Rattle.search.specs.Placing.{row-sum}
 use Rattle.model.specs.Plan.{slot, costOf, costs}
 use Rattle.model.specs.Plausible.{commonRule, phaseRule, frameRule, frameRules, plausibleBy}
 use Rattle.model.specs.Named.{isJob}
-use Rattle.plan_rules.specs.Every as every
 use Rattle.plan_rules.specs.Rules as rules
 use Rattle.checker.specs.Checked as checker
 use Rattle.dispatcher.specs.Dispatch.{uncarried, moved, nextFrame}
-use Rattle.heater_link.specs.Exchange.{serves, isPair, exchange}
-use Rattle.heater_link.specs.Calls.{Ask, answersFrom, answersGiven}
+use Rattle.heater_link.specs.Exchange.{isPair, exchange}
+use Rattle.heater_link.specs.Calls.{Ask, exchangesFrom, answersGiven}
 use Rattle.heater_link.specs.declared.Losses.{Losses}
 use Rattle.heater_link.specs.declared.Exchange.{Exchange}
 use Rattle.flight_heater.specs.Flown.{askFor, asksOf}
@@ -88,13 +87,12 @@ numbers-seen =
     numbered 30 ∷ numbered 30 ∷ saw 2 true true ∷ numbered 14 ∷ numbered 1 ∷ numbered 12 ∷ saw 2 true true ∷ saw 1 false false ∷ numbered 15 ∷ []
 
 played : (seen (asksOf heater heater-table 0 1 in-turn) ≡ in-turn-seen) × (seen (asksOf late late-table 0 1 around) ≡ around-seen) × (seen numbers ≡ numbers-seen)
-unfolding answersFrom exchange isPair serves nextFrame uncarried moved rowGiven entriesAt padded
+unfolding exchangesFrom exchange isPair nextFrame uncarried moved rowGiven padded
     cycleOf reading tasksOf taskOf judgedTask taskRule pairsOf pairOf judgedPair pairRule silentOf records byteOf wordOf
-    planned inOrder insert before allJobs jobsOf jobsFrom jobOf jobsIn hyperperiod lcmWith lcmOf gcdOf gcdSteps
+    planned inOrder insert before allJobs flatMap jobOf jobsIn hyperperiod lcmWith lcmOf gcdOf gcdSteps
     decode rowsFrom heightFits sizesFrom rowFrom entriesFrom entryFrom entryOf jobByte
     plausibleBy frameRules frameRule phaseRule commonRule slot costs costOf row-sum isJob
     checker.checkedBy checker.judgedBy checker.planOf rules.rulesRight rules.heightRight rules.orderRight rules.capacityRight rules.windowsRight checker.entriesRight
     rules.capacityKept checker.rowsKept checker.rowKept checker.entryKept rules.pairKept rules.oneKept rules.otherKept rules.windowKept
-    checker.isThere rules.inWindow checker.isPlaced checker.framesIn checker.frameIn checker.frameFor checker.placeIn checker.placeInRow
-    every.someFrom every.allFrom
+    checker.isThere rules.inWindow checker.isPlaced checker.framesIn checker.frameIn checker.frameFor checker.positionIn checker.positionInRow
 played = (refl, refl, refl)

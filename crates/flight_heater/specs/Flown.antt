@@ -3,7 +3,7 @@
 use Prim.Native.Nat.{ℕ}
 use mathlib.Core.Path.{_≡_}
 use mathlib.Core.List.{List, map}
-use Rattle.cursor.specs.Front.{Bytes}
+use Rattle.cursor.specs.Fields.{Bytes}
 use Rattle.table.specs.Table.{Table}
 use Rattle.table.specs.TableBytes.{SaysTable}
 use Rattle.model.specs.Plan.{Instance}

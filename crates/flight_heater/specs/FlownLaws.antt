@@ -6,9 +6,10 @@ use mathlib.Core.List.{List, [], _∷_, map}
 use native.Mathlib.Nat.{mod-lt}
 use native.Mathlib.Omega.{arith}
 use lib.ListN.{length}
-use Rattle.cursor.specs.Front.{Bytes}
+use Rattle.cursor.specs.Fields.{Bytes}
 use Rattle.table.specs.Table.{Table, decode}
-use Rattle.table.specs.TableBytes.{SaysTable, says-decodes}
+use Rattle.table.specs.TableBytes.{SaysTable}
+use Rattle.table.specs.TableBytesLaws.{says-decodes}
 use Rattle.model.specs.Plan.{Instance}
 use Rattle.model.specs.Within.{Within}
 use Rattle.model.specs.Described.{Accepted}
@@ -23,7 +24,7 @@ use Rattle.flight.specs.Theorem.{flight}
 use Rattle.heater_link.specs.Exchange.{freshLink}
 use Rattle.heater_link.specs.Exactly.{IsPair, rowAnswered, ExchangeExact}
 use Rattle.heater_link.specs.ExactlyLaws.{link-exact}
-use Rattle.heater_link.specs.Calls.{exchangeOf, answersFrom, linkFrom}
+use Rattle.heater_link.specs.Calls.{exchangeOf, exchangesFrom, linkFrom}
 use Rattle.heater_link.specs.declared.Link.{Link}
 use Rattle.heater_link.specs.declared.Losses.{Losses}
 use Rattle.heater_link.specs.declared.Exchange.{Exchange}
@@ -60,9 +61,9 @@ module _ (request bytes : List ℕ) (are : Bytes bytes) (x : Instance) (within :
         ∙ rw state (moved-at F m v some-rows)
 
   same-answers : (losses : List Losses) (s : Link) (m : ℕ) (v : List ℕ) → s .state ≡ stateAt F m v
-      → map (λ (r : Exchange). flight.frame (rowAnswered r)) (answersFrom s (asksOf request bytes a b losses))
+      → map (λ (r : Exchange). flight.frame (rowAnswered r)) (exchangesFrom s (asksOf request bytes a b losses))
       ≡ answers (dispatch bytes) (s .state) (framesAsked request bytes a b losses)
-  unfolding answersFrom answers dispatch
+  unfolding exchangesFrom answers dispatch
   same-answers [] s m v e = refl
   same-answers (l ∷ losses) s m v e =
       let head = ap flight.frame (exactly l s m v e .next-frames (no-refusal l s m v e)) in

@@ -2,13 +2,14 @@
 -- would see them.
 use mathlib.Core.Path.{_≡_}
 use mathlib.Core.Bool.{Bool, true, false}
-use mathlib.Core.List.{List, [], _∷_, _++_}
-use Prim.Native.Nat.{ℕ, zero, suc, _+_, _*_, _<_, min}
+use mathlib.Core.List.{List, [], _∷_, _++_, map}
+use Prim.Native.Nat.{ℕ, _+_, _*_, _<_, min}
 use lib.IntN.{ℤ, pos, negsuc}
 use lib.ListN.{length, getD, take, drop}
 use lib.Dec.{leb}
 use Rattle.cursor.specs.Choice.{keep}
-use Rattle.cursor.specs.Front.{Bytes}
+use Rattle.cursor.specs.Fields.{Bytes}
+use Rattle.cursor.specs.Range.{range}
 use Rattle.table.specs.Table.{Entry, Table, entryOf}
 use Rattle.table.specs.TableBytes.{SaysTable}
 use Rattle.model.specs.Plan.{Instance}
@@ -21,8 +22,8 @@ use Rattle.flight.specs.Overruns.{overruns}
 use Rattle.flight.specs.Flight.{framesFlown, plainAnswered, plainAfter, Flight}
 use Rattle.lent.specs.Words.{zeros}
 use Rattle.lent.specs.State.{countIn, stateBytes}
-use Rattle.lent.specs.Entries.{pairBytes}
-use Rattle.bus.specs.Reply.{refused, reply, after}
+use Rattle.lent.specs.Entries.{entryBytes}
+use Rattle.bus.specs.Reply.{refusedReply, reply, after}
 use Rattle.bus.specs.Plan.{planReply, planBuffer}
 use Rattle.bus.specs.Check.{checkReply}
 use Rattle.bus.specs.Dispatch.{freshReply, freshBytes, frameReply, frameState, frameEntries, reportReply, reportState}
@@ -59,14 +60,13 @@ stateLeft table state (c ∷ cs) = stateLeft table (leaves table state c) cs
 -- The frames that the caller reads off: an answer from 0 on is the number of entries, and each is a pair of a task byte and a job byte, with the job in bits
 -- 0 to 6 and carry in bit 7
 
--- n entries, from place p on
-unfoldable pub entriesRead : List ℕ → ℕ → ℕ → List Entry
-entriesRead bytes zero p = []
-entriesRead bytes (suc n) p = entryOf (getD bytes (2 * p) 0) (getD bytes (2 * p + 1) 0) ∷ entriesRead bytes n (p + 1)
+-- n entries
+unfoldable pub entriesRead : List ℕ → ℕ → List Entry
+entriesRead bytes n = map (λ p. entryOf (getD bytes (2 * p) 0) (getD bytes (2 * p + 1) 0)) (range 0 n)
 
 -- a refusal and a report show no frame
 abbrev pub withSeen : Seen → List (List Entry) → List (List Entry)
-withSeen (frame (pos n) entries) rest = entriesRead entries n 0 ∷ rest
+withSeen (frame (pos n) entries) rest = entriesRead entries n ∷ rest
 withSeen (frame (negsuc n) entries) rest = rest
 withSeen (number answer) rest = rest
 
@@ -93,15 +93,15 @@ fed (c ∷ cs) = keep (lends c) (asked c) (fed cs)
 -- a frame's entries are 16 pairs of a task byte and a job byte, and the bytes behind them stay
 abbrev pub shownInC : CallInC → plain.Answer → Seen
 shownInC (next-frame entries) (plain.frame r) =
-    frame (reply (r .refusal) (r .count)) (after (r .refusal) (pairBytes (r .tasks) (r .jobs) 16 0 ++ drop 32 entries) entries)
+    frame (reply (r .refusal) (r .count)) (after (r .refusal) (entryBytes (r .tasks) (r .jobs) 16 0 ++ drop 32 entries) entries)
 shownInC (next-frame entries) (plain.number n) = frame (reply n 0) entries
 shownInC (report request task ticks) (plain.frame r) = number (reply (r .refusal) 0)
 shownInC (report request task ticks) (plain.number n) = number (reply n 0)
 
 -- a call that lends too few bytes: 99 negated, and its bytes stay
 abbrev pub sentBack : CallInC → Seen
-sentBack (next-frame entries) = frame (refused 99) entries
-sentBack (report request task ticks) = number (refused 99)
+sentBack (next-frame entries) = frame (refusedReply 99) entries
+sentBack (report request task ticks) = number (refusedReply 99)
 
 -- the answers go to the calls that lend enough, in order
 abbrev pub shownNext : Bool → CallInC → (List plain.Answer → List Seen) → List plain.Answer → List Seen

@@ -12,9 +12,10 @@ use lib.ListN.{length, getD, drop, length-append, length-replicate}
 use lib.Dec.{eqb}
 use borrow.Author.Tests.{le-ltb, leb-true, leb-false, eqb-true, eqb-false, ne-eqb}
 use Rattle.cursor.specs.Choice.{keep}
+use Rattle.cursor.specs.RangeLaws.{over-same}
 use Rattle.request.specs.Request.{reading}
 use Rattle.table.specs.Table.{Entry, entryOf, decode}
-use Rattle.table.specs.Answers.{entriesAt}
+use Rattle.table.specs.AnswerLaws.{entriesAt}
 use Rattle.table.specs.declared.Row.{Row}
 use Rattle.dispatcher.specs.Dispatch.{freshState, nextFrame, reported, rowShown}
 use Rattle.dispatcher.specs.FrameLaws.{frame-refused-still, frame-few}
@@ -27,12 +28,13 @@ use Rattle.flight.specs.Flight.{framesFlown, Flight, Flies}
 use Rattle.flight.specs.Joined.{checked-flight, planned-flight}
 use Rattle.lent.specs.Words.{zeros}
 use Rattle.lent.specs.State.{stateBytes}
-use Rattle.lent.specs.Entries.{pairBytes}
+use Rattle.lent.specs.StateBack.{state-is, count-there, state-read, state-over}
+use Rattle.lent.specs.Entries.{entryBytes}
+use Rattle.lent.specs.EntryLaws.{pair-there}
 use Rattle.bus.specs.Reply.{after}
 use Rattle.bus.specs.Dispatch.{freshReply, freshBytes, canServe, frameReply, frameState, frameEntries, reportReply, reportState}
 use Rattle.bus.specs.ReplyLaws.{reply-refused, reply-value, after-refusal, after-value}
 use Rattle.bus.specs.DispatchLaws.{fresh-made, no-room}
-use Rattle.bus_laws.specs.RoundTrip.{state-is, count-there, state-read, state-over, pair-there}
 use Rattle.bus_laws.specs.Answered.{check-told, fresh-told, plan-told}
 use Rattle.flight_in_c.specs.CallsInC.{CallInC, next-frame, report, Seen, frame, seen, leaves, allSeen, stateLeft}
 use Rattle.flight_in_c.specs.CallsInC.{entriesRead, withSeen, framesRead, lends, asked, fed, shownInC, sentBack, shownNext, allShown}
@@ -40,12 +42,12 @@ use Rattle.flight_in_c.specs.CallsInC.{framesInC, plainState, FlightInC,
 
 -- The entries of a frame, read off their bytes
 
-entries-read : (tasks jobs behind : List ℕ) (n p : ℕ) → p + n ≤ 16 → entriesRead (pairBytes tasks jobs 16 0 ++ behind) n p ≡ entriesAt tasks jobs n p
-unfolding entriesRead entriesAt
-entries-read tasks jobs behind zero p h = refl
-entries-read tasks jobs behind (suc n) p h =
+entries-read : (tasks jobs behind : List ℕ) (n : ℕ) → n ≤ 16 → entriesRead (entryBytes tasks jobs 16 0 ++ behind) n ≡ entriesAt tasks jobs n 0
+unfolding entriesRead
+entries-read tasks jobs behind n h =
+    over-same _ (λ p. entryOf (getD tasks p 0) (getD jobs p 0)) 0 n (λ p low high.
     let there = rw (zero-add p) at (pair-there tasks jobs behind 16 0 p (omega arith)) in
-    rw (there .0, there .1) (ap (λ (l : List Entry). entryOf (getD tasks p 0) (getD jobs p 0) ∷ l) (entries-read tasks jobs behind n (p + 1) (omega arith)))
+    rw (there .0, there .1))
 
 row-read : (r : Row) → r .count ≤ 16 → (entries : List ℕ) (rest : List (List Entry))
     → withSeen (shownInC (next-frame entries) (plain.frame r)) rest ≡ plain.withFrame (plain.frame r) rest
@@ -53,8 +55,8 @@ row-read r few entries rest = go (r .refusal) refl
   where
     go : (k : ℕ) → r .refusal ≡ k → withSeen (shownInC (next-frame entries) (plain.frame r)) rest ≡ plain.withFrame (plain.frame r) rest
     go zero e =
-        rw (e, ← reply-value 0 (r .count) refl, ← after-value 0 (pairBytes (r .tasks) (r .jobs) 16 0 ++ drop 32 entries) entries refl)
-        (ap (λ (l : List Entry). l ∷ rest) (entries-read (r .tasks) (r .jobs) (drop 32 entries) (r .count) 0 (omega arith)))
+        rw (e, ← reply-value 0 (r .count) refl, ← after-value 0 (entryBytes (r .tasks) (r .jobs) 16 0 ++ drop 32 entries) entries refl)
+        (ap (λ (l : List Entry). l ∷ rest) (entries-read (r .tasks) (r .jobs) (drop 32 entries) (r .count) few))
     go (suc k) e =
         let some : suc k ≡ 0 → ⊥ = λ z. omega arith in
         rw (e, ← reply-refused (suc k) (r .count) some, ne-eqb (suc k) 0 some)

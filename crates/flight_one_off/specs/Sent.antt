@@ -3,16 +3,16 @@
 use mathlib.Core.Path.{_≡_}
 use mathlib.Core.List.{List, []}
 use Prim.Native.Nat.{ℕ, suc, _+_, _*_, _≤_, _<_}
+use mathlib.Core.Bool.{cond, _&&_}
 use lib.ListN.{length, getD}
 use lib.Dec.{eqb}
-use Rattle.cursor.specs.Choice.{pick, both}
-use Rattle.cursor.specs.Front.{Bytes}
+use Rattle.cursor.specs.Fields.{Bytes}
 use Rattle.table.specs.Table.{Table}
 use Rattle.model.specs.Plan.{Instance}
 use Rattle.flight.specs.Calls.{Call}
 use Rattle.checker.specs.Exactly.{OfBoth}
 use Rattle.one_off.specs.OneOff.{oneOff, inFrame}
-use Rattle.flight.specs.Timing.{Served, start, finish, KeepToC}
+use Rattle.flight.specs.Timing.{Served, startTime, finish, KeepToC}
 use Rattle.flight.specs.Flight.{framesFlown, Flight}
 
 -- how many entries are served in frame k, and so the place of the extra transfer
@@ -21,7 +21,7 @@ lastPlace tableBytes calls k = length (getD (framesFlown tableBytes calls) k [])
 
 -- the actual times, with `took` for the extra transfer, at place n of frame k
 unfoldable pub withExtra : (ℕ → ℕ → ℕ) → ℕ → ℕ → ℕ → ℕ → ℕ → ℕ
-withExtra actual k n took m p = pick (both (eqb m k) (eqb p n)) took (actual m p)
+withExtra actual k n took m p = cond (eqb m k && eqb p n) took (actual m p)
 
 -- the request with its cycle, the bytes of the table and what they say, the list of calls, the actual times; and the extra transfer's frame and time
 module _ (x : Instance) (tableBytes : List ℕ) (t : Table) (calls : List Call) (actual : ℕ → ℕ → ℕ) (k took : ℕ) where
@@ -33,7 +33,7 @@ module _ (x : Instance) (tableBytes : List ℕ) (t : Table) (calls : List Call) 
 
   -- when it starts and ends
   abbrev pub extraStart : ℕ
-  extraStart = start (x .g) (t .f) times k extraPlace
+  extraStart = startTime (x .g) (t .f) times k extraPlace
 
   abbrev pub extraEnd : ℕ
   extraEnd = finish (x .g) (t .f) times k extraPlace
@@ -50,7 +50,7 @@ module _ (x : Instance) (tableBytes : List ℕ) (t : Table) (calls : List Call) 
     pub in-frame : extraEnd + x .g ≤ (k + 1) * t .f
     pub by-the-end : extraEnd ≤ e
     -- nothing else moves: each entry starts and ends as without it, and all that is claimed of a flight holds
-    pub same-starts : (m p : ℕ) → Served (framesFlown tableBytes calls) m p → start (x .g) (t .f) times m p ≡ start (x .g) (t .f) actual m p
+    pub same-starts : (m p : ℕ) → Served (framesFlown tableBytes calls) m p → startTime (x .g) (t .f) times m p ≡ startTime (x .g) (t .f) actual m p
     pub same-ends : (m p : ℕ) → Served (framesFlown tableBytes calls) m p → finish (x .g) (t .f) times m p ≡ finish (x .g) (t .f) actual m p
     pub flies : Flight x tableBytes t calls times
 

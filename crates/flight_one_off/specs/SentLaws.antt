@@ -2,21 +2,21 @@
 -- Behind the entries of a frame what is left of its row's time is left, and the answered frame leaves L + g. The time of the extra transfer stands behind
 -- those of all entries of its frame, so it moves none.
 use mathlib.Core.Path.{_≡_, refl, ap, _∙_}
-use mathlib.Core.Bool.{Bool, true, false}
+use mathlib.Core.Bool.{Bool, true, false, cond, _&&_}
 use mathlib.Core.List.{List}
 use Prim.Native.Nat.{ℕ, zero, suc, _+_, _≤_, _<_}
 use native.Mathlib.Omega.{arith}
 use lib.ListN.{length}
 use lib.Dec.{eqb}
 use borrow.Author.Tests.{eq-eqb, eqb-true}
-use Rattle.cursor.specs.Choice.{pick, both}
 use Rattle.table.specs.Table.{Table}
-use Rattle.table.specs.TableBytes.{SaysTable, says-decodes}
+use Rattle.table.specs.TableBytes.{SaysTable}
+use Rattle.table.specs.TableBytesLaws.{says-decodes}
 use Rattle.model.specs.Plan.{Instance}
 use Rattle.model.specs.Within.{Within}
 use Rattle.model.specs.Described.{Accepted}
 use Rattle.flight.specs.Calls.{Call}
-use Rattle.flight.specs.Timing.{Served, KeepToC, start}
+use Rattle.flight.specs.Timing.{Served, KeepToC, startTime}
 use Rattle.flight.specs.Flight.{framesFlown}
 use Rattle.flight.specs.OnTime.{frame-begins}
 use Rattle.flight.specs.Theorem.{flight, time-left}
@@ -36,14 +36,14 @@ module _ (actual : ℕ → ℕ → ℕ) (k n took : ℕ) where
   unfolding withExtra
   other-time m p h = go (eqb m k) refl (eqb p n) refl
     where
-      go : (a : Bool) → eqb m k ≡ a → (b : Bool) → eqb p n ≡ b → pick (both a b) took (actual m p) ≡ actual m p
+      go : (a : Bool) → eqb m k ≡ a → (b : Bool) → eqb p n ≡ b → cond (a && b) took (actual m p) ≡ actual m p
       go true q true w = absurd (let low = h (eqb-true m k q) in let same = eqb-true p n w in omega arith)
       go true q false w = refl
       go false q b w = refl
 
-  -- a start hangs on the times before it alone
-  same-start : (g f m p : ℕ) → (m ≡ k → p ≤ n) → start g f (withExtra actual k n took) m p ≡ start g f actual m p
-  unfolding start
+  -- a startTime hangs on the times before it alone
+  same-start : (g f m p : ℕ) → (m ≡ k → p ≤ n) → startTime g f (withExtra actual k n took) m p ≡ startTime g f actual m p
+  unfolding startTime
   same-start g f m zero h = refl
   same-start g f m (suc p) h = rw (same-start g f m p (λ e. omega (arith, h e)), other-time m p (λ e. omega (arith, h e)))
 
@@ -63,22 +63,22 @@ module _ (request tableBytes : List ℕ) (x : Instance) (within : Within request
   kept : KeepToC x (framesFlown tableBytes calls) now
   kept m p v = rw (other-time actual k n took m p (before-it m p v)) (keep m p v)
 
-  start-is : start (x .g) (t .f) now k n ≡ start (x .g) (t .f) actual k n
+  start-is : startTime (x .g) (t .f) now k n ≡ startTime (x .g) (t .f) actual k n
   start-is = same-start actual k n took (x .g) (t .f) k n (λ same. omega arith)
 
-  same : (m p : ℕ) → Served (framesFlown tableBytes calls) m p → start (x .g) (t .f) now m p ≡ start (x .g) (t .f) actual m p
+  same : (m p : ℕ) → Served (framesFlown tableBytes calls) m p → startTime (x .g) (t .f) now m p ≡ startTime (x .g) (t .f) actual m p
   same m p v = same-start actual k n took (x .g) (t .f) m p (λ q. omega (arith, before-it m p v q))
 
   sent : Sent x tableBytes t calls actual k took s e
-  unfolding start
+  unfolding startTime
   sent =
       let left = time-left request tableBytes x t within (says-decodes tableBytes t says) a calls actual keep k flown in
       let begun = frame-begins (x .g) (t .f) actual k n in
       let its = its-time actual k n took in
       record {
-        takes = ap (λ (z : ℕ). start (x .g) (t .f) now k n + z) its;
-        alone = λ q. start-is ∙ ap (start (x .g) (t .f) actual k) q;
-        silent-before = λ p q. start-is ∙ ap (start (x .g) (t .f) actual k) q;
+        takes = ap (λ (z : ℕ). startTime (x .g) (t .f) now k n + z) its;
+        alone = λ q. start-is ∙ ap (startTime (x .g) (t .f) actual k) q;
+        silent-before = λ p q. start-is ∙ ap (startTime (x .g) (t .f) actual k) q;
         not-early = omega (arith, start-is, begun, room .not-early);
         in-frame = omega (arith, start-is, its, left, room .enough);
         by-the-end = omega (arith, start-is, its, left, room .enough, room .not-late);

@@ -2,8 +2,8 @@
 use Prim.Native.Nat.{ℕ}
 use mathlib.Core.Path.{_≡_}
 use mathlib.Core.List.{List}
-use Rattle.cursor.specs.Front.{Bytes}
-use Rattle.model.specs.Within.{within-good}
+use Rattle.cursor.specs.Fields.{Bytes}
+use Rattle.model.specs.WithinLaws.{within-good}
 use Rattle.planner.specs.Outcome.{searchedAnswer}
 use Rattle.planner.specs.HandedBytes.{handedBytes}
 use Rattle.checker.specs.Checked.{checkNumber}

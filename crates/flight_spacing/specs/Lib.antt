@@ -8,5 +8,6 @@ pub mod Reached
 pub mod SuccessiveLaws
 pub mod SpacingLaws
 pub mod WhileLaws
+pub mod ReachedLaws
 -- of the public calls' answers:
 pub mod Joined

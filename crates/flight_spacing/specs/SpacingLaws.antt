@@ -10,7 +10,8 @@ use Rattle.cursor.specs.ChoiceLaws.{lt-or-ge}
 use Rattle.table.specs.Table.{Table, table, decode}
 use Rattle.model.specs.Plan.{Instance, taskAt}
 use Rattle.model.specs.Good.{Good}
-use Rattle.model.specs.Within.{Within, within-good}
+use Rattle.model.specs.Within.{Within}
+use Rattle.model.specs.WithinLaws.{within-good}
 use Rattle.model.specs.Described.{Accepted}
 use Rattle.flight.specs.Calls.{Call, height}
 use Rattle.flight.specs.Timing.{KeepToC, releasedIn, dueIn}

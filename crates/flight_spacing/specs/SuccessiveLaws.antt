@@ -13,7 +13,8 @@ use Rattle.cycle.specs.Cycle.{jobsIn, jobOf}
 use Rattle.cycle.specs.Planned.{IsJob}
 use Rattle.model.specs.Plan.{Instance, taskAt}
 use Rattle.model.specs.Good.{Good}
-use Rattle.model.specs.Within.{Within, within-good}
+use Rattle.model.specs.Within.{Within}
+use Rattle.model.specs.WithinLaws.{within-good}
 use Rattle.model.specs.Disjoint.{row-and-cycle}
 use Rattle.flight.specs.Timing.{releasedIn}
 use Rattle.flight_spacing.specs.Spacing.{Successive, NextNumber, NextCycle, SuccessiveMeans}

@@ -1,5 +1,5 @@
--- The bounds where only what was served before the later start kept to its C. Cut all times at C: then all keep to it, and the flight's claim holds. Nothing that
--- was served before the later start is cut, so both starts stay.
+-- The bounds where only what was served before the later startTime kept to its C. Cut all times at C: then all keep to it, and the flight's claim holds. Nothing that
+-- was served before the later startTime is cut, so both starts stay.
 use mathlib.Core.Path.{_≡_, refl, sym}
 use mathlib.Core.Logic.{_⊎_, inl, inr, ⊎-elim}
 use mathlib.Core.List.{List, []}
@@ -11,10 +11,11 @@ use Rattle.cursor.specs.ChoiceLaws.{lt-or-ge}
 use Rattle.table.specs.Table.{Entry, Table, table, decode}
 use Rattle.model.specs.Plan.{Instance, taskAt}
 use Rattle.model.specs.Good.{Good}
-use Rattle.model.specs.Within.{Within, within-good}
+use Rattle.model.specs.Within.{Within}
+use Rattle.model.specs.WithinLaws.{within-good}
 use Rattle.model.specs.Described.{Accepted}
 use Rattle.flight.specs.Calls.{Call}
-use Rattle.flight.specs.Timing.{servedAt, KeepToC, start, finish}
+use Rattle.flight.specs.Timing.{servedAt, KeepToC, startTime, finish}
 use Rattle.flight.specs.Flight.{framesFlown, Flight}
 use Rattle.flight.specs.OnTime.{frame-begins, one-by-one}
 use Rattle.flight.specs.Theorem.{flight}
@@ -23,7 +24,7 @@ use Rattle.flight_spacing.specs.SuccessiveLaws.{task-kept}
 use Rattle.flight_spacing.specs.SpacingLaws.{apart}
 
 -- an entry that starts earlier was served before
-module _ (g f : ℕ) (actual : ℕ → ℕ → ℕ) (m p n o : ℕ) (in-frame : finish g f actual n o ≤ (n + 1) * f) (earlier : start g f actual m p < start g f actual n o) where
+module _ (g f : ℕ) (actual : ℕ → ℕ → ℕ) (m p n o : ℕ) (in-frame : finish g f actual n o ≤ (n + 1) * f) (earlier : startTime g f actual m p < startTime g f actual n o) where
   not-in-later : n < m → ⊥
   not-in-later l =
       let w : (n + 1) * f ≤ m * f = mul-le-mul-right f (let k : n + 1 ≤ m = omega arith in k) in
@@ -32,11 +33,11 @@ module _ (g f : ℕ) (actual : ℕ → ℕ → ℕ) (m p n o : ℕ) (in-frame : 
   in-same : m ≡ n → p < o
   in-same e = ⊎-elim (λ w. w) (λ w. ⊎-elim at-it behind (eq-or-lt-of-le w)) (lt-or-ge p o)
     where
-      then : start g f actual n p < start g f actual n o
+      then : startTime g f actual n p < startTime g f actual n o
       then = rw e at earlier
 
       at-it : o ≡ p → p < o
-      at-it same = absurd (let k : start g f actual n p < start g f actual n p = rw same at then in omega arith)
+      at-it same = absurd (let k : startTime g f actual n p < startTime g f actual n p = rw same at then in omega arith)
 
       behind : o < p → p < o
       behind l = absurd (omega (arith, then, one-by-one g f actual n o p l))
@@ -52,10 +53,10 @@ module _ (x : Instance) (frames : List (List Entry)) (actual : ℕ → ℕ → �
   cut-keeps m p s = omega arith
 
   module _ (n o : ℕ) (keep : KeepBefore x frames actual n o) where
-    -- a start up to the later one is not cut
+    -- a startTime up to the later one is not cut
     same-start : (f m p : ℕ) → m < length frames → p ≤ length (getD frames m []) → (m < n) ⊎ ((m ≡ n) × (p ≤ o))
-        → start (x .g) f cutAtC m p ≡ start (x .g) f actual m p
-    unfolding start
+        → startTime (x .g) f cutAtC m p ≡ startTime (x .g) f actual m p
+    unfolding startTime
     same-start f m zero flown filled h = refl
     same-start f m (suc p) flown filled h =
         omega (arith, kept, same-start f m p flown (omega (arith, filled)) (⊎-elim (λ w. inl w) (λ w. inr (w .0, omega (arith, w .1))) h))

@@ -16,8 +16,9 @@ use Rattle.dispatcher.specs.Dispatch.{uncarried, moved, nextFrame, raised, rais
 use Rattle.flight.specs.Calls as flight
 use Rattle.flight.specs.Overruns.{overran}
 use Rattle.timer.specs.declared.Timer.{Timer}
-use Rattle.timer.specs.Registers.{sumFrom, registers, registerRead, written, afterEvent, serving, aboveC, reporting, lineOn}
-use Rattle.flight_timer.specs.Calls.{Call, read, write, event, serve, report, line, Answer, byte, number, nothing, said, level, turn, answersFrom, answersGiven, timerFrom}
+use Rattle.timer.specs.Registers.{sumOf, registers, registerRead, afterWrite, afterEvent, serving, aboveC, reporting, lineOn}
+use Rattle.flight_timer.specs.Calls.{RegisterCall, read, write, event, serve, report, line, turn, timerFrom}
+use Rattle.flight_timer.specs.Calls.{RegisterAnswer, byte, number, nothing, said, level, registerAnswersFrom, registerAnswers}
 use Rattle.flight_timer.specs.Told.{controlFrom, MakesDue, Serves, FrameDue, OverrunMarked, MissMarked}
 use Rattle.flight_timer.specs.InTime.{asksFrom, dispatcherCalls, startsFrom, frameStarts, StaysSet, RunKept, EachServed, Punctual}
 
@@ -29,42 +30,42 @@ P1-request =
 abbrev P1-table : List ℕ
 P1-table = 0x02 ∷ 0x14 ∷ 0x00 ∷ 0x28 ∷ 0x00 ∷ 0x02 ∷ 0x00 ∷ 0x03 ∷ 0x00 ∷ 0x00 ∷ 0x01 ∷ 0x00 ∷ 0x02 ∷ 0x00 ∷ 0x02 ∷ 0x00 ∷ 0x01 ∷ 0x01 ∷ 0x01 ∷ []
 
-abbrev reads : ℕ → Answer
+abbrev reads : ℕ → RegisterAnswer
 reads value = byte (record { refusal = 0; value = value })
 
-abbrev serves : ℕ → List ℕ → List ℕ → Answer
+abbrev serves : ℕ → List ℕ → List ℕ → RegisterAnswer
 serves count tasks jobs = said (flight.frame (record { refusal = 0; count = count; tasks = padded 16 0 tasks; jobs = padded 16 0 jobs }))
 
 -- every way on the way: a refused serving keeps the frame due; serving with none due gives nothing, whatever the table; a miss; writes that set nothing; a read and a
 -- write above 7; an event with run clear
-abbrev driver : List Call
+abbrev driver : List RegisterCall
 driver =
     event ∷ read 1 ∷ write 0 0xFF ∷ read 0 ∷ event ∷ line ∷ read 1 ∷ serve [] ∷ read 1 ∷ serve P1-table ∷ read 1 ∷ read 2 ∷ serve [] ∷
     write 1 0xFF ∷ read 1 ∷ report P1-request 0 6 ∷ report P1-request 0 5 ∷ report P1-request 3 9 ∷ read 1 ∷ read 4 ∷
     event ∷ event ∷ read 1 ∷ write 1 0x03 ∷ read 1 ∷ write 2 9 ∷ write 8 0 ∷ read 8 ∷ write 0 0x02 ∷ event ∷
     line ∷ serve P1-table ∷ read 2 ∷ read 1 ∷ write 1 4 ∷ line ∷ []
 
-driver-answers : answersGiven driver
+driver-answers : registerAnswers driver
     ≡ nothing ∷ reads 0 ∷ number 0 ∷ reads 3 ∷ nothing ∷ level true ∷ reads 1 ∷ said (flight.frame (rowRefused 12)) ∷ reads 1 ∷
     serves 3 (0 ∷ 1 ∷ 2 ∷ []) (0 ∷ 0 ∷ 0 ∷ []) ∷ reads 0 ∷ reads 1 ∷ serves 0 [] [] ∷
     number 0 ∷ reads 0 ∷ said (flight.number 0) ∷ said (flight.number 0) ∷ said (flight.number 16) ∷ reads 2 ∷ reads 1 ∷
     nothing ∷ nothing ∷ reads 7 ∷ number 0 ∷ reads 5 ∷ number 0 ∷ number 29 ∷ byte (record { refusal = 29; value = 0 }) ∷ number 0 ∷ nothing ∷
     level true ∷ serves 2 (0 ∷ 1 ∷ []) (1 ∷ 1 ∷ []) ∷ reads 0 ∷ reads 4 ∷ number 0 ∷ level false ∷ []
-unfolding answersFrom turn registerRead registers sumFrom written afterEvent serving aboveC lineOn nextFrame uncarried moved reported raised raisedAt
+unfolding registerAnswersFrom turn registerRead registers sumOf afterWrite afterEvent serving aboveC lineOn nextFrame uncarried moved reported raised raisedAt
     decode rowsFrom heightFits sizesFrom rowFrom entriesFrom entryFrom entryOf jobByte rowGiven padded records byteOf wordOf wordBytes
     reading tasksOf taskOf judgedTask taskRule pairsOf silentOf
 driver-answers = refl
 
 -- a report at C and a refused one mark nothing; bits are cleared one by one; the line needs the enable bit and any one status bit
-abbrev bits : List Call
+abbrev bits : List RegisterCall
 bits =
     write 0 1 ∷ report P1-request 0 5 ∷ report [] 0 9 ∷ read 1 ∷ event ∷ line ∷ event ∷ report P1-request 2 11 ∷ write 1 4 ∷ read 1 ∷ event ∷ write 1 2 ∷ read 1 ∷
     serve P1-table ∷ read 1 ∷ line ∷ write 0 2 ∷ line ∷ write 1 4 ∷ line ∷ []
 
-bits-answers : answersGiven bits
+bits-answers : registerAnswers bits
     ≡ number 0 ∷ said (flight.number 0) ∷ said (flight.number 1) ∷ reads 0 ∷ nothing ∷ level false ∷ nothing ∷ said (flight.number 0) ∷ number 0 ∷ reads 3 ∷ nothing ∷ number 0 ∷ reads 5 ∷
     serves 3 (0 ∷ 1 ∷ 2 ∷ []) (0 ∷ 0 ∷ 0 ∷ []) ∷ reads 4 ∷ level false ∷ number 0 ∷ level true ∷ number 0 ∷ level false ∷ []
-unfolding answersFrom turn registerRead registers sumFrom written afterEvent serving aboveC lineOn nextFrame uncarried moved reported raised raisedAt
+unfolding registerAnswersFrom turn registerRead registers sumOf afterWrite afterEvent serving aboveC lineOn nextFrame uncarried moved reported raised raisedAt
     decode rowsFrom heightFits sizesFrom rowFrom entriesFrom entryFrom entryOf jobByte rowGiven padded records byteOf wordOf wordBytes
     reading tasksOf taskOf judgedTask taskRule pairsOf silentOf
 bits-answers = refl
@@ -78,7 +79,7 @@ full = record {
 }
 
 full-registers : registers full ≡ 1 ∷ 0 ∷ 1 ∷ 0 ∷ 255 ∷ 255 ∷ 0 ∷ 0 ∷ []
-unfolding registers sumFrom wordBytes
+unfolding registers sumOf wordBytes
 full-registers = refl
 
 at-most : Timer
@@ -89,11 +90,11 @@ at-most = record {
 }
 
 at-most-marked : registers (reporting (reading P1-request) 0 6 at-most .timer) ≡ 1 ∷ 2 ∷ 0 ∷ 0 ∷ 255 ∷ 255 ∷ 0 ∷ 0 ∷ []
-unfolding at-most registers sumFrom aboveC reported raised raisedAt reading tasksOf taskOf judgedTask taskRule pairsOf silentOf records byteOf wordOf wordBytes
+unfolding at-most registers sumOf aboveC reported raised raisedAt reading tasksOf taskOf judgedTask taskRule pairsOf silentOf records byteOf wordOf wordBytes
 at-most-marked = refl
 
 -- a punctual list: its dispatcher calls, its answers and when its frames start
-abbrev flight-list : List Call
+abbrev flight-list : List RegisterCall
 flight-list =
     serve [] ∷ write 0 1 ∷ event ∷ report [] 0 0 ∷ serve [] ∷ serve P1-table ∷ serve P1-table ∷ read 9 ∷ write 0 3 ∷ event ∷ serve P1-table ∷ event ∷ serve P1-table ∷ event ∷ []
 
@@ -117,7 +118,7 @@ flight-list-starts = refl
 
 -- The bits as Told says them of lists: a due frame, a miss, an overrun; and no due frame once it was served
 
-abbrev one-due : List Call
+abbrev one-due : List RegisterCall
 one-due = write 0 1 ∷ event ∷ []
 
 made-due : FrameDue one-due
@@ -132,11 +133,11 @@ overrun-one : OverrunMarked (report P1-request 0 6 ∷ [])
 unfolding overran reading tasksOf taskOf judgedTask taskRule pairsOf silentOf records byteOf wordOf
 overrun-one = record { i = 0; within = omega arith; set-there = refl; not-ended = λ j l w e. absurd (omega arith) }
 
-abbrev served-list : List Call
+abbrev served-list : List RegisterCall
 served-list = write 0 1 ∷ event ∷ serve P1-table ∷ []
 
 not-due : FrameDue served-list → ⊥
-unfolding timerFrom turn written afterEvent serving nextFrame uncarried moved rowGiven padded
+unfolding timerFrom turn afterWrite afterEvent serving nextFrame uncarried moved rowGiven padded
     decode rowsFrom heightFits sizesFrom rowFrom entriesFrom entryFrom entryOf jobByte records byteOf wordOf
 not-due d = go (d .i) (d .within) (d .set-there) (d .not-ended)
   where

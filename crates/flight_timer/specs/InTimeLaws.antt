@@ -1,17 +1,17 @@
 -- A punctual list asks the dispatcher for one frame at each event, and it never refuses: the flight through the registers is the flight.
 use Prim.Native.Nat.{ℕ, zero, suc, _+_, _*_, _≤_, _<_}
 use mathlib.Core.Path.{_≡_, refl, sym, ap, _∙_}
-use mathlib.Core.Bool.{Bool, true, false, not, false≢true}
+use mathlib.Core.Bool.{Bool, true, false, not, false≢true, cond, _&&_}
 use mathlib.Core.Logic.{_⊎_, inl, inr}
 use mathlib.Core.List.{List, [], _∷_, _++_}
 use native.Mathlib.Omega.{arith}
 use lib.ListN.{length, getD, take}
 use lib.Dec.{eqb}
-use Rattle.cursor.specs.Choice.{pick, both, keep}
+use Rattle.cursor.specs.Choice.{keep}
 use Rattle.cursor.specs.ChoiceLaws.{lt-or-ge}
 use Rattle.request.specs.Request.{Reading, readable, unreadable, reading}
 use Rattle.table.specs.Table.{Table, Decoded, table, malformed, decode, rowOf}
-use Rattle.table.specs.TableBytes.{says-decodes}
+use Rattle.table.specs.TableBytesLaws.{says-decodes}
 use Rattle.table.specs.AnswerLaws.{given-refusal}
 use Rattle.dispatcher.specs.Dispatch.{served, moved, nextFrame, reported}
 use Rattle.dispatcher.specs.FrameLaws.{frame-served, frame-malformed, moved-next, moved-last}
@@ -19,7 +19,7 @@ use Rattle.dispatcher.specs.ReportLaws.{report-counted, report-unknown, report-
 use Rattle.dispatcher.specs.declared.State.{State}
 use Rattle.dispatcher.specs.declared.Frame.{Frame}
 use Rattle.flight.specs.Calls as flight
-use Rattle.flight.specs.Timing.{KeepToC, start}
+use Rattle.flight.specs.Timing.{KeepToC, startTime}
 use Rattle.flight.specs.Flight as flown
 use Rattle.flight.specs.Same.{asked, m-after}
 use Rattle.flight.specs.Joined.{checked-flight, planned-flight}
@@ -29,12 +29,12 @@ use Rattle.timer.specs.RegisterLaws.{write-parts, event-parts, serve-none, serv
 use Rattle.timer.specs.declared.Timer.{Timer}
 use Rattle.timer.specs.declared.Control.{Control}
 use Rattle.timer.specs.declared.Status.{Status}
-use Rattle.flight_timer.specs.Calls.{Call, read, write, event, serve, report, line, onEvent, Answer, turn, answersFrom, timerFrom}
+use Rattle.flight_timer.specs.Calls.{RegisterCall, read, write, event, serve, report, line, onEvent, turn, registerAnswersFrom, timerFrom}
 use Rattle.flight_timer.specs.InTime.{runThen, StaysSet, RunKept, formed, isTable, waitsThen, InTurn, EachServed, Punctual, asks, asksFrom}
 use Rattle.flight_timer.specs.InTime.{dispatcherCalls, spoken, heardFrom, startsFrom, InTime, FliesByTimer, TimerFlight}
 
 -- run that stays set is kept
-stays-kept : (cs : List Call) → StaysSet cs → RunKept true cs
+stays-kept : (cs : List RegisterCall) → StaysSet cs → RunKept true cs
 unfolding StaysSet RunKept
 stays-kept [] s = tt
 stays-kept (event ∷ cs) s = (refl, s .1)
@@ -78,10 +78,10 @@ module _ (tableBytes : List ℕ) (t : Table) (says : decode tableBytes ≡ table
 
   -- what a serving in turn is: the serving of an event, or one that changes nothing
   data ServeCase (waits : Bool) (u : Timer) (bytes : List ℕ) : Type 0 where
-    of-event : both waits (isTable bytes) ≡ true → both waits (not (isTable bytes)) ≡ false
+    of-event : waits && isTable bytes ≡ true → waits && not (isTable bytes) ≡ false
         → serving (decode bytes) u ≡ answeredWith (nextFrame (decode tableBytes) (u .state)) (servedOnce (nextFrame (decode tableBytes) (u .state) .state) u)
         → ServeCase waits u bytes
-    of-none : both waits (isTable bytes) ≡ false → both waits (not (isTable bytes)) ≡ waits → serving (decode bytes) u .timer ≡ u → ServeCase waits u bytes
+    of-none : waits && isTable bytes ≡ false → waits && not (isTable bytes) ≡ waits → serving (decode bytes) u .timer ≡ u → ServeCase waits u bytes
 
   serve-case : (waits run : Bool) (u : Timer) (bytes : List ℕ) → Ready waits run u → InTurn tableBytes waits (serve bytes) → ServeCase waits u bytes
   serve-case false run u bytes r in-turn = of-none refl refl (rw (serve-none (decode bytes) u (r .due-is)))
@@ -101,7 +101,7 @@ module _ (tableBytes : List ℕ) (t : Table) (says : decode tableBytes ≡ table
       go (inr e) = no-table (decode bytes) refl e
 
   -- Each call leaves the timer ready
-  ready-step : (waits run : Bool) (u : Timer) (c : Call) → Ready waits run u → InTurn tableBytes waits c → onEvent (run ≡ true) (Unit {0}) c
+  ready-step : (waits run : Bool) (u : Timer) (c : RegisterCall) → Ready waits run u → InTurn tableBytes waits c → onEvent (run ≡ true) (Unit {0}) c
       → Ready (waitsThen waits c) (runThen run c) (turn u c .after)
   unfolding turn
   ready-step waits run u (read address) r i k = r
@@ -115,15 +115,15 @@ module _ (tableBytes : List ℕ) (t : Table) (says : decode tableBytes ≡ table
         row-below = rw (w .2) (r .row-below);
       }
     where
-      due : (b : Bool) → pick b (clearedBy value (u .status)) (u .status) .due ≡ waits
+      due : (b : Bool) → cond b (clearedBy value (u .status)) (u .status) .due ≡ waits
       due true = r .due-is
       due false = r .due-is
 
-      running : (b : Bool) → pick b (controlOf value) (u .control) .run ≡ pick b (isSet 1 value) run
+      running : (b : Bool) → cond b (controlOf value) (u .control) .run ≡ cond b (isSet 1 value) run
       running true = refl
       running false = r .run-is
 
-      missed : (b : Bool) → pick b (clearedBy value (u .status)) (u .status) .missed ≡ false
+      missed : (b : Bool) → cond b (clearedBy value (u .status)) (u .status) .missed ≡ false
       missed true = rw (r .none-missed)
       missed false = r .none-missed
   ready-step waits run u event r i k =
@@ -137,7 +137,7 @@ module _ (tableBytes : List ℕ) (t : Table) (says : decode tableBytes ≡ table
       }
   ready-step waits run u (serve bytes) r i k = go (serve-case waits run u bytes r i)
     where
-      go : ServeCase waits u bytes → Ready (both waits (not (isTable bytes))) run (serving (decode bytes) u .timer)
+      go : ServeCase waits u bytes → Ready (waits && not (isTable bytes)) run (serving (decode bytes) u .timer)
       go (of-event e w is) =
           rw (w, is) (record { due-is = refl; run-is = r .run-is; none-missed = r .none-missed; row-below = below-again (u .state) (r .row-below) })
       go (of-none e w is) = rw (w, is) r
@@ -152,11 +152,11 @@ module _ (tableBytes : List ℕ) (t : Table) (says : decode tableBytes ≡ table
   abbrev D : State → flight.Call → flight.Turn State
   D = flight.dispatch tableBytes
 
-  pub record AskedOf (waits : Bool) (u : Timer) (c : Call) (rest : List flight.Call) : Type 0 where
+  pub record AskedOf (waits : Bool) (u : Timer) (c : RegisterCall) (rest : List flight.Call) : Type 0 where
     pub heard : take (length (asks waits c)) (spoken (turn u c .answer)) ++ flight.answers D (turn u c .after .state) rest ≡ flight.answers D (u .state) (asks waits c ++ rest)
     pub stands : flight.final D (turn u c .after .state) rest ≡ flight.final D (u .state) (asks waits c ++ rest)
 
-  asked-step : (waits run : Bool) (u : Timer) (c : Call) (rest : List flight.Call) → Ready waits run u → InTurn tableBytes waits c → AskedOf waits u c rest
+  asked-step : (waits run : Bool) (u : Timer) (c : RegisterCall) (rest : List flight.Call) → Ready waits run u → InTurn tableBytes waits c → AskedOf waits u c rest
   unfolding turn flight.answers flight.final flight.dispatch
   asked-step waits run u (read address) rest r i = record { heard = refl; stands = refl }
   asked-step waits run u line rest r i = record { heard = refl; stands = refl }
@@ -170,13 +170,13 @@ module _ (tableBytes : List ℕ) (t : Table) (says : decode tableBytes ≡ table
       go (of-none e w is) = record { heard = rw (e, is); stands = rw (e, is) }
 
   -- the whole list
-  pub record Followed (waits : Bool) (u : Timer) (cs : List Call) : Type 0 where
-    pub heard : heardFrom waits cs (answersFrom u cs) ≡ flight.answers D (u .state) (asksFrom waits cs)
+  pub record Followed (waits : Bool) (u : Timer) (cs : List RegisterCall) : Type 0 where
+    pub heard : heardFrom waits cs (registerAnswersFrom u cs) ≡ flight.answers D (u .state) (asksFrom waits cs)
     pub stands : timerFrom u cs .state ≡ flight.final D (u .state) (asksFrom waits cs)
     pub none-missed : timerFrom u cs .status .missed ≡ false
 
   -- run before an event, and after any call
-  run-now : (run : Bool) (c : Call) (cs : List Call) → RunKept run (c ∷ cs) → onEvent (run ≡ true) (Unit {0}) c × RunKept (runThen run c) cs
+  run-now : (run : Bool) (c : RegisterCall) (cs : List RegisterCall) → RunKept run (c ∷ cs) → onEvent (run ≡ true) (Unit {0}) c × RunKept (runThen run c) cs
   unfolding RunKept
   run-now run event cs k = (k .0, rw (k .0) (stays-kept cs (k .1)))
   run-now run (read address) cs k = (tt, k)
@@ -185,8 +185,8 @@ module _ (tableBytes : List ℕ) (t : Table) (says : decode tableBytes ≡ table
   run-now run (report bytes task ticks) cs k = (tt, k)
   run-now run line cs k = (tt, k)
 
-  followed : (waits run : Bool) (u : Timer) (cs : List Call) → Ready waits run u → RunKept run cs → EachServed tableBytes waits cs → Followed waits u cs
-  unfolding heardFrom answersFrom timerFrom asksFrom EachServed flight.answers flight.final
+  followed : (waits run : Bool) (u : Timer) (cs : List RegisterCall) → Ready waits run u → RunKept run cs → EachServed tableBytes waits cs → Followed waits u cs
+  unfolding heardFrom registerAnswersFrom timerFrom asksFrom EachServed flight.answers flight.final
   followed waits run u [] r k e = record { heard = refl; stands = refl; none-missed = r .none-missed }
   followed waits run u (c ∷ cs) r k e =
       let now = run-now run c cs k in
@@ -201,14 +201,14 @@ module _ (tableBytes : List ℕ) (t : Table) (says : decode tableBytes ≡ table
 -- The starts: one for each frame asked for, and frame k at k·f
 
 module _ (f : ℕ) where
-  starts-length : (next at : ℕ) (waits : Bool) (cs : List Call) → length (startsFrom f next at waits cs) ≡ asked (asksFrom waits cs)
+  starts-length : (next at : ℕ) (waits : Bool) (cs : List RegisterCall) → length (startsFrom f next at waits cs) ≡ asked (asksFrom waits cs)
   unfolding startsFrom asksFrom asked
   starts-length next at waits [] = refl
   starts-length next at waits (event ∷ cs) = starts-length (next + f) next true cs
-  starts-length next at waits (serve bytes ∷ cs) = go (both waits (isTable bytes)) (starts-length next at (both waits (not (isTable bytes))) cs)
+  starts-length next at waits (serve bytes ∷ cs) = go (waits && isTable bytes) (starts-length next at (waits && not (isTable bytes)) cs)
     where
       still : Bool
-      still = both waits (not (isTable bytes))
+      still = waits && not (isTable bytes)
 
       go : (b : Bool) → length (startsFrom f next at still cs) ≡ asked (asksFrom still cs)
           → length (keep b at (startsFrom f next at still cs)) ≡ asked (keep b flight.next-frame [] ++ asksFrom still cs)
@@ -226,15 +226,15 @@ module _ (f : ℕ) where
 
   -- the frame that is served starts at the event that waits; the starts behind it are told of one frame more
   served-at : (next at k : ℕ) (waits is : Bool) (behind : List ℕ) → Ticks waits k next at
-      → ((n : ℕ) → Ticks (both waits (not is)) n next at → (m : ℕ) → m < length behind → getD behind m 0 ≡ (n + m) * f)
-      → (m : ℕ) → m < length (keep (both waits is) at behind) → getD (keep (both waits is) at behind) m 0 ≡ (k + m) * f
+      → ((n : ℕ) → Ticks (waits && not is) n next at → (m : ℕ) → m < length behind → getD behind m 0 ≡ (n + m) * f)
+      → (m : ℕ) → m < length (keep (waits && is) at behind) → getD (keep (waits && is) at behind) m 0 ≡ (k + m) * f
   served-at next at k true true behind tick later zero h = omega (arith, tick .0)
   served-at next at k true true behind tick later (suc m) h = later (k + 1) (tick .1) m (omega arith) ∙ ap (λ (n : ℕ). n * f) (omega arith)
   served-at next at k true false behind tick later m h = later k tick m h
   served-at next at k false is behind tick later m h = later k tick m h
 
   module _ (tableBytes : List ℕ) where
-    starts-at : (next at : ℕ) (waits : Bool) (cs : List Call) (k : ℕ) → Ticks waits k next at → EachServed tableBytes waits cs
+    starts-at : (next at : ℕ) (waits : Bool) (cs : List RegisterCall) (k : ℕ) → Ticks waits k next at → EachServed tableBytes waits cs
         → (m : ℕ) → m < length (startsFrom f next at waits cs) → getD (startsFrom f next at waits cs) m 0 ≡ (k + m) * f
     unfolding startsFrom EachServed
     starts-at next at waits [] k tick e m h = absurd (omega arith)
@@ -243,8 +243,8 @@ module _ (f : ℕ) where
         let later : next + f ≡ (k + 1) * f = omega arith in
         starts-at (next + f) next true cs k (due, later) (e .1) m h
     starts-at next at waits (serve bytes ∷ cs) k tick e m h =
-        served-at next at k waits (isTable bytes) (startsFrom f next at (both waits (not (isTable bytes))) cs) tick
-        (λ n later i l. starts-at next at (both waits (not (isTable bytes))) cs n later (e .1) i l) m h
+        served-at next at k waits (isTable bytes) (startsFrom f next at (waits && not (isTable bytes)) cs) tick
+        (λ n later i l. starts-at next at (waits && not (isTable bytes)) cs n later (e .1) i l) m h
     starts-at next at waits (read address ∷ cs) k tick e m h = starts-at next at waits cs k tick (e .1) m h
     starts-at next at waits (write address value ∷ cs) k tick e m h = starts-at next at waits cs k tick (e .1) m h
     starts-at next at waits (report bytes task ticks ∷ cs) k tick e m h = starts-at next at waits cs k tick (e .1) m h
@@ -260,7 +260,7 @@ module _ (requestBytes tableBytes : List ℕ) (fl : Flies requestBytes tableByte
   fresh-ready : Ready tableBytes (fl .t) says false false freshTimer
   fresh-ready = record { due-is = refl; run-is = refl; none-missed = refl; row-below = fl .says .form .some-rows }
 
-  module _ (calls : List Call) (p : Punctual tableBytes calls) (actual : ℕ → ℕ → ℕ)
+  module _ (calls : List RegisterCall) (p : Punctual tableBytes calls) (actual : ℕ → ℕ → ℕ)
       (keeps : KeepToC (fl .x) (flown.framesFlown tableBytes (dispatcherCalls calls)) actual) where
     flies : flown.Flight (fl .x) tableBytes (fl .t) (dispatcherCalls calls) actual
     flies = fl .flies (dispatcherCalls calls) actual keeps
@@ -272,7 +272,7 @@ module _ (requestBytes tableBytes : List ℕ) (fl : Flies requestBytes tableByte
     each-starts = starts-length (fl .t .f) 0 0 false calls ∙ sym as-many
 
     in-time : InTime (fl .x) tableBytes (fl .t) calls actual
-    unfolding start
+    unfolding startTime
     in-time =
         let f = followed tableBytes (fl .t) says false false freshTimer calls fresh-ready (p .run-kept) (p .each-served) in
         record {

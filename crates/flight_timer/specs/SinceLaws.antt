@@ -1,42 +1,40 @@
 -- One call more behind a list: what becomes of a bit that some call sets and a later one ends.
 use Prim.Native.Nat.{ℕ, _+_, _≤_, _<_}
 use mathlib.Core.Path.{_≡_, refl}
-use mathlib.Core.Bool.{Bool, true, false, not, false≢true}
+use mathlib.Core.Bool.{Bool, true, false, not, false≢true, _&&_, _||_}
 use mathlib.Core.Logic.{_⊎_, inl, inr, _↔_}
 use mathlib.Core.List.{List, [], _∷_, _++_, append-nil}
 use native.Mathlib.Omega.{arith}
 use lib.ListN.{length, getD, take, length-append, List·getD-append}
 use lib.Seq.{take-append-le, take-append-seam, getD-append-seam, append-snoc}
-use Rattle.cursor.specs.Choice.{both}
 use Rattle.cursor.specs.ChoiceLaws.{lt-or-ge}
-use Rattle.timer.specs.Registers.{either}
-use Rattle.flight_timer.specs.Calls.{Call, line}
+use Rattle.flight_timer.specs.Calls.{RegisterCall, line}
 use Rattle.flight_timer.specs.Told.{Since}
 
 -- what holds of no call, and with one call more behind any list, holds of every list
-pub every : (P : List Call → Type 0) → P [] → ((cs : List Call) (c : Call) → P cs → P (cs ++ (c ∷ []))) → (cs : List Call) → P cs
+pub every : (P : List RegisterCall → Type 0) → P [] → ((cs : List RegisterCall) (c : RegisterCall) → P cs → P (cs ++ (c ∷ []))) → (cs : List RegisterCall) → P cs
 every P none more cs = go [] none cs
   where
-    go : (done : List Call) → P done → (rest : List Call) → P (done ++ rest)
+    go : (done : List RegisterCall) → P done → (rest : List RegisterCall) → P (done ++ rest)
     go done p [] = rw append-nil p
     go done p (c ∷ rest) = rw (← append-snoc done c rest) (go (done ++ (c ∷ [])) (more done c p) rest)
 
-module _ (calls : List Call) (c : Call) where
-  abbrev pub more : List Call
+module _ (calls : List RegisterCall) (c : RegisterCall) where
+  abbrev pub more : List RegisterCall
   more = calls ++ (c ∷ [])
 
   longer : length more ≡ length calls + 1
   longer = length-append calls (c ∷ [])
 
   -- the places before the last, and the last, as they are seen in the longer list
-  module _ (P : List Call → Call → Type 0) where
+  module _ (P : List RegisterCall → RegisterCall → Type 0) where
     early : (i : ℕ) → i < length calls → P (take i more) (getD more i line) ≡ P (take i calls) (getD calls i line)
     early i h = rw (take-append-le i calls (c ∷ []) (omega arith), List·getD-append calls (c ∷ []) line i h)
 
     last : P (take (length calls) more) (getD more (length calls) line) ≡ P calls c
     last = rw (take-append-seam calls (c ∷ []), getD-append-seam calls c [] line)
 
-  module _ (Sets Ends : List Call → Call → Type 0) where
+  module _ (Sets Ends : List RegisterCall → RegisterCall → Type 0) where
     since-last : Sets calls c → Since Sets Ends more
     since-last s = record {
       i = length calls;
@@ -73,17 +71,17 @@ module _ (calls : List Call) (c : Call) where
         go (inr h) = let at-last : s .i ≡ length calls = omega (arith, longer, s .within) in inl (rw (at-last, last Sets) at (s .set-there))
 
     -- the bit was b and is `now`; `here` says that this call sets it, and `ends` that it ends it
-    module _ (b now here ends : Bool) (is : now ≡ either here (both b (not ends))) (sets : (here ≡ true) ↔ Sets calls c) (ended : (ends ≡ true) ↔ Ends calls c)
+    module _ (b now here ends : Bool) (is : now ≡ here || (b && not ends)) (sets : (here ≡ true) ↔ Sets calls c) (ended : (ends ≡ true) ↔ Ends calls c)
         (so : (b ≡ true) ↔ Since Sets Ends calls) where
       set-now : (here b ends : Bool) → (here ≡ true → Sets calls c) → (b ≡ true → Since Sets Ends calls) → (Ends calls c → ends ≡ true)
-          → either here (both b (not ends)) ≡ true → Since Sets Ends more
+          → here || (b && not ends) ≡ true → Since Sets Ends more
       set-now true b ends s k e q = since-last (s refl)
       set-now false true true s k e q = absurd (false≢true q)
       set-now false true false s k e q = since-kept (k refl) (λ x. false≢true (e x))
       set-now false false ends s k e q = absurd (false≢true q)
 
       bit-now : (here b ends : Bool) → (Sets calls c → here ≡ true) → (Since Sets Ends calls → b ≡ true) → (ends ≡ true → Ends calls c)
-          → (Sets calls c) ⊎ (Since Sets Ends calls × (Ends calls c → ⊥)) → either here (both b (not ends)) ≡ true
+          → (Sets calls c) ⊎ (Since Sets Ends calls × (Ends calls c → ⊥)) → here || (b && not ends) ≡ true
       bit-now true b ends s k e q = refl
       bit-now false b ends s k e (inl x) = absurd (false≢true (s x))
       bit-now false true true s k e (inr q) = absurd (q .1 (e refl))

@@ -1,7 +1,7 @@
 -- The counts after a list, and their sum: how many accepted reports above C there were of each task, and of all.
 use Prim.Native.Nat.{ℕ, zero, suc, _+_, _≤_, _<_, min}
 use mathlib.Core.Path.{_≡_, refl, sym, ap, _∙_}
-use mathlib.Core.Bool.{Bool, true, false, false≢true}
+use mathlib.Core.Bool.{Bool, true, false, false≢true, cond, _&&_}
 use mathlib.Core.Logic.{_⊎_, inl, inr}
 use mathlib.Core.List.{List, [], _∷_}
 use native.Mathlib.Nat.{zero-add}
@@ -9,10 +9,10 @@ use native.Mathlib.Omega.{arith}
 use lib.ListN.{length, getD}
 use lib.Dec.{ltb, eqb}
 use borrow.Author.Tests.{ltb-true, eqb-true, eqb-false, ne-eqb}
-use Rattle.cursor.specs.Choice.{pick, both, bit}
+use Rattle.cursor.specs.Choice.{bit}
 use Rattle.cursor.specs.ChoiceLaws.{lt-or-ge}
 use Rattle.request.specs.Request.{Reading, readable, unreadable, reading}
-use Rattle.request.specs.Readable.{readable-kept}
+use Rattle.request.specs.ReadableLaws.{readable-kept}
 use Rattle.table.specs.Table.{decode}
 use Rattle.dispatcher.specs.Dispatch.{freshState, nextFrame, exceeds, reported}
 use Rattle.dispatcher.specs.FrameLaws.{frame-counts}
@@ -21,10 +21,10 @@ use Rattle.dispatcher.specs.declared.State.{State}
 use Rattle.flight.specs.Calls as flight
 use Rattle.flight.specs.Overruns.{overran, overruns}
 use Rattle.flight.specs.Counted.{overruns-counted}
-use Rattle.timer.specs.Registers.{sumFrom, sumShown, freshTimer}
-use Rattle.timer.specs.RegisterLaws.{write-parts, event-parts, serve-parts}
+use Rattle.timer.specs.Registers.{sumShown, freshTimer}
+use Rattle.timer.specs.RegisterLaws.{sumFrom, sum-is, write-parts, event-parts, serve-parts}
 use Rattle.timer.specs.declared.Timer.{Timer}
-use Rattle.flight_timer.specs.Calls.{Call, read, write, event, serve, report, line, turn, timerFrom, timerAfter}
+use Rattle.flight_timer.specs.Calls.{RegisterCall, read, write, event, serve, report, line, turn, timerFrom, timerAfter}
 use Rattle.flight_timer.specs.Told.{reportsIn, aboveIn}
 
 -- The counts depend on the reports alone
@@ -46,12 +46,12 @@ serve-same : (bytes : List ℕ) (t : Timer) → turn t (serve bytes) .after .sta
 unfolding turn
 serve-same bytes t = ap (λ (s : State). s .counts) (serve-parts (decode bytes) t .2) ∙ go (t .status .due)
   where
-    go : (b : Bool) → pick b (nextFrame (decode bytes) (t .state) .state) (t .state) .counts ≡ t .state .counts
+    go : (b : Bool) → cond b (nextFrame (decode bytes) (t .state) .state) (t .state) .counts ≡ t .state .counts
     go true = frame-counts (decode bytes) (t .state)
     go false = refl
 
 -- so they are those of a dispatcher that got the reports alone
-counts-from : (t : Timer) (s : State) (calls : List Call) → t .state .counts ≡ s .counts
+counts-from : (t : Timer) (s : State) (calls : List RegisterCall) → t .state .counts ≡ s .counts
     → timerFrom t calls .state .counts ≡ flight.final (flight.dispatch []) s (reportsIn calls) .counts
 unfolding timerFrom turn reportsIn flight.final flight.dispatch
 counts-from t s [] e = e
@@ -63,7 +63,7 @@ counts-from t s (serve bytes ∷ cs) e = counts-from (turn t (serve bytes) .afte
 counts-from t s (read address ∷ cs) e = counts-from t s cs e
 counts-from t s (line ∷ cs) e = counts-from t s cs e
 
-pub counts-are : (calls : List Call) (i : ℕ) → i < 16 → getD (timerAfter calls .state .counts) i 0 ≡ min 65535 (overruns i (reportsIn calls))
+pub counts-are : (calls : List RegisterCall) (i : ℕ) → i < 16 → getD (timerAfter calls .state .counts) i 0 ≡ min 65535 (overruns i (reportsIn calls))
 counts-are calls i h = rw (counts-from freshTimer freshState calls refl) (overruns-counted i [] h (reportsIn calls))
 
 -- The sum
@@ -96,7 +96,7 @@ total-both a b (suc n) i = omega (arith, total-both a b n (i + 1))
 -- 1 at one place: none is seen from behind it, one from before it
 module _ (task : ℕ) where
   abbrev one-there : ℕ → ℕ
-  one-there i = bit (both (eqb task i) true)
+  one-there i = bit (eqb task i && true)
 
   behind : (n i : ℕ) → task < i → total one-there n i ≡ 0
   unfolding total
@@ -120,11 +120,11 @@ module _ (task : ℕ) where
           omega (arith, rest (omega arith))
 
 -- one report counts once, for its own task
-own-task : (task : ℕ) (over : Bool) → (over ≡ true → task < 16) → total (λ i. bit (both (eqb task i) over)) 16 0 ≡ bit over
+own-task : (task : ℕ) (over : Bool) → (over ≡ true → task < 16) → total (λ i. bit (eqb task i && over)) 16 0 ≡ bit over
 own-task task true few = before task 16 0 (omega arith) (omega (arith, few refl))
-own-task task false few = total-none (λ i. bit (both (eqb task i) false)) (λ i. none (eqb task i)) 16 0
+own-task task false few = total-none (λ i. bit (eqb task i && false)) (λ i. none (eqb task i)) 16 0
   where
-    none : (b : Bool) → bit (both b false) ≡ 0
+    none : (b : Bool) → bit (b && false) ≡ 0
     none true = refl
     none false = refl
 
@@ -133,7 +133,7 @@ few-tasks : (bytes : List ℕ) (task ticks : ℕ) → overran (reading bytes) ta
 unfolding overran
 few-tasks bytes task ticks e = go (reading bytes) refl e
   where
-    known : (b over : Bool) → both b over ≡ true → b ≡ true
+    known : (b over : Bool) → b && over ≡ true → b ≡ true
     known true over q = refl
     known false over q = q
 
@@ -143,18 +143,20 @@ few-tasks bytes task ticks e = go (reading bytes) refl e
         omega (arith, readable-kept bytes tasks pairs g is .few-tasks)
     go (unreadable number) is q = absurd (false≢true q)
 
-all-above : (calls : List Call) → total (λ i. overruns i (reportsIn calls)) 16 0 ≡ aboveIn calls
+all-above : (calls : List RegisterCall) → total (λ i. overruns i (reportsIn calls)) 16 0 ≡ aboveIn calls
 unfolding total reportsIn aboveIn overruns
 all-above [] = refl
 all-above (report bytes task ticks ∷ cs) =
     let over = overran (reading bytes) task ticks in
     let own = own-task task over (few-tasks bytes task ticks) in
-    total-both (λ i. bit (both (eqb task i) over)) (λ i. overruns i (reportsIn cs)) 16 0 ∙ omega (arith, own, all-above cs)
+    total-both (λ i. bit (eqb task i && over)) (λ i. overruns i (reportsIn cs)) 16 0 ∙ omega (arith, own, all-above cs)
 all-above (read address ∷ cs) = all-above cs ∙ sym (zero-add (aboveIn cs))
 all-above (write address value ∷ cs) = all-above cs ∙ sym (zero-add (aboveIn cs))
 all-above (event ∷ cs) = all-above cs ∙ sym (zero-add (aboveIn cs))
 all-above (serve bytes ∷ cs) = all-above cs ∙ sym (zero-add (aboveIn cs))
 all-above (line ∷ cs) = all-above cs ∙ sym (zero-add (aboveIn cs))
 
-pub sum-of-all : (calls : List Call) → sumShown (timerAfter calls .state .counts) ≡ min 65535 (aboveIn calls)
-sum-of-all calls = capped (timerAfter calls .state .counts) (λ i. overruns i (reportsIn calls)) (counts-are calls) 16 0 (omega arith) ∙ ap (min 65535) (all-above calls)
+pub sum-of-all : (calls : List RegisterCall) → sumShown (timerAfter calls .state .counts) ≡ min 65535 (aboveIn calls)
+sum-of-all calls =
+    rw (sum-is (timerAfter calls .state .counts))
+    (capped (timerAfter calls .state .counts) (λ i. overruns i (reportsIn calls)) (counts-are calls) 16 0 (omega arith) ∙ ap (min 65535) (all-above calls))

@@ -1,13 +1,13 @@
 -- The registers after every list: the bits by one call more behind a list, the dispatcher's state and the answers from the front.
 use Prim.Native.Nat.{ℕ, zero, suc, _/_, _%_, _<_}
 use mathlib.Core.Path.{_≡_, refl, ap, _∙_}
-use mathlib.Core.Bool.{Bool, true, false, false≢true}
+use mathlib.Core.Bool.{Bool, true, false, false≢true, _&&_}
 use mathlib.Core.Logic.{_↔_}
 use mathlib.Core.List.{List, [], _∷_, _++_}
 use native.Mathlib.Omega.{arith}
 use lib.ListN.{length, getD, take}
 use lib.Dec.{eqb}
-use Rattle.cursor.specs.Choice.{both, bit}
+use Rattle.cursor.specs.Choice.{bit}
 use Rattle.request.specs.Request.{reading}
 use Rattle.table.specs.Table.{decode}
 use Rattle.dispatcher.specs.Dispatch.{reported}
@@ -20,7 +20,7 @@ use Rattle.timer.specs.RegisterLaws.{serve-none, serve-refused, serve-made}
 use Rattle.timer.specs.ShownLaws.{control-shown, status-shown, row-shown, sum-is-shown, free-shown, due-bit, overrun-bit, missed-bit, line-shown}
 use Rattle.timer.specs.ShownLaws.{fresh-read, write-eight, write-above, write-refused-still, serve-due, refused-below}
 use Rattle.timer.specs.declared.Timer.{Timer}
-use Rattle.flight_timer.specs.Calls.{Call, read, write, event, serve, report, line, nothing, turn, answersFrom, timerFrom, timerAfter, numberIn}
+use Rattle.flight_timer.specs.Calls.{RegisterCall, read, write, event, serve, report, line, nothing, turn, registerAnswersFrom, timerFrom, timerAfter, numberAnswered}
 use Rattle.flight_timer.specs.Told.{controlThen, controlFrom, controlAfter, RunSet, MakesDue, Serves, FrameDue, Clears, Overruns, OverrunMarked}
 use Rattle.flight_timer.specs.Told.{Misses, MissMarked, askedFrom, dispatched, Told, RegistersTold}
 use Rattle.flight_timer.specs.SinceLaws.{every, bit-step}
@@ -30,19 +30,19 @@ use Rattle.flight_timer.specs.SumLaws.{counts-are, sum-of-all}
 
 -- One call more behind a list
 
-module _ (c : Call) where
-  timer-more : (t : Timer) (calls : List Call) → timerFrom t (calls ++ (c ∷ [])) ≡ turn (timerFrom t calls) c .after
+module _ (c : RegisterCall) where
+  timer-more : (t : Timer) (calls : List RegisterCall) → timerFrom t (calls ++ (c ∷ [])) ≡ turn (timerFrom t calls) c .after
   unfolding timerFrom
   timer-more t [] = refl
   timer-more t (d ∷ calls) = timer-more (turn t d .after) calls
 
-  control-more : (last : ℕ) (calls : List Call) → controlFrom last (calls ++ (c ∷ [])) ≡ controlThen (controlFrom last calls) c
+  control-more : (last : ℕ) (calls : List RegisterCall) → controlFrom last (calls ++ (c ∷ [])) ≡ controlThen (controlFrom last calls) c
   unfolding controlFrom
   control-more last [] = refl
   control-more last (d ∷ calls) = control-more (controlThen last d) calls
 
 -- control and the bits of status are as told
-pub record Kept (calls : List Call) : Type 0 where
+pub record Kept (calls : List RegisterCall) : Type 0 where
   pub control-kept : timerAfter calls .control ≡ controlOf (controlAfter calls)
   pub due-kept : (timerAfter calls .status .due ≡ true) ↔ FrameDue calls
   pub overrun-kept : (timerAfter calls .status .overrun ≡ true) ↔ OverrunMarked calls
@@ -58,11 +58,11 @@ kept-none = record {
   missed-kept = (λ e. absurd (false≢true e), λ s. absurd (omega (arith, s .within)));
 }
 
-both-decide : (a b : Bool) (A B : Type 0) → (a ≡ true) ↔ A → (b ≡ true) ↔ B → (both a b ≡ true) ↔ (A × B)
+both-decide : (a b : Bool) (A B : Type 0) → (a ≡ true) ↔ A → (b ≡ true) ↔ B → (a && b ≡ true) ↔ (A × B)
 both-decide true b A B p q = (λ e. (p .0 refl, q .0 e), λ w. q .1 (w .1))
 both-decide false b A B p q = (λ e. absurd (false≢true e), λ w. p .1 (w .0))
 
-kept-more : (calls : List Call) (c : Call) → Kept calls → Kept (calls ++ (c ∷ []))
+kept-more : (calls : List RegisterCall) (c : RegisterCall) → Kept calls → Kept (calls ++ (c ∷ []))
 kept-more calls c k =
     let t = timerAfter calls in
     let after = timer-more c freshTimer calls in
@@ -75,22 +75,22 @@ kept-more calls c k =
       overrun-kept = rw after (bit-step calls c Overruns (Clears 2) (t .status .overrun) _ _ _ (overrun-step t c) (overrun-decides c) (clear-decides 2 c)
           (k .overrun-kept));
       missed-kept = rw after (bit-step calls c Misses (Clears 4) (t .status .missed) _ _ _ (missed-step t c)
-          (event-decides (both (t .control .run) (t .status .due)) (RunSet calls × FrameDue calls) missing c) (clear-decides 4 c) (k .missed-kept));
+          (event-decides (t .control .run && t .status .due) (RunSet calls × FrameDue calls) missing c) (clear-decides 4 c) (k .missed-kept));
     }
 
-kept : (calls : List Call) → Kept calls
+kept : (calls : List RegisterCall) → Kept calls
 kept calls = every Kept kept-none kept-more calls
 
 -- From the front: the dispatcher's state, and the answers
 
-state-from : (t : Timer) (calls : List Call) → timerFrom t calls .state ≡ dispatched (t .state) (askedFrom t calls)
+state-from : (t : Timer) (calls : List RegisterCall) → timerFrom t calls .state ≡ dispatched (t .state) (askedFrom t calls)
 unfolding timerFrom askedFrom dispatched
 state-from t [] = refl
 state-from t (c ∷ cs) = state-from (turn t c .after) cs ∙ state-step t c (askedFrom (turn t c .after) cs)
 
-answers-from : (t : Timer) (calls : List Call) (i : ℕ) → i < length calls
-    → getD (answersFrom t calls) i nothing ≡ turn (timerFrom t (take i calls)) (getD calls i line) .answer
-unfolding answersFrom timerFrom
+answers-from : (t : Timer) (calls : List RegisterCall) (i : ℕ) → i < length calls
+    → getD (registerAnswersFrom t calls) i nothing ≡ turn (timerFrom t (take i calls)) (getD calls i line) .answer
+unfolding registerAnswersFrom timerFrom
 answers-from t [] i h = absurd (omega arith)
 answers-from t (c ∷ cs) zero h = refl
 answers-from t (c ∷ cs) (suc i) h = answers-from (turn t c .after) cs i (omega arith)
@@ -110,7 +110,7 @@ not-set false ne = refl
 
 -- A refused call changes nothing
 
-still : (t : Timer) (c : Call) → (numberIn (turn t c .answer) ≡ 0 → ⊥) → turn t c .after ≡ t
+still : (t : Timer) (c : RegisterCall) → (numberAnswered (turn t c .answer) ≡ 0 → ⊥) → turn t c .after ≡ t
 unfolding turn
 still t (read address) ne = refl
 still t (write address value) ne = write-refused-still address value t ne
@@ -130,7 +130,7 @@ pub registers-told : RegistersTold
 unfolding turn
 registers-told = (fresh-read, told)
   where
-    told : (calls : List Call) → Told calls
+    told : (calls : List RegisterCall) → Told calls
     told calls =
         let t = timerAfter calls in
         let k = kept calls in

@@ -1,8 +1,9 @@
 -- What `fly` prints for a request, as bytes: `refused N`, or three cycles of its table in flight, with a line `frame m start t` for each frame and in it
 -- the entries served as task.job@q, where q is the cycle of the job. Each line ends in a newline, the last one too.
-use Prim.Native.Nat.{ℕ, zero, suc, _+_, _-_, _*_, _/_}
-use mathlib.Core.List.{List, [], _++_}
-use Rattle.cursor.specs.Choice.{pick}
+use Prim.Native.Nat.{ℕ, _-_, _*_, _/_}
+use mathlib.Core.List.{List, _++_, flatMap}
+use mathlib.Core.Bool.{cond}
+use Rattle.cursor.specs.Range.{range}
 use Rattle.table.specs.Table.{Entry, Table}
 use Rattle.plan_writer.specs.Outcome.{Outcome, handed, refusal}
 use Rattle.planner.specs.Outcome.{programOutcome}
@@ -12,7 +13,7 @@ use Rattle.plan_listing.specs.Listing.{refusedLine, named, each}
 
 -- "An entry of frame m in cycle q = m div F stands for its job of cycle q, or of cycle q − 1 if carried"
 unfoldable pub jobCycle : ℕ → Entry → ℕ
-jobCycle q e = pick (e .carried) (q - 1) q
+jobCycle q e = cond (e .carried) (q - 1) q
 
 unfoldable pub servedText : ℕ → Entry → List ℕ
 servedText q e = named e ++ ascii "@" ++ decimalOf (jobCycle q e)
@@ -21,14 +22,13 @@ servedText q e = named e ++ ascii "@" ++ decimalOf (jobCycle q e)
 unfoldable pub frameLine : ℕ → ℕ → ℕ → List Entry → List ℕ
 frameLine m t q es = ascii "frame " ++ decimalOf m ++ ascii " start " ++ decimalOf t ++ each (servedText q) es ++ ascii "\n"
 
--- n frames from frame m on: "In frame m (from 0) the first entry served starts at m·f"
-unfoldable pub frameLines : Table → ℕ → ℕ → List ℕ
-frameLines t zero m = []
-frameLines t (suc n) m = frameLine m (m * t .f) (m / height t) (plainFrame t m) ++ frameLines t n (m + 1)
+-- "In frame m (from 0) the first entry served starts at m·f"
+abbrev pub lineAt : Table → ℕ → List ℕ
+lineAt t m = frameLine m (m * t .f) (m / height t) (plainFrame t m)
 
 -- three cycles
 abbrev pub flightLines : Table → List ℕ
-flightLines t = frameLines t (3 * height t) 0
+flightLines t = flatMap (lineAt t) (range 0 (3 * height t))
 
 abbrev pub flown : Outcome → List ℕ
 flown (handed t) = flightLines t

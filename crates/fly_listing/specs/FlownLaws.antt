@@ -1,9 +1,10 @@
 -- The laws by which a flight is listed: a turn of the loop over the frames and its end, and what the dispatcher gives for a frame.
 use Prim.Native.Nat.{ℕ, _+_, _-_, _*_, _/_, _%_, _≤_, _<_}
 use mathlib.Core.Path.{_≡_, refl, sym, ap, _∙_}
-use mathlib.Core.List.{List}
+use mathlib.Core.List.{List, flatMap}
 use native.Mathlib.Nat.{mod-lt}
 use native.Mathlib.Omega.{arith}
+use Rattle.cursor.specs.Range.{range}
 use Rattle.table.specs.Table.{Table, Decoded, table, malformed, decode, rowOf}
 use Rattle.table.specs.Inverse.{decode-wellformed}
 use Rattle.table.specs.RisingLaws.{rising-few, row-rises}
@@ -20,16 +21,20 @@ use Rattle.text.specs.Text.{Filled, putAllOf}
 use Rattle.text.specs.TextLaws.{put-none, put-append}
 use Rattle.plan_listing.specs.Listing.{refusedLine}
 use Rattle.plan_listing.specs.Answers.{tableIn}
-use Rattle.fly_listing.specs.Flown.{frameLine, frameLines, flightLines, flown, flightListing}
+use Rattle.fly_listing.specs.Flown.{frameLine, lineAt, flightLines, flown, flightListing}
+
+-- n frames from frame m on
+abbrev pub frameLines : Table → ℕ → ℕ → List ℕ
+frameLines t n m = flatMap (lineAt t) (range m n)
 
 -- n frames in all, the next is m
 module _ (t : Table) (n m : ℕ) (x : Filled) where
   pub frames-turn : m < n → putAllOf (putAllOf x (frameLine m (m * t .f) (m / height t) (plainFrame t m))) (frameLines t (n - (m + 1)) (m + 1)) ≡ putAllOf x (frameLines t (n - m) m)
-  unfolding frameLines
+  unfolding flatMap
   frames-turn h = rw (less-one n m h) (sym (put-append x _ _))
 
   pub frames-end : n ≤ m → putAllOf x (frameLines t (n - m) m) ≡ x
-  unfolding frameLines
+  unfolding flatMap
   frames-end h = rw (none-left n m h) (put-none x)
 
 -- the state after m frames, nothing reported

@@ -2,15 +2,14 @@
 -- with at most 9 bytes each. So `fly` never cuts one.
 use Prim.Native.Nat.{ℕ, zero, suc, _+_, _-_, _*_, _/_, _%_, _≤_, _<_}
 use mathlib.Core.Path.{_≡_, ap, _∙_}
-use mathlib.Core.Bool.{Bool, true, false}
-use mathlib.Core.List.{List, [], _++_, append-assoc}
+use mathlib.Core.Bool.{Bool, true, false, cond}
+use mathlib.Core.List.{List, [], _++_, flatMap, append-assoc}
 use native.Mathlib.Nat.{mod-eq-of-lt, add-mod-left, zero-add, add-assoc, mul-assoc, div-lt-iff-lt-mul, mul-le-mul-right}
 use native.Mathlib.Numerals.{add-one}
 use native.Mathlib.Omega.{arith}
 use lib.ListN.{length, drop, length-append}
 use lib.Seq.{drop-cons}
 use lib.Dec.{ltb}
-use Rattle.cursor.specs.Choice.{pick}
 use Rattle.table.specs.Table.{Entry, Table, rowOf}
 use Rattle.table.specs.WellFormed.{RisingFrom}
 use Rattle.table.specs.RisingLaws.{row-rises}
@@ -23,13 +22,14 @@ use Rattle.flight.specs.Calls.{height, plainFrame}
 use Rattle.text.specs.Text.{PutIn}
 use Rattle.text.specs.TextLaws.{decimal-length, put-whole}
 use Rattle.plan_listing.specs.ShortLaws.{name-length, each-length, refused-length}
-use Rattle.fly_listing.specs.Flown.{jobCycle, servedText, frameLine, frameLines, flown, flightListing}
+use Rattle.fly_listing.specs.Flown.{jobCycle, servedText, frameLine, flown, flightListing}
+use Rattle.fly_listing.specs.FlownLaws.{frameLines}
 
 cycle-few : (q : ℕ) (e : Entry) → jobCycle q e ≤ q
 unfolding jobCycle
 cycle-few q e = go (e .carried)
   where
-    go : (b : Bool) → pick b (q - 1) q ≤ q
+    go : (b : Bool) → cond b (q - 1) q ≤ q
     go true = omega arith
     go false = omega arith
 
@@ -43,7 +43,7 @@ line-length m t q es a b c rises =
     simp length-append (omega (arith, decimal-length 2 m a, decimal-length 4 t b, each-length (servedText q) 9 (served-length q c) es 0 rises))
 
 frames-split : (t : Table) (a b m : ℕ) → frameLines t (a + b) m ≡ frameLines t a m ++ frameLines t b (m + a)
-unfolding frameLines
+unfolding flatMap
 frames-split t zero b m = let same : m + 0 ≡ m = omega arith in let none : 0 + b ≡ b = omega arith in rw (same, none)
 frames-split t (suc a) b m =
     let more : suc a + b ≡ suc (a + b) = omega arith in
@@ -66,7 +66,7 @@ module _ (t : Table) (good : GoodTable t) where
   -- n frames are left of a cycle that begins at frame b, the next is b + j
   module _ (b : ℕ) (begins : (j : ℕ) → j < height t → (b + j) % height t ≡ j) (within : b + height t ≤ 3 * height t) where
     cycle-length : (n j : ℕ) → j + n ≡ height t → length (frameLines t n (b + j)) ≤ 22 * n + 9 * entryCount (drop j (t .rows))
-    unfolding frameLines entryCount
+    unfolding flatMap entryCount
     cycle-length zero j e = omega arith
     cycle-length (suc n) j e =
         let here : j < height t = omega arith in

@@ -4,7 +4,7 @@ use dispatcher::Frame;
 use table::Sizes;
 ghost use Prim.Native.Nat.{_*_, _/_, _-_, _≤_, _<_};
 ghost use mathlib.Core.Path.{_≡_};
-ghost use Rattle.cursor.specs.Choice.{pick};
+ghost use mathlib.Core.Bool.{cond};
 ghost use Rattle.table.specs.Table.{carriedIn, entryOf, decode};
 ghost use Rattle.dispatcher.specs.Dispatch.{entriesOf};
 ghost use Rattle.text.specs.Text.{filledTo, putAllOf, PutIn};
@@ -14,7 +14,7 @@ ghost use Rattle.fly_listing.specs.Flown.{servedText, frameLine, flightL
 
 // The cycle of an entry's job, in cycle q: a carried one is of the cycle before.
 fn job_cycle(job: u8, q: u32) -> u32
-    ensures { λ r. ⌜ r ≡ pick (carriedIn job) (q - 1) q ⌝ }
+    ensures { λ r. ⌜ r ≡ cond (carriedIn job) (q - 1) q ⌝ }
 {
     if !table::job::is_carried(job) {
         return q;

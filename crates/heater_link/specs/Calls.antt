@@ -6,7 +6,7 @@ use mathlib.Core.List.{List, [], _∷_}
 use lib.ListN.{length, getD}
 use Rattle.heater_link.specs.Machine.{countOf}
 use Rattle.heater_link.specs.Law.{Lawful}
-use Rattle.heater_link.specs.Exchange.{freshLink, refused, exchange}
+use Rattle.heater_link.specs.Exchange.{freshLink, refusedExchange, exchange}
 use Rattle.heater_link.specs.declared.Link.{Link}
 use Rattle.heater_link.specs.declared.Losses.{Losses}
 use Rattle.heater_link.specs.declared.Exchange.{Exchange}
@@ -23,9 +23,9 @@ abbrev pub exchangeOf : Link → Ask → Exchange
 exchangeOf s q = exchange (q .a) (q .b) (q .lost) (q .request) (q .table) s
 
 -- each call takes the link that the last one returned
-unfoldable pub answersFrom : Link → List Ask → List Exchange
-answersFrom s [] = []
-answersFrom s (q ∷ asks) = exchangeOf s q ∷ answersFrom (exchangeOf s q .link) asks
+unfoldable pub exchangesFrom : Link → List Ask → List Exchange
+exchangesFrom s [] = []
+exchangesFrom s (q ∷ asks) = exchangeOf s q ∷ exchangesFrom (exchangeOf s q .link) asks
 
 unfoldable pub linkFrom : Link → List Ask → Link
 linkFrom s [] = s
@@ -40,10 +40,10 @@ module _ (asks : List Ask) where
 
   -- "neither end restarts": the list starts from the fresh link
   abbrev pub answersGiven : List Exchange
-  answersGiven = answersFrom freshLink asks
+  answersGiven = exchangesFrom freshLink asks
 
   abbrev pub answerAt : ℕ → Exchange
-  answerAt m = getD answersGiven m (refused 0 freshLink)
+  answerAt m = getD answersGiven m (refusedExchange 0 freshLink)
 
   -- Call m
 

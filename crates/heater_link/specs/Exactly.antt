@@ -4,7 +4,7 @@ use mathlib.Core.Path.{_≡_}
 use mathlib.Core.Logic.{_↔_}
 use mathlib.Core.List.{List}
 use lib.ListN.{length}
-use Rattle.cursor.specs.Front.{Bytes}
+use Rattle.cursor.specs.Fields.{Bytes}
 use Rattle.table.specs.Table.{decode}
 use Rattle.table.specs.declared.Row.{Row}
 use Rattle.model.specs.Plan.{Instance, pairAt}
@@ -12,7 +12,7 @@ use Rattle.model.specs.Described.{Accepted}
 use Rattle.checker.specs.Checked.{checkNumber}
 use Rattle.checker.specs.Exactly.{OfBoth}
 use Rattle.dispatcher.specs.Dispatch.{nextFrame, rowShown}
-use Rattle.heater_link.specs.Exchange.{refused, exchange}
+use Rattle.heater_link.specs.Exchange.{refusedExchange, exchange}
 use Rattle.heater_link.specs.declared.Link.{Link}
 use Rattle.heater_link.specs.declared.Losses.{Losses}
 use Rattle.heater_link.specs.declared.Exchange.{Exchange}
@@ -40,7 +40,7 @@ module _ (request bytes : List ℕ) (a b : ℕ) (lost : Losses) (s : Link) where
     pub fifteen : (given .refusal ≡ 15) ↔ OfBoth request bytes (λ x t. Accepted x t × IsPair x a b × (length (t .rows) ≤ s .state .row))
     pub served : (given .refusal ≡ 0) ↔ OfBoth request bytes (λ x t. Accepted x t × IsPair x a b × (s .state .row < length (t .rows)))
     -- "A refusal returns its number, .. no entries, the state unchanged"
-    pub refused-still : (given .refusal ≡ 0 → ⊥) → given ≡ refused (given .refusal) s
+    pub refused-still : (given .refusal ≡ 0 → ⊥) → given ≡ refusedExchange (given .refusal) s
     -- "A call serves one frame .. and answers next-frame's entries"
     pub next-frames : given .refusal ≡ 0 → rowAnswered given ≡ rowShown (nextFrame (decode bytes) (s .state))
     pub frame-after : given .refusal ≡ 0 → given .link .state ≡ nextFrame (decode bytes) (s .state) .state

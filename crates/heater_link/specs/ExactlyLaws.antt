@@ -7,15 +7,17 @@ use mathlib.Core.List.{List}
 use native.Mathlib.Omega.{arith}
 use lib.ListN.{length}
 use Rattle.cursor.specs.ChoiceLaws.{lt-or-ge}
-use Rattle.cursor.specs.Front.{Bytes}
+use Rattle.cursor.specs.Fields.{Bytes}
 use Rattle.cursor.specs.ParsedLaws.{never}
 use Rattle.cycle.specs.Cycle.{noCycle, cycleOf}
 use Rattle.cycle.specs.LimitLaws.{no-cycle-number, request-number-own}
 use Rattle.table.specs.Table.{Table, Decoded, table, malformed, decode, rowOf}
-use Rattle.table.specs.TableBytes.{SaysTable, says-decodes, decodes-says}
+use Rattle.table.specs.TableBytes.{SaysTable}
+use Rattle.table.specs.TableBytesLaws.{says-decodes, decodes-says}
 use Rattle.table.specs.AnswerLaws.{given-refusal}
 use Rattle.model.specs.Plan.{Instance}
-use Rattle.model.specs.Within.{Within, within-or-not}
+use Rattle.model.specs.Within.{Within}
+use Rattle.model.specs.WithinLaws.{within-or-not}
 use Rattle.model.specs.Described.{Accepted}
 use Rattle.checker.specs.Checked.{Verdict, accepted, refusal, checked, checkNumber}
 use Rattle.checker.specs.Exactly.{SizesFit}
@@ -24,7 +26,7 @@ use Rattle.checker.specs.Verdicts.{refusal-number}
 use Rattle.dispatcher.specs.Dispatch.{served, nextFrame}
 use Rattle.dispatcher.specs.declared.Frame.{Frame}
 use Rattle.dispatcher.specs.FrameLaws.{frame-served, frame-behind}
-use Rattle.heater_link.specs.Exchange.{refused, servedIn, exchangedIn, isPair, pairsIn}
+use Rattle.heater_link.specs.Exchange.{refusedExchange, servedIn, exchangedIn, isPair, pairsIn}
 use Rattle.heater_link.specs.StepLaws.{check-refuses, pair-refused, pair-served, frame-exchanged}
 use Rattle.heater_link.specs.PairLaws.{is-pair-says, says-is-pair}
 use Rattle.heater_link.specs.Exactly.{IsPair, rowAnswered, given, ExchangeExact, LinkExact}
@@ -65,12 +67,12 @@ module _ (request bytes : List ℕ) (are : Bytes bytes) (a b : ℕ) (lost : Loss
   -- of a pair: 15; or a frame
   abbrev InRow : Table → Type 0
   InRow t =
-      ((length (t .rows) ≤ s .state .row) × (got ≡ refused 15 s))
+      ((length (t .rows) ≤ s .state .row) × (got ≡ refusedExchange 15 s))
       ⊎ ((s .state .row < length (t .rows)) × (got ≡ exchangedIn a b lost frame s) × (frame .refusal ≡ 0))
 
   -- what an accepted table is answered: 30; or that
   abbrev Answer : Instance → Table → Type 0
-  Answer x t = ((IsPair x a b → ⊥) × (got ≡ refused 30 s)) ⊎ (IsPair x a b × InRow t)
+  Answer x t = ((IsPair x a b → ⊥) × (got ≡ refusedExchange 30 s)) ⊎ (IsPair x a b × InRow t)
 
   module _ (x : Instance) (within : Within request x) (t : Table) (says : SaysTable bytes t) (acc : Accepted x t) where
     pass : checkNumber request bytes ≡ 0
@@ -101,7 +103,7 @@ module _ (request bytes : List ℕ) (are : Bytes bytes) (a b : ℕ) (lost : Loss
 
   -- the check's number, or an accepted table's answer
   cases : (Goal : Type 0)
-      → ((n : ℕ) → 0 < n → n ≤ 17 → checkNumber request bytes ≡ n → got ≡ refused n s → Goal)
+      → ((n : ℕ) → 0 < n → n ≤ 17 → checkNumber request bytes ≡ n → got ≡ refusedExchange n s → Goal)
       → ((x : Instance) → Within request x → (t : Table) → SaysTable bytes t → Accepted x t → Answer x t → Goal)
       → Goal
   cases Goal refuses takes = go (checked (cycleOf request) (decode bytes)) refl
@@ -153,9 +155,9 @@ module _ (request bytes : List ℕ) (are : Bytes bytes) (a b : ℕ) (lost : Loss
       λ c. ⊎-elim (λ v. absurd (v .0 (c .4 .1)))
           (λ v. ⊎-elim (λ u. absurd (omega (arith, u .0, c .4 .2))) (λ u. served-number (u .1) (u .2)) (v .1)) (answered (c .0) (c .1) (c .2) (c .3) (c .4 .0)),
     );
-    refused-still = λ ne. cases (got ≡ refused (got .refusal) s) (λ n l h e r. r ∙ ap (λ (k : ℕ). refused k s) (sym (number-of r)))
-        (λ x within t says acc w. ⊎-elim (λ v. v .1 ∙ ap (λ (k : ℕ). refused k s) (sym (number-of (v .1))))
-        (λ v. ⊎-elim (λ u. u .1 ∙ ap (λ (k : ℕ). refused k s) (sym (number-of (u .1)))) (λ u. absurd (ne (served-number (u .1) (u .2)))) (v .1)) w);
+    refused-still = λ ne. cases (got ≡ refusedExchange (got .refusal) s) (λ n l h e r. r ∙ ap (λ (k : ℕ). refusedExchange k s) (sym (number-of r)))
+        (λ x within t says acc w. ⊎-elim (λ v. v .1 ∙ ap (λ (k : ℕ). refusedExchange k s) (sym (number-of (v .1))))
+        (λ v. ⊎-elim (λ u. u .1 ∙ ap (λ (k : ℕ). refusedExchange k s) (sym (number-of (u .1)))) (λ u. absurd (ne (served-number (u .1) (u .2)))) (v .1)) w);
     next-frames = λ z. let w = served-is z in ap rowAnswered (w .0) ∙ rw (w .1);
     frame-after = λ z. ap (λ (r : Exchange). r .link .state) (served-is z .0);
   }

@@ -3,36 +3,31 @@
 -- frame by frame, and each clause of the law reads it off.
 use Prim.Native.Nat.{ℕ, zero, suc, _+_, _≤_, _<_}
 use mathlib.Core.Path.{_≡_, refl, sym, ap, subst, _∙_}
-use mathlib.Core.Bool.{Bool, true, false, not, false≢true}
+use mathlib.Core.Bool.{Bool, true, false, not, false≢true, cond, _&&_}
 use mathlib.Core.Logic.{_⊎_, inl, inr, ⊎-elim}
 use mathlib.Core.List.{List, [], _∷_}
 use native.Mathlib.Omega.{arith}
 use lib.ListN.{length, getD}
-use Rattle.cursor.specs.Choice.{pick, both, bit}
+use Rattle.cursor.specs.Choice.{bit}
 use Rattle.cursor.specs.ChoiceLaws.{lt-or-ge}
 use Rattle.cursor.specs.ParsedLaws.{both-true}
-use Rattle.heater_link.specs.Machine.{Ends, freshEnds, Arrivals, Outcome, differ, outcome, endsNow, outcomes, countOf}
-use Rattle.heater_link.specs.Law.{FirstReply, FirstCopy, UnderWay, Lawful}
-
-abbrev pub noArrivals : Arrivals
-noArrivals = record { command = false; reply = false }
-
-abbrev pub noOutcome : Outcome
-noOutcome = record { toggled = false; answered = false }
-
--- What happens in frame m of a list: nothing behind its end
-module _ (xs : List Arrivals) where
-  abbrev pub arrivalsAt : ℕ → Arrivals
-  arrivalsAt m = getD xs m noArrivals
-
-  abbrev pub outcomeAt : ℕ → Outcome
-  outcomeAt m = getD (outcomes freshEnds xs) m noOutcome
-
-  -- THE LAW of the two ends
-  abbrev pub EndsLaw : Type 0
-  EndsLaw =
-      Lawful (length xs) (λ m. arrivalsAt m .command ≡ true) (λ m. arrivalsAt m .reply ≡ true) (λ m. outcomeAt m .toggled ≡ true)
-      (λ m. outcomeAt m .answered ≡ true) (countOf (λ (o : Outcome). o .toggled) (outcomes freshEnds xs)) (countOf (λ (o : Outcome). o .answered) (outcomes freshEnds xs))
+use Rattle.heater_link.specs.Machine.{
+  Ends,
+  freshEnds,
+  Arrivals,
+  Effect,
+  differ,
+  outcome,
+  endsNow,
+  outcomes,
+  countOf,
+  noArrivals,
+  noOutcome,
+  arrivalsAt,
+  outcomeAt,
+  EndsLaw,
+}
+use Rattle.heater_link.specs.Law.{FirstReply, FirstCopy, UnderWay}
 
 -- One frame
 
@@ -41,15 +36,15 @@ waits e = differ (e .master) (e .obeyed)
 
 -- after the frame's command
 abbrev waitsThen : Bool → Bool → Bool
-waitsThen command w = both (not command) w
+waitsThen command w = not command && w
 
 -- what the toggles have more than the answers: a command under way
 abbrev pending : Ends → ℕ
 pending e = bit (not (waits e))
 
 record OneFrame (e : Ends) (x : Arrivals) : Type 0 where
-  pub answered-by : outcome e x .answered ≡ both (x .reply) (not (waitsThen (x .command) (waits e)))
-  pub waits-next : waits (endsNow e x) ≡ pick (outcome e x .answered) true (waitsThen (x .command) (waits e))
+  pub answered-by : outcome e x .answered ≡ x .reply && not (waitsThen (x .command) (waits e))
+  pub waits-next : waits (endsNow e x) ≡ cond (outcome e x .answered) true (waitsThen (x .command) (waits e))
   pub counted : bit (outcome e x .toggled) + pending e ≡ bit (outcome e x .answered) + pending (endsNow e x)
 
 one-frame : (e : Ends) (x : Arrivals) → OneFrame e x
@@ -97,7 +92,7 @@ ends-next e (x ∷ xs) (suc m) = ends-next (endsNow e x) xs m
 -- Counts
 
 all-counted : (e : Ends) (xs : List Arrivals)
-    → countOf (λ (o : Outcome). o .toggled) (outcomes e xs) + pending e ≡ countOf (λ (o : Outcome). o .answered) (outcomes e xs) + pending (endsAfter e xs (length xs))
+    → countOf (λ (o : Effect). o .toggled) (outcomes e xs) + pending e ≡ countOf (λ (o : Effect). o .answered) (outcomes e xs) + pending (endsAfter e xs (length xs))
 unfolding outcomes countOf endsAfter
 all-counted e [] = refl
 all-counted e (x ∷ xs) = omega (arith, one-frame e x .counted, all-counted (endsNow e x) xs)
@@ -134,16 +129,16 @@ module _ (xs : List Arrivals) where
   abbrev Open : ℕ → ℕ → Type 0
   Open j m = (k : ℕ) → j ≤ k → k < m → a k ≡ true → ⊥
 
-  toggled-is : (m : ℕ) → outcomeAt xs m .toggled ≡ both (c m) (w m)
+  toggled-is : (m : ℕ) → outcomeAt xs m .toggled ≡ c m && w m
   toggled-is m = rw (outcome-at freshEnds xs m)
 
-  answered-is : (m : ℕ) → a m ≡ both (r m) (not (waitsThen (c m) (w m)))
-  answered-is m = ap (λ (o : Outcome). o .answered) (outcome-at freshEnds xs m) ∙ one-frame (endsAfter freshEnds xs m) (arrivalsAt xs m) .answered-by
+  answered-is : (m : ℕ) → a m ≡ r m && not (waitsThen (c m) (w m))
+  answered-is m = ap (λ (o : Effect). o .answered) (outcome-at freshEnds xs m) ∙ one-frame (endsAfter freshEnds xs m) (arrivalsAt xs m) .answered-by
 
-  w-next : (m : ℕ) → w (suc m) ≡ pick (a m) true (waitsThen (c m) (w m))
+  w-next : (m : ℕ) → w (suc m) ≡ cond (a m) true (waitsThen (c m) (w m))
   w-next m =
       ap waits (ends-next freshEnds xs m) ∙ one-frame (endsAfter freshEnds xs m) (arrivalsAt xs m) .waits-next
-      ∙ ap (λ (o : Outcome). pick (o .answered) true (waitsThen (c m) (w m))) (sym (outcome-at freshEnds xs m))
+      ∙ ap (λ (o : Effect). cond (o .answered) true (waitsThen (c m) (w m))) (sym (outcome-at freshEnds xs m))
 
   -- the current command before frame m: no copy of it arrived and the ends wait, or one did and they do not
   data Current (m : ℕ) : Type 0 where
@@ -245,10 +240,10 @@ module _ (xs : List Arrivals) where
   IsUnderWay = UnderWay (length xs) (λ k. c k ≡ true) (λ k. r k ≡ true) (λ k. t k ≡ true) (λ k. a k ≡ true)
 
   abbrev done : ℕ
-  done = countOf (λ (o : Outcome). o .toggled) (outcomes freshEnds xs)
+  done = countOf (λ (o : Effect). o .toggled) (outcomes freshEnds xs)
 
   abbrev answered : ℕ
-  answered = countOf (λ (o : Outcome). o .answered) (outcomes freshEnds xs)
+  answered = countOf (λ (o : Effect). o .answered) (outcomes freshEnds xs)
 
   counts : Current (length xs) → ((done ≡ answered) × (IsUnderWay → ⊥)) ⊎ ((done ≡ answered + 1) × IsUnderWay)
   counts (none-yet u none) =

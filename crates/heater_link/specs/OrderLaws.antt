@@ -12,8 +12,7 @@ use Rattle.table.specs.WellFormed.{RisingFrom}
 use Rattle.table.specs.RisingLaws.{rising-none, rising-first, row-rises}
 use Rattle.table.specs.Inverse.{decode-wellformed}
 use Rattle.table.specs.EntryLaws.{task-of-byte}
-use Rattle.table.specs.Answers.{entriesAt}
-use Rattle.table.specs.AnswerLaws.{entries-more, entries-none, entries-given}
+use Rattle.table.specs.AnswerLaws.{entriesAt, entries-more, entries-given}
 use Rattle.dispatcher.specs.Dispatch.{served, nextFrame, entriesOf}
 use Rattle.dispatcher.specs.FrameLaws.{served-rises, frame-served, frame-behind, frame-malformed}
 use Rattle.dispatcher.specs.declared.State.{State}
@@ -22,17 +21,14 @@ use Rattle.dispatcher.specs.declared.State.{State}
 entries-rise : (bytes : List ℕ) (s : State) → RisingFrom 0 (entriesOf (nextFrame (decode bytes) s))
 entries-rise bytes s = go (decode bytes) refl
   where
-    none : (tasks jobs : List ℕ) → RisingFrom 0 (entriesAt tasks jobs (0 - 0) 0)
-    none tasks jobs = rw (entries-none tasks jobs 0 0 (omega arith)) (rising-none 0)
-
     go : (d : Decoded) → decode bytes ≡ d → RisingFrom 0 (entriesOf (nextFrame (decode bytes) s))
     go (table t) is =
         let rises = served-rises (s .first) (rowOf t (s .row)) (row-rises t (s .row) (decode-wellformed bytes t is)) in
         ⊎-elim
         (λ h. rw (frame-served bytes s t is h, entries-given (served (s .first) (rowOf t (s .row))) rises) rises)
-        (λ h. rw (frame-behind bytes s t is h) (none _ _))
+        (λ h. rw (frame-behind bytes s t is h) (rising-none 0))
         (lt-or-ge (s .row) (length (t .rows)))
-    go malformed is = rw (frame-malformed bytes s is) (none _ _)
+    go malformed is = rw (frame-malformed bytes s is) (rising-none 0)
 
 -- n places; those from place i on rise, the first from `low` on
 module _ (tasks jobs : List ℕ) (n : ℕ) where

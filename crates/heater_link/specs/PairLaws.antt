@@ -1,20 +1,19 @@
 -- The tests of a call, as facts: a pair among the pairs, and a task among the entries that are served.
-use Prim.Native.Nat.{ℕ, zero, suc, _+_, _≤_, _<_}
+use Prim.Native.Nat.{ℕ, zero, suc, _<_}
 use mathlib.Core.Path.{_≡_, refl}
-use mathlib.Core.Bool.{Bool, true, false, false≢true}
-use mathlib.Core.Logic.{⊎-elim}
+use mathlib.Core.Bool.{Bool, true, false, false≢true, cond, _&&_}
 use mathlib.Core.List.{List, [], _∷_}
 use native.Mathlib.Omega.{arith}
 use lib.ListN.{length, getD}
 use lib.Dec.{eqb}
-use borrow.Author.Tests.{eqb-true, eqb-false, eq-eqb}
-use Rattle.cursor.specs.Choice.{pick, both}
-use Rattle.cursor.specs.ChoiceLaws.{lt-or-ge}
+use borrow.Author.Tests.{eqb-true, eq-eqb}
 use Rattle.cursor.specs.ParsedLaws.{both-true}
 use Rattle.request.specs.Request.{noPair}
 use Rattle.request.specs.declared.Pair.{Pair}
 use Rattle.model.specs.Plan.{Instance}
-use Rattle.model.specs.Within.{Within, within-limits}
+use Rattle.model.specs.Within.{Within}
+use Rattle.model.specs.WithinLaws.{within-limits}
+use Rattle.plan_rules.specs.EveryLaws.{some-says, says-some}
 use Rattle.heater_link.specs.Exchange.{serves, isPair}
 use Rattle.heater_link.specs.Exactly.{IsPair}
 
@@ -29,9 +28,9 @@ pub record PairIn (a b : ℕ) (pairs : List Pair) : Type 0 where
 pair-says : (a b : ℕ) (pairs : List Pair) → isPair a b pairs ≡ true → PairIn a b pairs
 unfolding isPair
 pair-says a b [] q = absurd (false≢true q)
-pair-says a b (p ∷ pairs) q = go (both (eqb (p .a) a) (eqb (p .b) b)) refl q (pair-says a b pairs)
+pair-says a b (p ∷ pairs) q = go (eqb (p .a) a && eqb (p .b) b) refl q (pair-says a b pairs)
   where
-    go : (t : Bool) → both (eqb (p .a) a) (eqb (p .b) b) ≡ t → pick t true (isPair a b pairs) ≡ true → (isPair a b pairs ≡ true → PairIn a b pairs)
+    go : (t : Bool) → eqb (p .a) a && eqb (p .b) b ≡ t → cond t true (isPair a b pairs) ≡ true → (isPair a b pairs ≡ true → PairIn a b pairs)
         → PairIn a b (p ∷ pairs)
     go true e z later =
         let w = both-true (eqb (p .a) a) _ e in
@@ -44,9 +43,9 @@ says-pair : (a b : ℕ) (pairs : List Pair) (u : ℕ) → u < length pairs → g
 unfolding isPair
 says-pair a b [] u h e q = absurd (omega arith)
 says-pair a b (p ∷ pairs) zero h e q = rw (eq-eqb (p .a) a e, eq-eqb (p .b) b q)
-says-pair a b (p ∷ pairs) (suc u) h e q = rw (says-pair a b pairs u (omega arith) e q) (go (both (eqb (p .a) a) (eqb (p .b) b)))
+says-pair a b (p ∷ pairs) (suc u) h e q = rw (says-pair a b pairs u (omega arith) e q) (go (eqb (p .a) a && eqb (p .b) b))
   where
-    go : (t : Bool) → pick t true true ≡ true
+    go : (t : Bool) → cond t true true ≡ true
     go true = refl
     go false = refl
 
@@ -63,35 +62,17 @@ module _ (x : Instance) (a b : ℕ) where
       let kept = within-limits request x within .readable .pair (w .u) (w .within) in
       omega (arith, kept .rises, w .first, w .second)
 
--- The entries: one of n places from place p on
+-- The entries: one of n places
 
-pub record AtPlace (i : ℕ) (tasks : List ℕ) (n p : ℕ) : Type 0 where
+pub record AtPlace (i : ℕ) (tasks : List ℕ) (n : ℕ) : Type 0 where
   pub place : ℕ
-  pub from : p ≤ place
-  pub below : place < p + n
+  pub below : place < n
   pub is-task : getD tasks place 0 ≡ i
 
-pub serves-says : (i : ℕ) (tasks : List ℕ) (n p : ℕ) → serves i tasks n p ≡ true → AtPlace i tasks n p
-unfolding serves
-serves-says i tasks zero p q = absurd (false≢true q)
-serves-says i tasks (suc n) p q = go (eqb (getD tasks p 0) i) refl q (serves-says i tasks n (p + 1))
-  where
-    go : (t : Bool) → eqb (getD tasks p 0) i ≡ t → pick t true (serves i tasks n (p + 1)) ≡ true
-        → (serves i tasks n (p + 1) ≡ true → AtPlace i tasks n (p + 1)) → AtPlace i tasks (suc n) p
-    go true e z later = record { place = p; from = omega arith; below = omega arith; is-task = eqb-true (getD tasks p 0) i e }
-    go false e z later =
-        let w = later z in
-        record { place = w .place; from = omega (arith, w .from); below = omega (arith, w .below); is-task = w .is-task }
+pub serves-says : (i : ℕ) (tasks : List ℕ) (n : ℕ) → serves i tasks n ≡ true → AtPlace i tasks n
+serves-says i tasks n q =
+    let (p, low, e) = some-says (λ p. eqb (getD tasks p 0) i) n q in
+    record { place = p; below = low; is-task = eqb-true (getD tasks p 0) i e }
 
-pub says-serves : (i : ℕ) (tasks : List ℕ) (n p place : ℕ) → p ≤ place → place < p + n → getD tasks place 0 ≡ i → serves i tasks n p ≡ true
-unfolding serves
-says-serves i tasks zero p place l h e = absurd (omega arith)
-says-serves i tasks (suc n) p place l h e =
-    go (eqb (getD tasks p 0) i) refl (λ b. says-serves i tasks n (p + 1) place (omega arith) (omega arith) e)
-  where
-    here : eqb (getD tasks p 0) i ≡ false → place ≤ p → ⊥
-    here q b = let same : place ≡ p = omega arith in eqb-false (getD tasks p 0) i q (rw same at e)
-
-    go : (t : Bool) → eqb (getD tasks p 0) i ≡ t → (p < place → serves i tasks n (p + 1) ≡ true) → pick t true (serves i tasks n (p + 1)) ≡ true
-    go true q later = refl
-    go false q later = ⊎-elim later (λ b. absurd (here q b)) (lt-or-ge p place)
+pub says-serves : (i : ℕ) (tasks : List ℕ) (n place : ℕ) → place < n → getD tasks place 0 ≡ i → serves i tasks n ≡ true
+says-serves i tasks n place h e = says-some (λ p. eqb (getD tasks p 0) i) n place h (eq-eqb (getD tasks place 0) i e)

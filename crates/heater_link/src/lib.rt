@@ -4,13 +4,12 @@ use dispatcher::Frame;
 use dispatcher::State;
 use request::Pair;
 ghost use mathlib.Core.Path.{_≡_};
-ghost use mathlib.Core.Bool.{not};
+ghost use mathlib.Core.Bool.{not, cond, _&&_};
 ghost use Prim.Native.Nat.{_≤_};
-ghost use Rattle.cursor.specs.Choice.{pick, both};
 ghost use Rattle.cursor.specs.Padded.{firsts};
 ghost use Rattle.request.specs.Request.{noPair};
 ghost use Rattle.heater_link.specs.Machine.{differ};
-ghost use Rattle.heater_link.specs.Exchange.{freshLink, serves, arrives, refused, exchanged, exchangedIn, isPair, exchange};
+ghost use Rattle.heater_link.specs.Exchange.{freshLink, serves, arrives, refusedExchange, exchanged, exchangedIn, isPair, exchange};
 
 // The dispatcher's state; the bit that the master sends, and the bit that the board last obeyed: false is 0, true is 1.
 pub struct Link {
@@ -50,7 +49,7 @@ pub fn fresh() -> Link
 }
 
 fn refused(number: u8, link: Link) -> Exchange
-    ensures { λ r. ⌜ r ≡ refused number link ⌝ }
+    ensures { λ r. ⌜ r ≡ refusedExchange number link ⌝ }
 {
     Exchange {
         refusal: number,
@@ -84,7 +83,7 @@ fn is_pair(pairs: [Pair; 16], m: usize, a: u8, b: u8) -> bool
 // Whether one of the first `count` entries is the task's.
 fn serves(tasks: [u8; 16], count: usize, task: u8) -> bool
     requires { ⌜ count ≤ 16 ⌝ }
-    ensures { λ r. ⌜ r ≡ serves task tasks count 0 ⌝ }
+    ensures { λ r. ⌜ r ≡ serves task tasks count ⌝ }
 {
     let mut i: usize = 0;
     while i < count {
@@ -111,7 +110,7 @@ fn differ(x: bool, y: bool) -> bool
 
 // The board toggles if a bit arrives that differs from the one that it obeyed last.
 fn board_toggles(command: bool, master: bool, obeyed: bool) -> bool
-    ensures { λ r. ⌜ r ≡ both command (differ master obeyed) ⌝ }
+    ensures { λ r. ⌜ r ≡ command && differ master obeyed ⌝ }
 {
     if command {
         differ(master, obeyed)
@@ -122,14 +121,14 @@ fn board_toggles(command: bool, master: bool, obeyed: bool) -> bool
 
 // The bit that the board obeyed last, after a command that arrived or did not.
 fn board_obeys(command: bool, master: bool, obeyed: bool) -> bool
-    ensures { λ r. ⌜ r ≡ pick command master obeyed ⌝ }
+    ensures { λ r. ⌜ r ≡ cond command master obeyed ⌝ }
 {
     if command { master } else { obeyed }
 }
 
 // A reply that arrives answers the command if it shows the master's bit.
 fn answers(reply: bool, shown: bool, master: bool) -> bool
-    ensures { λ r. ⌜ r ≡ both reply (not (differ shown master)) ⌝ }
+    ensures { λ r. ⌜ r ≡ reply && not (differ shown master) ⌝ }
 {
     if reply { !differ(shown, master) } else { false }
 }

@@ -11,16 +11,19 @@ use lib.ListN.{length, getD}
 use lib.Dec.{eqb}
 use borrow.Author.Tests.{eqb-true, eqb-false, ne-eqb}
 use Rattle.cursor.specs.Choice.{keep}
+use Rattle.cursor.specs.Range.{range}
 use Rattle.request.specs.Request.{noTask}
 use Rattle.cycle.specs.OrderLaws.{All, all-implies}
 use Rattle.cycle.specs.Planned.{noJob}
 use Rattle.cycle.specs.declared.Job.{Job}
 use Rattle.table.specs.Table.{Table}
 use Rattle.model.specs.Plan.{Instance, jobAt, rowsAt, IsPlan}
-use Rattle.model.specs.Good.{Good, job-facts}
-use Rattle.model.specs.Described.{rowFor, entryFor, placesByTask, placesIn, planRows, planTable, Describes}
-use Rattle.model.specs.Places.{spread, upFrom, taskFor, Inside, allPlaces, places-are, within, places-within}
-use Rattle.model.specs.PlanTable.{row-below, describes-is}
+use Rattle.model.specs.Good.{Good}
+use Rattle.model.specs.GoodLaws.{job-facts}
+use Rattle.model.specs.Described.{rowFor, entryFor, placesByTask, placesIn, planTable, Describes}
+use Rattle.model.specs.Places.{spread, taskFor, Inside, allPlaces, places-are, within, places-within}
+use Rattle.model.specs.PlanTable.{row-below, describes-is, planRows}
+use Rattle.model.specs.DescribedLaws.{entry-names}
 use Rattle.plan_listing.specs.Listing.{busyTicks}
 use Rattle.job_records.specs.Timeline.{recordsOf, busyOf, rowsBusy}
 
@@ -76,19 +79,19 @@ module _ (x : Instance) where
 
   module _ (f : ℕ) (frames : List ℕ) where
     row-weighs : (l : List ℕ) → busyTicks (x .tasks) (map (entryFor x f frames) l) ≡ weigh ticksAt l
-    unfolding busyTicks entryFor
+    unfolding busyTicks
     row-weighs [] = refl
-    row-weighs (y ∷ l) = ap (λ (n : ℕ). ticksAt y + n) (row-weighs l)
+    row-weighs (y ∷ l) = rw (← entry-names x f frames y .task-is) (ap (λ (n : ℕ). ticksAt y + n) (row-weighs l))
 
     rows-weigh : (n r : ℕ) → rowsBusy (x .tasks) (planRows x f frames n r) ≡ weigh ticksAt (spread (rowFor x f frames) (placesByTask x) n r)
-    unfolding rowsBusy planRows
+    unfolding rowsBusy
     rows-weigh zero r = refl
     rows-weigh (suc n) r =
         let places : List ℕ = placesIn (rowFor x f frames) r (placesByTask x) in
         omega (arith, row-weighs places, rows-weigh n (r + 1), weigh-append ticksAt places (spread (rowFor x f frames) (placesByTask x) n (r + 1)))
 
   records-weigh : (jobs : List Job) (frames : List ℕ) (y : ℕ) → length frames ≡ length jobs
-      → ((z : ℕ) → getD jobs z noJob ≡ jobAt x (y + z)) → busyOf (x .tasks) (recordsOf jobs frames) ≡ weigh ticksAt (upFrom (length jobs) y)
+      → ((z : ℕ) → getD jobs z noJob ≡ jobAt x (y + z)) → busyOf (x .tasks) (recordsOf jobs frames) ≡ weigh ticksAt (range y (length jobs))
   unfolding busyOf recordsOf
   records-weigh [] frames y same at = refl
   records-weigh (job ∷ jobs) [] y same at = absurd (omega (arith, same))

@@ -2,19 +2,18 @@
 use Prim.Native.Nat.{ℕ}
 use mathlib.Core.Path.{_≡_, refl}
 use mathlib.Core.Bool.{false}
-use mathlib.Core.List.{List, [], _∷_}
+use mathlib.Core.List.{List, [], _∷_, flatMap}
 use Rattle.cursor.specs.Parsed.{records}
 use Rattle.cursor.specs.Fields.{byteOf, wordOf}
 use Rattle.arith.specs.Gcd.{gcdOf, gcdSteps}
 use Rattle.arith.specs.Lcm.{lcmOf}
 use Rattle.request.specs.Request.{taskRule, judgedTask, taskOf, tasksOf, pairRule, judgedPair, pairOf, pairsOf, silentOf, reading}
-use Rattle.cycle.specs.Cycle.{lcmWith, hyperperiod, jobsIn, jobOf, jobsFrom, jobsOf, allJobs, before, insert, inOrder, planned, cycleOf}
+use Rattle.cycle.specs.Cycle.{lcmWith, hyperperiod, jobsIn, jobOf, allJobs, before, insert, inOrder, planned, cycleOf}
 use Rattle.table.specs.Table.{Entry, jobByte, entryOf, entryFrom, entriesFrom, rowFrom, sizesFrom, heightFits, rowsFrom, decode}
 use Rattle.search.specs.Placing.{row-sum}
 use Rattle.model.specs.Plan.{slot, costOf, costs}
 use Rattle.model.specs.Plausible.{commonRule, phaseRule, frameRule, frameRules, plausibleBy}
 use Rattle.model.specs.Named.{isJob}
-use Rattle.plan_rules.specs.Every as every
 use Rattle.plan_rules.specs.Rules as rules
 use Rattle.checker.specs.Checked as checker
 use Rattle.plan_listing.specs.Listing.{busyTicks, tasksIn}
@@ -72,13 +71,12 @@ pub examples : Examples
 unfolding
     timelineOf recordsOf filling filledRecords busyOf rowsBusy busyTicks
     cycleOf reading tasksOf taskOf judgedTask taskRule pairsOf pairOf judgedPair pairRule silentOf records byteOf wordOf
-    planned inOrder insert before allJobs jobsOf jobsFrom jobOf jobsIn hyperperiod lcmWith lcmOf gcdOf gcdSteps
+    planned inOrder insert before allJobs flatMap jobOf jobsIn hyperperiod lcmWith lcmOf gcdOf gcdSteps
     decode rowsFrom heightFits sizesFrom rowFrom entriesFrom entryFrom entryOf jobByte
     plausibleBy frameRules frameRule phaseRule commonRule slot costs costOf row-sum isJob
     checker.checkedBy checker.judgedBy checker.planOf rules.rulesRight rules.heightRight rules.orderRight rules.capacityRight rules.windowsRight checker.entriesRight
     rules.capacityKept checker.rowsKept checker.rowKept checker.entryKept rules.pairKept rules.oneKept rules.otherKept rules.windowKept
-    checker.isThere rules.inWindow checker.isPlaced checker.framesIn checker.frameIn checker.frameFor checker.placeIn checker.placeInRow
-    every.someFrom every.allFrom
+    checker.isThere rules.inWindow checker.isPlaced checker.framesIn checker.frameIn checker.frameFor checker.positionIn checker.positionInRow
 examples = record {
   P1-filled = refl;
   P7-filled = refl;

@@ -1,14 +1,13 @@
 -- Filling a lent list, record by record: after i records it is the first i of the timeline, and the lent list behind them.
 use Prim.Native.Nat.{ℕ, zero, suc, _+_, _≤_, _<_}
 use mathlib.Core.Path.{_≡_, refl, ap, ap₂, _∙_}
-use mathlib.Core.Bool.{Bool, true, false}
+use mathlib.Core.Bool.{Bool, true, false, cond}
 use mathlib.Core.List.{List, [], _∷_, _++_}
 use native.Mathlib.Omega.{arith}
 use lib.Dec.{ltb}
 use lib.ListN.{length, getD, set, take, drop}
 use lib.Seq.{take-length}
 use borrow.Author.Tests.{ltb-false}
-use Rattle.cursor.specs.Choice.{pick}
 use Rattle.job_records.specs.Timeline.{noRecord, Timeline, timeline, refusal, timelineFor, fitting, filling, recordsIn, filledAnswer, filledRecords}
 use Rattle.job_records.specs.Known.{recordHere, KnownFor}
 use Rattle.job_records.specs.declared.JobRecord.{JobRecord}
@@ -19,7 +18,7 @@ fitting-few : (places : ℕ) (tl : Timeline) → length (recordsIn (fitting plac
 fitting-few places (refusal number) = omega arith
 fitting-few places (timeline rs) = go (ltb places (length rs)) refl
   where
-    go : (t : Bool) → ltb places (length rs) ≡ t → length (recordsIn (pick t (refusal 11) (timeline rs))) ≤ places
+    go : (t : Bool) → ltb places (length rs) ≡ t → length (recordsIn (cond t (refusal 11) (timeline rs))) ≤ places
     go true e = omega arith
     go false e = ltb-false places (length rs) e
 

@@ -7,6 +7,7 @@ pub mod Known
 -- Theorems:
 pub mod Theorem
 -- Laws:
+pub mod KnownLaws
 pub mod FillLaws
 pub mod BusyLaws
 -- computed:

@@ -1,7 +1,7 @@
 -- What filling answers and leaves: the check refuses, or it has read a plan, and then the list is too short or it is filled.
 use Prim.Native.Nat.{ℕ, _+_, _-_, _≤_, _<_}
 use mathlib.Core.Path.{_≡_, refl, sym, ap, subst, _∙_}
-use mathlib.Core.Bool.{Bool, true, false}
+use mathlib.Core.Bool.{Bool, true, false, cond, _&&_}
 use mathlib.Core.Logic.{⊎-elim}
 use mathlib.Core.List.{List, _++_}
 use native.Mathlib.Omega.{arith}
@@ -9,18 +9,19 @@ use lib.Dec.{eqb}
 use lib.ListN.{length, getD, take, drop, length-append, length-drop}
 use lib.Seq.{getD-take, getD-drop, take-append-seam, getD-append-add}
 use borrow.Author.Tests.{lt-ltb, le-ltb}
-use Rattle.cursor.specs.Choice.{pick, both}
 use Rattle.cursor.specs.ChoiceLaws.{lt-or-ge}
-use Rattle.cursor.specs.Front.{Bytes}
+use Rattle.cursor.specs.Fields.{Bytes}
 use Rattle.cursor.specs.ParsedLaws.{never}
 use Rattle.cycle.specs.Cycle.{Cycle, cycle, noCycle, cycleOf}
 use Rattle.cycle.specs.LimitLaws.{no-cycle-number, request-number-own}
 use Rattle.table.specs.Table.{Table, Decoded, table, malformed, decode}
-use Rattle.table.specs.TableBytes.{SaysTable, says-decodes, decodes-says}
+use Rattle.table.specs.TableBytes.{SaysTable}
+use Rattle.table.specs.TableBytesLaws.{says-decodes, decodes-says}
 use Rattle.model.specs.Plan.{Instance, IsPlan}
 use Rattle.model.specs.Plausible.{plausible}
 use Rattle.model.specs.Answers.{instance}
-use Rattle.model.specs.Within.{Within, within-limits, within-good}
+use Rattle.model.specs.Within.{Within}
+use Rattle.model.specs.WithinLaws.{within-limits, within-good}
 use Rattle.model.specs.Described.{Describes, Accepted}
 use Rattle.plan_rules.specs.Rules.{rulesRight}
 use Rattle.checker.specs.Checked as checker
@@ -29,7 +30,7 @@ use Rattle.checker.specs.Accepts.{accepts-described}
 use Rattle.checker.specs.Verdicts.{plan-read, refusal-number}
 use Rattle.job_records.specs.declared.JobRecord.{JobRecord}
 use Rattle.job_records.specs.Timeline.{noRecord, recordsOf, Timeline, timeline, refusal, timelineOf, fitting, filling, filledAnswer, filledRecords, busyOf}
-use Rattle.job_records.specs.Known.{records-count, record-at}
+use Rattle.job_records.specs.KnownLaws.{records-count, record-at}
 use Rattle.job_records.specs.BusyLaws.{busy-same}
 use Rattle.job_records.specs.Exactly.{answer, after, FilledFor, FillExact, TimelineExact}
 
@@ -38,7 +39,7 @@ not-eleven : (request bytes : List ℕ) (n : ℕ) → checked (cycleOf request) 
 unfolding checker.checkedBy checker.judgedBy checker.planOf
 not-eleven request bytes n e same = go (cycleOf request) refl (decode bytes) e
   where
-    rules : (f : ℕ) (frames : List ℕ) (a b : Bool) → pick a (pick b (checker.accepted f frames) (checker.refusal 14)) (checker.refusal 13) ≡ checker.refusal n → ⊥
+    rules : (f : ℕ) (frames : List ℕ) (a b : Bool) → cond a (cond b (checker.accepted f frames) (checker.refusal 14)) (checker.refusal 13) ≡ checker.refusal n → ⊥
     rules f frames true true q = never (cc)
     rules f frames true false q = let is : 14 ≡ n = cc in omega arith
     rules f frames false b q = let is : 13 ≡ n = cc in omega arith
@@ -53,7 +54,7 @@ not-eleven request bytes n e same = go (cycleOf request) refl (decode bytes) e
     go (cycle tasks pairs g h jobs) is (table t) q =
         let x = instance tasks pairs g h jobs in
         let frames = framesIn (t .rows) jobs in
-        rules (t .f) frames (both (eqb (t .h) h) (plausible x (t .f))) (both (entriesRight x (t .rows) frames) (rulesRight x (length (t .rows)) (t .f) frames)) q
+        rules (t .f) frames (eqb (t .h) h && plausible x (t .f)) (entriesRight x (t .rows) frames && rulesRight x (length (t .rows)) (t .f) frames) q
 
 -- what is behind the records
 front-getD : (rs lent : List JobRecord) (y : ℕ) → y < length rs → getD (rs ++ drop (length rs) lent) y noRecord ≡ getD rs y noRecord

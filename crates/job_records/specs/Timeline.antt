@@ -1,9 +1,9 @@
 -- The timeline: what filling a lent list of records answers, and the records afterwards. 02, R-14.
 use Prim.Native.Nat.{ℕ, _+_}
 use mathlib.Core.List.{List, [], _∷_, _++_}
+use mathlib.Core.Bool.{cond}
 use lib.ListN.{length, getD, drop}
 use lib.Dec.{ltb}
-use Rattle.cursor.specs.Choice.{pick}
 use Rattle.request.specs.Request.{noTask}
 use Rattle.request.specs.declared.Task.{Task}
 use Rattle.cycle.specs.Cycle.{Cycle, cycle, noCycle, cycleOf}
@@ -49,7 +49,7 @@ timelineFor request bytes = timelineOf (cycleOf request) (decode bytes)
 
 -- "A list too short gives 11, after 14.": a list with so many places
 abbrev pub fitting : ℕ → Timeline → Timeline
-fitting places (timeline rs) = pick (ltb places (length rs)) (refusal 11) (timeline rs)
+fitting places (timeline rs) = cond (ltb places (length rs)) (refusal 11) (timeline rs)
 fitting places (refusal number) = refusal number
 
 -- what filling a lent list comes to

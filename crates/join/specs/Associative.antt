@@ -1,5 +1,5 @@
 -- Three boards: it is the same request whether the first two are joined first or the last two, as far as one of the two ways comes to a request.
--- Both ways come to the three lists of tasks one behind the other, and the third's pairs are raised by the tasks of the first and the second.
+-- Both ways come to the three lists of tasks one behind the other, and the third's pairs are raisedBy by the tasks of the first and the second.
 use Prim.Native.Nat.{ℕ, _+_}
 use mathlib.Core.Path.{_≡_, refl, sym, ap, ap₂, _∙_}
 use mathlib.Core.List.{List, [], _∷_, _++_, map, map-append, append-assoc}
@@ -8,11 +8,12 @@ use lib.ListN.{length, length-append}
 use Rattle.request.specs.Request.{Reading, readable}
 use Rattle.request.specs.declared.Task.{Task}
 use Rattle.request.specs.declared.Pair.{Pair}
-use Rattle.join.specs.Joined.{raised, joinedPairs, joined}
+use Rattle.join.specs.Joined.{raisedBy, joinedPairs, joined}
 use Rattle.join.specs.JoinLaws.{pairs-counted}
-use Rattle.join.specs.Parts.{Parts, both-joined, joined-parts}
+use Rattle.join.specs.Parts.{Parts}
+use Rattle.join.specs.PartsLaws.{both-joined, joined-parts}
 
-raised-twice : (n m : ℕ) (pairs : List Pair) → map (raised n) (map (raised m) pairs) ≡ map (raised (n + m)) pairs
+raised-twice : (n m : ℕ) (pairs : List Pair) → map (raisedBy n) (map (raisedBy m) pairs) ≡ map (raisedBy (n + m)) pairs
 raised-twice n m [] = refl
 raised-twice n m (q ∷ pairs) =
     let a : q .a + m + n ≡ q .a + (n + m) = omega arith in
@@ -22,7 +23,7 @@ raised-twice n m (q ∷ pairs) =
 -- the pairs of three requests, of which the first two have n and m tasks
 pairs-regrouped : (n m : ℕ) (p₁ p₂ p₃ : List Pair) → joinedPairs (n + m) (joinedPairs n p₁ p₂) p₃ ≡ joinedPairs n p₁ (joinedPairs m p₂ p₃)
 pairs-regrouped n m p₁ p₂ p₃ =
-    rw (map-append (raised n) p₂ (map (raised m) p₃), raised-twice n m p₃) (append-assoc p₁ (map (raised n) p₂) (map (raised (n + m)) p₃))
+    rw (map-append (raisedBy n) p₂ (map (raisedBy m) p₃), raised-twice n m p₃) (append-assoc p₁ (map (raisedBy n) p₂) (map (raisedBy (n + m)) p₃))
 
 -- the numbers of tasks and pairs in a request that was joined
 counted : {first second : Reading} {tasks : List Task} {pairs : List Pair} {g : ℕ} (p : Parts first second tasks pairs g)

@@ -1,28 +1,28 @@
 -- The ways out of joining: a refusal of either request, a misfit, and the joined request, whose tasks and pairs stand in arrays.
 use Prim.Native.Nat.{ℕ, zero, suc, _+_, _≤_, _<_, min}
 use mathlib.Core.Path.{_≡_, refl, sym, ap, _∙_}
-use mathlib.Core.Bool.{Bool, true, false}
+use mathlib.Core.Bool.{Bool, true, false, cond}
 use mathlib.Core.List.{List, [], _∷_, _++_, map, map-append, append-assoc}
 use native.Mathlib.Numerals.{add-one}
 use native.Mathlib.Omega.{arith}
 use lib.ListN.{length, getD, set, length-append, length-map}
 use lib.Dec.{ltb, eqb}
 use borrow.Author.Tests.{lt-ltb, le-ltb, eq-eqb, ne-eqb, ltb-false, eqb-true}
-use Rattle.cursor.specs.Choice.{pick}
-use Rattle.cursor.specs.Padded.{padded, firsts, firsts-length, set-padded}
+use Rattle.cursor.specs.Padded.{padded, firsts}
+use Rattle.cursor.specs.PaddedLaws.{firsts-length, set-padded}
 use Rattle.request.specs.Request.{Reading, readable, unreadable, reading, noTask, noPair}
 use Rattle.request.specs.Encode.{requestBytes}
-use Rattle.request.specs.Answers.{answered}
+use Rattle.request.specs.Answers.{requestAnswered}
 use Rattle.request.specs.AnswerLaws.{not-read}
 use Rattle.request.specs.declared.Task.{Task}
 use Rattle.request.specs.declared.Pair.{Pair}
 use Rattle.request.specs.declared.Request.{Request}
 use Rattle.cursor.specs.Written.{written, buffer}
-use Rattle.request_writer.specs.Written.{requestAnswer, requestBuffer}
-use Rattle.request_writer.specs.FileLaws.{refusal-answered, request-answered}
-use Rattle.request_writer.specs.Places.{ReadAs, first-tasks, first-pairs, places-hold}
+use Rattle.request.specs.Written.{requestAnswer, requestBuffer}
+use Rattle.request.specs.FileLaws.{refusal-answered, request-answered}
+use Rattle.request.specs.Places.{ReadAs, first-tasks, first-pairs, places-hold}
 use Rattle.cursor.specs.declared.Written.{Written}
-use Rattle.join.specs.Joined.{raised, joinedTasks, joinedPairs, misfit, unless, joined}
+use Rattle.join.specs.Joined.{raisedBy, joinedTasks, joinedPairs, misfit, unless, joined}
 
 -- An array with one element more behind those of two lists.
 more-behind : {A : Type 0} (blank : A) (xs ys : List A) (at : ℕ) (x : A) → length xs + length ys ≡ at → at < 16
@@ -38,14 +38,14 @@ task-behind xs ys n i room =
     rw (add-one i) (more-behind noTask (firsts n noTask xs) (firsts i noTask ys) (n + i) (getD ys i noTask) (omega (arith, firsts-length noTask xs n, firsts-length noTask ys i)) room)
 
 pub pair-behind : (xs ys : List Pair) (m i n : ℕ) → m + i < 16
-    → set (padded 16 noPair (firsts m noPair xs ++ map (raised n) (firsts i noPair ys))) (m + i) (raised n (getD ys i noPair))
-    ≡ padded 16 noPair (firsts m noPair xs ++ map (raised n) (firsts (i + 1) noPair ys))
+    → set (padded 16 noPair (firsts m noPair xs ++ map (raisedBy n) (firsts i noPair ys))) (m + i) (raisedBy n (getD ys i noPair))
+    ≡ padded 16 noPair (firsts m noPair xs ++ map (raisedBy n) (firsts (i + 1) noPair ys))
 unfolding firsts
 pair-behind xs ys m i n room =
-    let done = map (raised n) (firsts i noPair ys) in
-    let count : length done ≡ i = length-map (firsts i noPair ys) (raised n) ∙ firsts-length noPair ys i in
-    rw (add-one i, map-append (raised n) (firsts i noPair ys) (getD ys i noPair ∷ []))
-    (more-behind noPair (firsts m noPair xs) done (m + i) (raised n (getD ys i noPair)) (omega (arith, firsts-length noPair xs m, count)) room)
+    let done = map (raisedBy n) (firsts i noPair ys) in
+    let count : length done ≡ i = length-map (firsts i noPair ys) (raisedBy n) ∙ firsts-length noPair ys i in
+    rw (add-one i, map-append (raisedBy n) (firsts i noPair ys) (getD ys i noPair ∷ []))
+    (more-behind noPair (firsts m noPair xs) done (m + i) (raisedBy n (getD ys i noPair)) (omega (arith, firsts-length noPair xs m, count)) room)
 
 pub pairs-counted : (n : ℕ) (pairs pairs′ : List Pair) → length (joinedPairs n pairs pairs′) ≡ length pairs + length pairs′
 pairs-counted n pairs pairs′ = simp (length-append, length-map) (omega arith)
@@ -73,7 +73,7 @@ module _ (n m g h : ℕ) where
   unfolding misfit
   fit-all e = go (ltb 16 n) (ltb 16 m) (eqb g h) refl refl refl e
     where
-      go : (a b c : Bool) → ltb 16 n ≡ a → ltb 16 m ≡ b → eqb g h ≡ c → _≡_ {A = ℕ} 0 (pick a 18 (pick b 19 (pick c 0 20))) → (n ≤ 16) × (m ≤ 16) × (g ≡ h)
+      go : (a b c : Bool) → ltb 16 n ≡ a → ltb 16 m ≡ b → eqb g h ≡ c → _≡_ {A = ℕ} 0 (cond a 18 (cond b 19 (cond c 0 20))) → (n ≤ 16) × (m ≤ 16) × (g ≡ h)
       go true b c p q r z = absurd (omega arith)
       go false true c p q r z = absurd (omega arith)
       go false false true p q r z = (ltb-false 16 n p, ltb-false 16 m q, eqb-true g h r)
@@ -84,7 +84,7 @@ unless-refused zero r ne = absurd (ne refl)
 unless-refused (suc number) r ne = refl
 
 module _ (first second out : List ℕ) where
-  -- what is answered, and left in the buffer, is what joining comes to
+  -- what is requestAnswered, and left in the buffer, is what joining comes to
   abbrev pub Hands : Written → List ℕ → Type 0
   Hands w out′ = (w ≡ requestAnswer (joined (reading first) (reading second)) out) × (out′ ≡ requestBuffer (joined (reading first) (reading second)) out)
 
@@ -92,12 +92,12 @@ module _ (first second out : List ℕ) where
   refuses number e = let r = refusal-answered number out in rw e (sym (r .0), sym (r .1))
 
   module _ (x : Request) where
-    pub first-refused : x ≡ answered (reading first) → (x .refusal ≡ 0 → ⊥) → Hands (record { refusal = x .refusal; length = 0 }) out
+    pub first-refused : x ≡ requestAnswered (reading first) → (x .refusal ≡ 0 → ⊥) → Hands (record { refusal = x .refusal; length = 0 }) out
     unfolding joined
     first-refused e ne = refuses (x .refusal) (rw (not-read first x e ne))
 
     module _ (one : ReadAs first x) (y : Request) where
-      pub second-refused : y ≡ answered (reading second) → (y .refusal ≡ 0 → ⊥) → Hands (record { refusal = y .refusal; length = 0 }) out
+      pub second-refused : y ≡ requestAnswered (reading second) → (y .refusal ≡ 0 → ⊥) → Hands (record { refusal = y .refusal; length = 0 }) out
       unfolding joined
       second-refused e ne = refuses (y .refusal) (rw (one .is, not-read second y e ne))
 
@@ -117,7 +117,7 @@ module _ (first second out : List ℕ) where
           sums = let s = fit-all _ _ _ _ (sym fits ∙ is) in (s .0, s .1)
 
           pub was-joined : (tasks : List Task) (pairs : List Pair) → tasks ≡ padded 16 noTask (firsts (x .n) noTask (x .tasks) ++ firsts (y .n) noTask (y .tasks))
-              → pairs ≡ padded 16 noPair (firsts (x .m) noPair (x .pairs) ++ map (raised (x .n)) (firsts (y .m) noPair (y .pairs)))
+              → pairs ≡ padded 16 noPair (firsts (x .m) noPair (x .pairs) ++ map (raisedBy (x .n)) (firsts (y .m) noPair (y .pairs)))
               → let bytes = requestBytes (firsts (min (x .n + y .n) 16) noTask tasks) (firsts (min (x .m + y .m) 16) noPair pairs) (x .g) in
               Hands (written bytes out) (buffer bytes out)
           was-joined tasks pairs t p =

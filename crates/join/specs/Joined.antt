@@ -1,27 +1,27 @@
 -- Joining two requests, in the words of 02's R-4.
 use Prim.Native.Nat.{ℕ, zero, suc, _+_}
 use mathlib.Core.List.{List, _++_, map}
+use mathlib.Core.Bool.{cond}
 use lib.ListN.{length}
 use lib.Dec.{ltb, eqb}
-use Rattle.cursor.specs.Choice.{pick}
 use Rattle.request.specs.Request.{Reading, readable, unreadable}
 use Rattle.request.specs.declared.Task.{Task}
 use Rattle.request.specs.declared.Pair.{Pair}
 
--- "with numbers raised by the first's n"
-abbrev pub raised : ℕ → Pair → Pair
-raised n q = record { a = q .a + n; b = q .b + n }
+-- "with numbers raisedBy by the first's n"
+abbrev pub raisedBy : ℕ → Pair → Pair
+raisedBy n q = record { a = q .a + n; b = q .b + n }
 
--- "the first's tasks, then the second's with numbers raised by the first's n, pairs likewise"
+-- "the first's tasks, then the second's with numbers raisedBy by the first's n, pairs likewise"
 abbrev pub joinedTasks : List Task → List Task → List Task
 joinedTasks tasks tasks′ = tasks ++ tasks′
 
 abbrev pub joinedPairs : ℕ → List Pair → List Pair → List Pair
-joinedPairs n pairs pairs′ = pairs ++ map (raised n) pairs′
+joinedPairs n pairs pairs′ = pairs ++ map (raisedBy n) pairs′
 
 -- "It refuses with 18 more than 16 tasks, then 19 more than 16 pairs, then 20 differing g."; 0: none of these
 unfoldable pub misfit : ℕ → ℕ → ℕ → ℕ → ℕ
-misfit n m g h = pick (ltb 16 n) 18 (pick (ltb 16 m) 19 (pick (eqb g h) 0 20))
+misfit n m g h = cond (ltb 16 n) 18 (cond (ltb 16 m) 19 (cond (eqb g h) 0 20))
 
 -- a request, if its number is 0
 abbrev pub unless : ℕ → Reading → Reading

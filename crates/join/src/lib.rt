@@ -7,9 +7,9 @@ ghost use mathlib.Core.List.{_++_, map};
 ghost use Prim.Native.Nat.{_+_, _≤_};
 ghost use Rattle.cursor.specs.Padded.{padded, firsts};
 ghost use Rattle.request.specs.Request.{noTask, noPair, reading};
-ghost use Rattle.request_writer.specs.Written.{requestAnswer, requestBuffer};
-ghost use Rattle.request_writer.specs.Places.{Few};
-ghost use Rattle.join.specs.Joined.{raised, misfit, joined};
+ghost use Rattle.request.specs.Written.{requestAnswer, requestBuffer};
+ghost use Rattle.request.specs.Places.{Few};
+ghost use Rattle.join.specs.Joined.{raisedBy, misfit, joined};
 
 // 18, 19 or 20, or 0 where n tasks and m pairs of requests with g and h silent ticks are one request's.
 fn number_of_misfit(n: usize, m: usize, g: u8, h: u8) -> u8
@@ -44,7 +44,7 @@ fn join_tasks(first: [Task; 16], n: usize, second: [Task; 16], k: usize) -> [Tas
 // The first m pairs of `first`, behind which nothing stands, and then the first k of `second`, with both numbers raised by n.
 fn join_pairs(first: [Pair; 16], m: usize, second: [Pair; 16], k: usize, n: u8) -> [Pair; 16]
     requires { ⌜ (m + k ≤ 16) × (first ≡ padded 16 noPair (firsts m noPair first)) × (n ≤ 16) × Few second ⌝ }
-    ensures { λ r. ⌜ r ≡ padded 16 noPair (firsts m noPair first ++ map (raised n) (firsts k noPair second)) ⌝ }
+    ensures { λ r. ⌜ r ≡ padded 16 noPair (firsts m noPair first ++ map (raisedBy n) (firsts k noPair second)) ⌝ }
 {
     let mut pairs = first;
     let mut i: usize = 0;
@@ -93,5 +93,5 @@ pub fn join(first: &[u8], second: &[u8], out: &mut [u8]) -> Written
     let first_pairs = x.pairs;
     let second_pairs = y.pairs;
     let pairs = join_pairs(first_pairs, x.m, second_pairs, y.m, x.n as u8);
-    request_writer::write(tasks, n, pairs, m, x.g, out)
+    request::write::write(tasks, n, pairs, m, x.g, out)
 }

@@ -7,8 +7,8 @@ use Rattle.draft.specs.declared.Draft.{Draft}
 use Rattle.lent.specs.Words.{wordIn, wordsFrom, wordsBytes}
 
 -- bytes 0 and 1 the frame length, 2 to 257 the frame of each job, 258 to 769 the load of each row
-unfoldable pub draftOf : List ℕ → Draft
-draftOf bytes = record { f = wordIn bytes 0 0; frames = wordsFrom bytes 2 128 0; loads = wordsFrom bytes 258 256 0 }
+unfoldable pub draftIn : List ℕ → Draft
+draftIn bytes = record { f = wordIn bytes 0 0; frames = wordsFrom bytes 2 128 0; loads = wordsFrom bytes 258 256 0 }
 
 -- the draft in the first 770 bytes, and behind it what was there
 unfoldable pub draftBytes : Draft → List ℕ → List ℕ

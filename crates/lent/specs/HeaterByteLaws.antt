@@ -1,7 +1,7 @@
 -- The heater's bytes: when they are one, and what the stores come to.
 use Prim.Native.Nat.{ℕ, _≤_, _<_}
-use mathlib.Core.Path.{_≡_, refl, ap, _∙_}
-use mathlib.Core.Bool.{Bool, true, false, false≢true}
+use mathlib.Core.Path.{_≡_, refl, sym, ap, _∙_}
+use mathlib.Core.Bool.{Bool, true, false, false≢true, cond, _&&_}
 use mathlib.Core.List.{List, [], _∷_, _++_, append-assoc}
 use native.Mathlib.Omega.{arith}
 use lib.ListN.{length, set, take, drop}
@@ -9,12 +9,11 @@ use lib.Seq.{sets-eq, drop-drop}
 use lib.Dec.{ltb}
 use borrow.Author.Tests.{ltb-false, lt-ltb, le-ltb}
 use mir.Val.{boolByte}
-use Rattle.cursor.specs.Choice.{pick, both, bit}
-use Rattle.cursor.specs.Fields.{wordBytes}
+use Rattle.cursor.specs.Choice.{bit}
 use Rattle.dispatcher.specs.declared.State.{State}
 use Rattle.heater_link.specs.declared.Link.{Link}
-use Rattle.lent.specs.Words.{wordsBytes}
 use Rattle.lent.specs.State.{isState, stateBytes}
+use Rattle.lent.specs.StateBack.{state-behind}
 use Rattle.lent.specs.HeaterBytes.{isBit, isHeater, heaterBytes}
 
 module _ (bytes : List ℕ) where
@@ -27,11 +26,11 @@ module _ (bytes : List ℕ) where
     unfolding isHeater
     heater-no-state e = rw (le-ltb (length bytes) 72 h, e)
 
-    pub heater-no-bits : isState bytes ≡ true → both (isBit bytes 64) (isBit bytes 65) ≡ false → false ≡ isHeater bytes
+    pub heater-no-bits : isState bytes ≡ true → isBit bytes 64 && isBit bytes 65 ≡ false → false ≡ isHeater bytes
     unfolding isHeater
     heater-no-bits e q = rw (le-ltb (length bytes) 72 h, e, q)
 
-    pub heater-bits : isState bytes ≡ true → both (isBit bytes 64) (isBit bytes 65) ≡ true → both (isBit bytes 66) (isBit bytes 67) ≡ isHeater bytes
+    pub heater-bits : isState bytes ≡ true → isBit bytes 64 && isBit bytes 65 ≡ true → isBit bytes 66 && isBit bytes 67 ≡ isHeater bytes
     unfolding isHeater
     heater-bits e q = rw (le-ltb (length bytes) 72 h, e, q)
 
@@ -40,7 +39,7 @@ module _ (bytes : List ℕ) where
   heater-long e = go (ltb (length bytes) 72) refl e
     where
       go : (b : Bool) → ltb (length bytes) 72 ≡ b
-          → pick b false (both (isState bytes) (both (both (isBit bytes 64) (isBit bytes 65)) (both (isBit bytes 66) (isBit bytes 67)))) ≡ true
+          → cond b false (isState bytes && ((isBit bytes 64 && isBit bytes 65) && (isBit bytes 66 && isBit bytes 67))) ≡ true
           → 72 ≤ length bytes
       go true w q = absurd (false≢true q)
       go false w q = ltb-false (length bytes) 72 w
@@ -51,8 +50,7 @@ bit-is false = refl
 
 -- behind the state the bytes are as they were
 pub behind-state : (s : State) (bytes : List ℕ) → drop 68 (stateBytes s bytes) ≡ drop 68 bytes
-unfolding stateBytes wordsBytes wordBytes
-behind-state s bytes = drop-drop 33 35 bytes
+behind-state s bytes = sym (drop-drop 33 35 (stateBytes s bytes)) ∙ ap (drop 33) (state-behind s bytes) ∙ drop-drop 33 35 bytes
 
 -- four stores behind the state
 pub heater-stored : (s : Link) (toggled answered : Bool) (bytes out : List ℕ) → out ≡ stateBytes (s .state) bytes → 72 ≤ length out

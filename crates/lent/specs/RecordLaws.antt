@@ -1,27 +1,57 @@
--- What five stores come to, and records written one behind the other.
+-- What five stores come to, what the eight bytes say, and records written one behind the other.
 use Prim.Native.Nat.{ℕ, zero, suc, _+_, _*_, _-_, _≤_, _<_}
 use mathlib.Core.Path.{_≡_, refl, sym, ap, _∙_}
-use mathlib.Core.List.{List, [], _∷_, _++_, flatMap, append-assoc}
+use mathlib.Core.List.{List, [], _∷_, _++_, flatMap, append-nil, append-assoc}
 use native.Mathlib.Nat.{sub-zero}
 use native.Mathlib.Omega.{arith}
-use lib.ListN.{length, set, take, drop, length-append}
+use lib.ListN.{length, getD, set, take, drop, length-append}
 use lib.Seq.{sets, sets-eq, drop-drop}
 use Rattle.cursor.specs.Fields.{wordBytes}
+use Rattle.cursor.specs.WordBytesLaws.{word-long, three-stored}
 use Rattle.cursor.specs.Pieces.{PartWay, part-start, part-more, part-end}
-use Rattle.job_records.specs.Known.{recordHere, recordsFrom, recordsKnown, records-more, records-none}
+use Rattle.job_records.specs.Known.{recordHere, recordsFrom, recordsKnown}
+use Rattle.job_records.specs.KnownLaws.{records-more, records-none}
 use Rattle.job_records.specs.declared.JobRecord.{JobRecord}
 use Rattle.job_records.specs.declared.JobsKnown.{JobsKnown}
+use Rattle.lent.specs.Words.{wordIn, wordsBytes}
+use Rattle.lent.specs.WordsBack.{word-there}
 use Rattle.lent.specs.Records.{recordBytes}
+
+pub record-wide : (r : JobRecord) → length (recordBytes r) ≡ 8
+unfolding recordBytes
+record-wide r =
+    let release = wordBytes (r .release) in
+    let due = wordBytes (r .due) in
+    let frame = wordBytes (r .frame) in
+    omega (arith, length-append (release ++ due) frame, length-append release due, word-long (r .release), word-long (r .due), word-long (r .frame))
 
 -- two bytes and three words one behind the other are the eight bytes
 pub record-stored : (out : List ℕ) (r : JobRecord) → 8 ≤ length out
     → sets (sets (sets (set (set out 0 (r .task)) 1 (r .job)) 2 (wordBytes (r .release))) 4 (wordBytes (r .due))) 6 (wordBytes (r .frame)) ≡ recordBytes r ++ drop 8 out
-unfolding recordBytes wordBytes
-record-stored out r h = sets-eq (recordBytes r) out 0 h
+unfolding recordBytes
+record-stored out r h =
+    let eight = record-wide r in
+    rw (three-stored (set (set out 0 (r .task)) 1 (r .job)) 2 (r .release) (r .due) (r .frame)) (rw eight at (sets-eq (recordBytes r) out 0 (omega (arith, eight))))
 
-record-wide : (r : JobRecord) → length (recordBytes r) ≡ 8
-unfolding recordBytes wordBytes
-record-wide r = refl
+-- what the eight bytes say
+module _ (r : JobRecord) (rest : List ℕ) where
+  pub record-task : getD (recordBytes r ++ rest) 0 0 ≡ r .task
+  unfolding recordBytes
+  record-task = refl
+
+  pub record-job : getD (recordBytes r ++ rest) 1 0 ≡ r .job
+  unfolding recordBytes
+  record-job = refl
+
+  abbrev pub threeWords : List ℕ
+  threeWords = r .release ∷ r .due ∷ r .frame ∷ []
+
+  are-words : recordBytes r ++ rest ≡ (r .task ∷ r .job ∷ []) ++ wordsBytes threeWords 3 0 ++ rest
+  unfolding recordBytes wordsBytes
+  are-words = simp (append-assoc, append-nil)
+
+  pub record-words : (k : ℕ) → k < 3 → wordIn (recordBytes r ++ rest) 2 k ≡ getD threeWords k 0
+  record-words k h = rw are-words (word-there (r .task ∷ r .job ∷ []) threeWords rest 2 3 refl k h)
 
 records-wide : (rs : List JobRecord) → length (flatMap recordBytes rs) ≡ 8 * length rs
 unfolding flatMap

@@ -1,17 +1,16 @@
 -- Whether the bytes are a timer.
 use Prim.Native.Nat.{ℕ, _≤_, _<_}
 use mathlib.Core.Path.{_≡_, refl}
-use mathlib.Core.Bool.{Bool, true, false, false≢true}
+use mathlib.Core.Bool.{Bool, true, false, false≢true, cond, _&&_}
 use mathlib.Core.List.{List}
 use lib.ListN.{length, getD}
 use lib.Dec.{ltb}
 use borrow.Author.Tests.{ltb-false, lt-ltb, le-ltb}
-use Rattle.cursor.specs.Choice.{pick, both}
 use Rattle.lent.specs.TimerBytes.{isTimer}
 
 module _ (bytes : List ℕ) where
   abbrev judgedLong : Bool
-  judgedLong = both (ltb (getD bytes 2 0) 2) (both (ltb (getD bytes 64 0) 4) (ltb (getD bytes 65 0) 8))
+  judgedLong = ltb (getD bytes 2 0) 2 && (ltb (getD bytes 64 0) 4 && ltb (getD bytes 65 0) 8)
 
   pub timer-short : length bytes < 72 → false ≡ isTimer bytes
   unfolding isTimer
@@ -21,7 +20,7 @@ module _ (bytes : List ℕ) where
   unfolding isTimer
   timer-long e = go (ltb (length bytes) 72) refl e
     where
-      go : (b : Bool) → ltb (length bytes) 72 ≡ b → pick b false judgedLong ≡ true → 72 ≤ length bytes
+      go : (b : Bool) → ltb (length bytes) 72 ≡ b → cond b false judgedLong ≡ true → 72 ≤ length bytes
       go true w q = absurd (false≢true q)
       go false w q = ltb-false (length bytes) 72 w
 

@@ -1,19 +1,22 @@
 -- Words stored into lent bytes, and read from them, one behind the other; and zeros stored.
 use Prim.Native.Nat.{ℕ, zero, suc, _+_, _*_, _-_, _≤_, _<_}
 use mathlib.Core.Path.{_≡_, refl, ap, _∙_}
-use mathlib.Core.List.{List, [], _∷_, _++_, append-nil}
+use mathlib.Core.List.{List, [], _∷_, _++_, append-nil, append-assoc}
 use native.Mathlib.Omega.{arith}
 use lib.ListN.{length, getD, set, take, drop, length-append, length-replicate, drop-of-length-le}
-use lib.Seq.{sets, sets-eq, length-take-le}
+use lib.Seq.{sets, sets-eq, length-take-le, take-at, drop-at, drop-drop}
 use Rattle.cursor.specs.Fields.{wordBytes}
+use Rattle.cursor.specs.WordBytesLaws.{word-long}
 use Rattle.cursor.specs.Pieces.{PartWay, part-start, part-more, part-end, two-stored}
 use Rattle.table.specs.Left.{less-one, none-left}
 use Rattle.lent.specs.Words.{wordIn, wordsFrom, wordsBytes, zeros}
 
 pub bytes-count : (words : List ℕ) (n i : ℕ) → length (wordsBytes words n i) ≡ 2 * n
-unfolding wordsBytes wordBytes
+unfolding wordsBytes
 bytes-count words zero i = refl
-bytes-count words (suc n) i = let rest = bytes-count words n (i + 1) in omega arith
+bytes-count words (suc n) i =
+    let w = getD words i 0 in
+    omega (arith, length-append (wordBytes w) (wordsBytes words n (i + 1)), word-long w, bytes-count words n (i + 1))
 
 pub words-count : (bytes : List ℕ) (at n i : ℕ) → length (wordsFrom bytes at n i) ≡ n
 unfolding wordsFrom
@@ -30,6 +33,12 @@ module _ (all old out left : List ℕ) (at : ℕ) (so : PartWay all old out left
   two-more a b left′ e =
       part-more all old out left at so (a ∷ b ∷ []) left′ (set (set out at a) (at + 1) b) e
       (two-stored out at a b (omega (arith, so .room, so .long, ap length e)))
+
+-- bytes stored behind those in `front`
+pub stored-behind : (front middle bytes : List ℕ) (a b : ℕ) → length front ≡ a
+    → take a (front ++ drop a bytes) ++ middle ++ drop (a + b) (front ++ drop a bytes) ≡ (front ++ middle) ++ drop (a + b) bytes
+stored-behind front middle bytes a b e =
+    rw (take-at front (drop a bytes) a e, ← drop-drop b a (front ++ drop a bytes), drop-at front (drop a bytes) a e, drop-drop b a bytes, append-assoc)
 
 -- n words, stored from byte `at` on: i are
 
@@ -48,12 +57,13 @@ module _ (words old : List ℕ) (at n : ℕ) where
 
   module _ (out : List ℕ) (i : ℕ) (so : WordsStored out i) where
     pub stored-more : i < n → WordsStored (sets out (at + 2 * i) (wordBytes (getD words i 0))) (i + 1)
-    unfolding wordsBytes wordBytes
+    unfolding wordsBytes
     stored-more h =
         let word = wordBytes (getD words i 0) in
+        let two = word-long (getD words i 0) in
         let left : wordsBytes words (n - i) i ≡ word ++ wordsBytes words (n - (i + 1)) (i + 1) = rw (less-one n i h) in
-        let next : at + 2 * (i + 1) ≡ at + 2 * i + 2 = omega arith in
-        let stored = sets-eq word out (at + 2 * i) (omega (arith, so .room, so .long, ap length left)) in
+        let next : at + 2 * (i + 1) ≡ at + 2 * i + length word = omega (arith, two) in
+        let stored = sets-eq word out (at + 2 * i) (omega (arith, two, so .room, so .long, bytes-count words (n - i) i)) in
         rw next (part-more wordsPlaced old out (wordsBytes words (n - i) i) (at + 2 * i) so word _ _ left stored)
 
     pub stored-end : n ≤ i → out ≡ take at old ++ wordsBytes words n 0 ++ drop (at + 2 * n) old

@@ -5,12 +5,12 @@ use lib.ListN.{getD, replicate}
 use Rattle.cursor.specs.Fields.{wordBytes}
 
 -- low byte first
-abbrev pub wordOf : ℕ → ℕ → ℕ
-wordOf low high = low + high * 256
+abbrev pub u16Of : ℕ → ℕ → ℕ
+u16Of low high = low + high * 256
 
 -- the i-th word, where word 0 stands in bytes `at` and `at` + 1
 abbrev pub wordIn : List ℕ → ℕ → ℕ → ℕ
-wordIn bytes at i = wordOf (getD bytes (at + 2 * i) 0) (getD bytes (at + 1 + 2 * i) 0)
+wordIn bytes at i = u16Of (getD bytes (at + 2 * i) 0) (getD bytes (at + 1 + 2 * i) 0)
 
 -- n words, from the i-th on
 unfoldable pub wordsFrom : List ℕ → ℕ → ℕ → ℕ → List ℕ

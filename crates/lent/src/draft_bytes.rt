@@ -6,7 +6,7 @@ ghost use Prim.Native.Nat.{_≤_};
 ghost use mathlib.Core.List.{_++_};
 ghost use lib.ListN.{length, take, drop};
 ghost use Rattle.lent.specs.Words.{wordsFrom, wordsBytes};
-ghost use Rattle.lent.specs.DraftBytes.{draftOf, draftBytes};
+ghost use Rattle.lent.specs.DraftBytes.{draftIn, draftBytes};
 
 // The frame of job y stands in bytes 2 + 2y and 3 + 2y.
 fn read_frames(draft: &[u8]) -> [u16; 128]
@@ -38,7 +38,7 @@ fn read_loads(draft: &[u8]) -> [u16; 256]
 
 pub fn read_draft(draft: &[u8]) -> Draft
     requires { ⌜ 770 ≤ length (now draft) ⌝ }
-    ensures { λ r. ⌜ r ≡ draftOf (now (draft .entry)) ⌝ }
+    ensures { λ r. ⌜ r ≡ draftIn (now (draft .entry)) ⌝ }
 {
     let frames = read_frames(draft);
     let loads = read_loads(draft);

@@ -5,13 +5,13 @@ use crate::state::write_state;
 use heater_link::Link;
 ghost use mathlib.Core.Path.{_≡_};
 ghost use Prim.Native.Nat.{_≤_};
+ghost use mathlib.Core.Bool.{_&&_};
 ghost use lib.ListN.{length};
 ghost use lib.Dec.{ltb};
-ghost use Rattle.cursor.specs.Choice.{both};
 ghost use Rattle.lent.specs.HeaterBytes.{isHeater, linkOf, heaterBytes};
 
 fn two_bits(x: u8, y: u8) -> bool
-    ensures { λ r. ⌜ r ≡ both (ltb x 2) (ltb y 2) ⌝ }
+    ensures { λ r. ⌜ r ≡ ltb x 2 && ltb y 2 ⌝ }
 {
     if x < 2 { y < 2 } else { false }
 }

@@ -5,10 +5,10 @@ ghost use mathlib.Core.List.{_++_};
 ghost use lib.ListN.{length, drop};
 ghost use lib.Seq.{sets};
 ghost use Rattle.cursor.specs.Fields.{wordBytes};
-ghost use Rattle.lent.specs.Words.{wordOf, zeros};
+ghost use Rattle.lent.specs.Words.{u16Of, zeros};
 
 pub(super) fn word(low: u8, high: u8) -> u16
-    ensures { λ r. ⌜ r ≡ wordOf low high ⌝ }
+    ensures { λ r. ⌜ r ≡ u16Of low high ⌝ }
 {
     (low as u16) + (high as u16) * 256
 }

@@ -1,12 +1,11 @@
 -- The chosen plan, in the words of 01's 'Choosing', with the tries that the choice takes, and what it is to be right. One recursion answers the
 -- choice and the tries, those of each length that was tried up to the chosen one. Nothing in it depends on how many tries are allowed.
 use mathlib.Core.Path.{_≡_}
-use mathlib.Core.Bool.{Bool, true, false}
+use mathlib.Core.Bool.{Bool, true, false, cond, _&&_}
 use mathlib.Core.Logic.{_⊎_}
 use mathlib.Core.List.{List, [], map}
 use Prim.Native.Nat.{ℕ, zero, suc, _+_, _/_, _%_, _<_}
 use lib.Dec.{eqb}
-use Rattle.cursor.specs.Choice.{pick, both}
 use Rattle.request.specs.declared.Task.{Task}
 use Rattle.cycle.specs.declared.Job.{Job}
 use Rattle.search.specs.Search.{Found, none, at, Walk}
@@ -45,7 +44,7 @@ pub data Choice : Type 0 where
 
 -- the length of F rows is tried: F divides H, and H/F is plausible by the rule
 unfoldable pub isTriedBy : (ℕ → Task → Bool) → Instance → ℕ → Bool
-isTriedBy rule x rows = both (eqb (x .h % rows) 0) (plausibleBy rule x (x .h / rows))
+isTriedBy rule x rows = eqb (x .h % rows) 0 && plausibleBy rule x (x .h / rows)
 
 abbrev pub isTried : Instance → ℕ → Bool
 isTried = isTriedBy phaseRule
@@ -64,12 +63,12 @@ goOnLengths f none t rest = record { choice = rest .choice; tries = t + rest .tr
 -- "The search takes lengths .. in 01's order": n lengths are left, the next is that of F rows; `some`: an earlier one was plausible (a `let` is
 -- computed only where it is taken)
 unfoldable pub walkLengthsBy : (ℕ → Task → Bool) → Instance → ℕ → ℕ → Bool → ChoiceWalk
-walkLengthsBy rule x zero rows some = record { choice = pick some noPlan noPlausible; tries = 0 }
+walkLengthsBy rule x zero rows some = record { choice = cond some noPlan noPlausible; tries = 0 }
 walkLengthsBy rule x (suc n) rows some =
     let next = walkLengthsBy rule x n (rows + 1) some in
     let after = walkLengthsBy rule x n (rows + 1) true in
     let w : Walk = planWalk (problemAt x (x .h / rows)) [] in
-    pick (isTriedBy rule x rows) (goOnLengths (x .h / rows) (w .found) (w .tries) after) next
+    cond (isTriedBy rule x rows) (goOnLengths (x .h / rows) (w .found) (w .tries) after) next
 
 -- "Plausible lengths are tried from the largest down": those of 1, 2, .., 256 rows. "The table is that of the first length with a plan"
 unfoldable pub chooseWalkBy : (ℕ → Task → Bool) → Instance → ChoiceWalk

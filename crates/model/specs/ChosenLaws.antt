@@ -3,7 +3,7 @@
 -- with that length, or shows that there is none; and a length that is not tried has none, since plausible is necessary. Nothing else is asked of the
 -- rule on the windows, so it is a parameter: 01's rule chooses rightly too, and so the same plan.
 use mathlib.Core.Path.{_≡_, refl, sym, ap, subst, _∙_}
-use mathlib.Core.Bool.{Bool, true, false}
+use mathlib.Core.Bool.{Bool, true, false, cond}
 use mathlib.Core.Logic.{_⊎_, inl, inr, ⊎-elim, _↔_}
 use mathlib.Core.List.{List, []}
 use Prim.Native.Nat.{ℕ, zero, suc, _+_, _/_, _%_, _≤_, _<_, _∣_}
@@ -13,7 +13,6 @@ use lib.ListN.{take, getD}
 use lib.Seq.{getD-take}
 use lib.Dec.{eqb}
 use borrow.Author.Tests.{eq-eqb, eqb-true}
-use Rattle.cursor.specs.Choice.{pick}
 use Rattle.cursor.specs.ChoiceLaws.{lt-or-ge}
 use Rattle.cursor.specs.ParsedLaws.{never, both-true}
 use Rattle.arith.specs.Residue.{quotient-pos}
@@ -48,7 +47,7 @@ module _ (rule : ℕ → Task → Bool) (x : Instance) where
   abbrev pub chooseFromBy : ℕ → ℕ → Bool → Choice
   chooseFromBy n rows some = walkLengthsBy rule x n rows some .choice
 
-  pub choose-end : (rows : ℕ) (some : Bool) → chooseFromBy 0 rows some ≡ pick some noPlan noPlausible
+  pub choose-end : (rows : ℕ) (some : Bool) → chooseFromBy 0 rows some ≡ cond some noPlan noPlausible
   choose-end rows some = ap (λ (w : ChoiceWalk). w .choice) (lengths-end rule x rows some)
 
   pub choose-skipped : (n rows : ℕ) (some : Bool) → isTriedBy rule x rows ≡ false → chooseFromBy (suc n) rows some ≡ chooseFromBy n (rows + 1) some
@@ -90,14 +89,14 @@ module _ (x : Instance) (g : Good x) (rule : ℕ → Task → Bool) (needed : Ne
     lengths : some ≡ false → (f : ℕ) → plausibleBy rule x f ≡ true → rows ≤ rowsAt x f
     known : some ≡ true → (f : ℕ) × (plausibleBy rule x f ≡ true)
 
-  choice-ends : (rows : ℕ) (some : Bool) → 256 < rows → Passed rows some → RightBy (plausibleBy rule x) x (pick some noPlan noPlausible)
+  choice-ends : (rows : ℕ) (some : Bool) → 256 < rows → Passed rows some → RightBy (plausibleBy rule x) x (cond some noPlan noPlausible)
   unfolding RightBy
   choice-ends rows some h v = go some refl
     where
       no-plan : NoPlan x
       no-plan f frames p = omega (arith, v .plans f frames p, p .few-rows)
 
-      go : (b : Bool) → some ≡ b → RightBy (plausibleBy rule x) x (pick b noPlan noPlausible)
+      go : (b : Bool) → some ≡ b → RightBy (plausibleBy rule x) x (cond b noPlan noPlausible)
       go true e = (no-plan, v .known e)
       go false e = (no-plan, λ f p. omega (arith, v .lengths e f p, plausible-says x f p .few-rows))
 

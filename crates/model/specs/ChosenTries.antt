@@ -1,10 +1,9 @@
 -- The laws of the choice and its tries: one length after the other, and no try where no length is plausible.
 use mathlib.Core.Path.{_≡_, refl, sym, ap, _∙_}
-use mathlib.Core.Bool.{Bool, true, false}
+use mathlib.Core.Bool.{Bool, true, false, cond}
 use mathlib.Core.List.{List, []}
 use Prim.Native.Nat.{ℕ, zero, suc, _+_, _/_, _≤_}
 use native.Mathlib.Omega.{arith}
-use Rattle.cursor.specs.Choice.{pick}
 use Rattle.cursor.specs.ParsedLaws.{never}
 use Rattle.search.specs.Search.{Found, none, at, Walk}
 use Rattle.search.specs.Placing.{planWalk}
@@ -39,7 +38,7 @@ module _ (rule : ℕ → Task → Bool) (x : Instance) where
   abbrev walkLengths : ℕ → ℕ → Bool → ChoiceWalk
   walkLengths = walkLengthsBy rule x
 
-  pub lengths-end : (rows : ℕ) (some : Bool) → walkLengths 0 rows some ≡ record { choice = pick some noPlan noPlausible; tries = 0 }
+  pub lengths-end : (rows : ℕ) (some : Bool) → walkLengths 0 rows some ≡ record { choice = cond some noPlan noPlausible; tries = 0 }
   unfolding walkLengthsBy
   lengths-end rows some = refl
 

@@ -4,7 +4,6 @@ pub mod Plan
 pub mod Slots
 pub mod Plausible
 pub mod Window
-pub mod Good
 pub mod Named
 pub mod Links
 pub mod Chosen
@@ -14,11 +13,17 @@ pub mod Within
 -- How answers stand in types:
 pub mod Answers
 -- Theorems:
+pub mod WithinLaws
 pub mod PhaseExact
 pub mod PlausibleLaws
 pub mod MayStandLaws
 pub mod ChosenLaws
 -- Laws:
+pub mod Good
+pub mod WindowLaws
+pub mod GoodLaws
+pub mod NamedLaws
+pub mod AnswerLaws
 pub mod ChosenTries
 pub mod Phase
 pub mod Disjoint
@@ -28,5 +33,6 @@ pub mod RowLaws
 pub mod LinksLaws
 pub mod ProblemLaws
 pub mod Places
+pub mod DescribedLaws
 pub mod PlanTable
 pub mod LayoutPlan

@@ -3,9 +3,10 @@
 -- an earlier one. A pair's second job may be released first, and so be placed first: hence both kinds.
 use mathlib.Core.List.{List, [], _∷_, _++_, map}
 use Prim.Native.Nat.{ℕ, zero, suc, _+_}
+use mathlib.Core.Bool.{cond}
 use lib.ListN.{length, getD}
 use lib.Dec.{ltb, eqb}
-use Rattle.cursor.specs.Choice.{pick}
+use Rattle.cursor.specs.Range.{range}
 use Rattle.cursor.specs.Padded.{padded}
 use Rattle.request.specs.declared.Pair.{Pair}
 use Rattle.cycle.specs.Planned.{noJob}
@@ -18,7 +19,7 @@ unfoldable pub placeFrom : List Job → ℕ → ℕ → ℕ → ℕ → ℕ
 placeFrom jobs i j zero z = z
 placeFrom jobs i j (suc n) z =
     let later = placeFrom jobs i j n (z + 1) in
-    pick (isJob i j (getD jobs z noJob)) z later
+    cond (isJob i j (getD jobs z noJob)) z later
 
 -- the place before y of job j of task i; y, if it has none there
 unfoldable pub placeBefore : List Job → ℕ → ℕ → ℕ → ℕ
@@ -26,7 +27,7 @@ placeBefore jobs y i j = placeFrom jobs i j y 0
 
 -- the link of the job at place y with the job at place z, if that is before y
 unfoldable pub linkIf : ℕ → ℕ → ℕ → List ℕ
-linkIf y z link = pick (ltb z y) (link ∷ []) []
+linkIf y z link = cond (ltb z y) (link ∷ []) []
 
 -- the link of the job at place y by the pair a, b: job j of b with job j of a, and job j of a with job j of b
 unfoldable pub linkBy : List Job → ℕ → Pair → List ℕ
@@ -34,7 +35,7 @@ linkBy jobs y pair =
     let job = getD jobs y noJob in
     let first = placeBefore jobs y (pair .a) (job .number) in
     let second = placeBefore jobs y (pair .b) (job .number) in
-    pick (eqb (job .task) (pair .b)) (linkIf y first first) (pick (eqb (job .task) (pair .a)) (linkIf y second (second + 128)) [])
+    cond (eqb (job .task) (pair .b)) (linkIf y first first) (cond (eqb (job .task) (pair .a)) (linkIf y second (second + 128)) [])
 
 unfoldable pub linksBy : List Job → ℕ → List Pair → List ℕ
 linksBy jobs y [] = []
@@ -44,13 +45,9 @@ linksBy jobs y (pair ∷ pairs) = linkBy jobs y pair ++ linksBy jobs y pairs
 unfoldable pub linksOfJob : Instance → ℕ → List ℕ
 linksOfJob x y = linksBy (x .jobs) y (x .pairs)
 
--- those of the n jobs from place y on
-unfoldable pub linksFrom : Instance → ℕ → ℕ → List (List ℕ)
-linksFrom x zero y = []
-linksFrom x (suc n) y = linksOfJob x y ∷ linksFrom x n (y + 1)
-
+-- those of all jobs
 unfoldable pub allLinks : Instance → List (List ℕ)
-allLinks x = linksFrom x (length (x .jobs)) 0
+allLinks x = map (linksOfJob x) (range 0 (length (x .jobs)))
 
 -- lists side by side, each in 16 places
 unfoldable pub inPlaces : List (List ℕ) → List ℕ

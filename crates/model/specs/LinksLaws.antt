@@ -1,28 +1,30 @@
 -- Laws of the links: which they are, how many, and that a job finds its own among its 16 places. The scan for a place comes to the one
 -- place of the job that it looks for; so a job is linked exactly with the jobs placed before it that a pair orders with it.
-use mathlib.Core.Path.{_≡_, refl, sym, ap, subst, _∙_}
-use mathlib.Core.Bool.{Bool, true, false}
+use mathlib.Core.Path.{_≡_, refl, sym, subst, _∙_}
+use mathlib.Core.Bool.{Bool, true, false, cond}
 use mathlib.Core.Logic.{_⊎_, inl, inr, _≢_}
 use mathlib.Core.List.{List, [], _∷_, map, List·Memᴰ, List·Memᴰ·head, List·Memᴰ·not-nil, List·Memᴰ·eq-of-singleton}
 use mathlib.Core.List.{List·Memᴰ·append-cases, Memᴰ·append-left, Memᴰ·append-right}
 use Prim.Native.Nat.{ℕ, zero, suc, _+_, _*_, _≤_, _<_}
-use native.Mathlib.Nat.{zero-add}
 use native.Mathlib.Omega.{arith}
 use lib.ListN.{length, getD, length-append, length-map, List·getD-map}
 use lib.Seq.{take-append-le, drop-append-add}
 use lib.Dec.{ltb, eqb}
 use borrow.Author.Tests.{lt-ltb, le-ltb, ltb-true, eq-eqb, ne-eqb, eqb-true}
-use Rattle.cursor.specs.Choice.{pick}
+use Rattle.cursor.specs.Range.{range}
+use Rattle.cursor.specs.RangeLaws.{over-length, over-here}
 use Rattle.cursor.specs.ParsedLaws.{never}
-use Rattle.cursor.specs.Padded.{padded, padded-length, take-padded}
+use Rattle.cursor.specs.Padded.{padded}
+use Rattle.cursor.specs.PaddedLaws.{padded-length, take-padded}
 use Rattle.request.specs.Request.{noPair}
 use Rattle.request.specs.declared.Pair.{Pair}
 use Rattle.cycle.specs.Planned.{noJob}
 use Rattle.cycle.specs.declared.Job.{Job}
 use Rattle.search.specs.Placing.{linksAt, partner, Linked}
 use Rattle.model.specs.Plan.{Instance, pairAt}
-use Rattle.model.specs.Named.{isJob, Named, job-says, says-job}
-use Rattle.model.specs.Links.{placeFrom, placeBefore, linkIf, linkBy, linksBy, linksOfJob, linksFrom, allLinks, inPlaces, linkCounts, linkPlaces}
+use Rattle.model.specs.Named.{isJob}
+use Rattle.model.specs.NamedLaws.{Named, job-says, says-job}
+use Rattle.model.specs.Links.{placeFrom, placeBefore, linkIf, linkBy, linksBy, linksOfJob, allLinks, inPlaces, linkCounts, linkPlaces}
 
 -- the job at place z is job j of task i
 abbrev pub HasJob : List Job → ℕ → ℕ → ℕ → Type 0
@@ -83,7 +85,7 @@ in-link-if : (y z link l : ℕ) → List·Memᴰ l (linkIf y z link) → (z < y)
 unfolding linkIf
 in-link-if y z link l m = go (ltb z y) refl m
   where
-    go : (b : Bool) → ltb z y ≡ b → List·Memᴰ l (pick b (link ∷ []) []) → (z < y) × (l ≡ link)
+    go : (b : Bool) → ltb z y ≡ b → List·Memᴰ l (cond b (link ∷ []) []) → (z < y) × (l ≡ link)
     go true e m = (ltb-true z y e, List·Memᴰ·eq-of-singleton m)
     go false e m = absurd (List·Memᴰ·not-nil m)
 
@@ -95,7 +97,7 @@ link-if-few : (y z link : ℕ) → length (linkIf y z link) ≤ 1
 unfolding linkIf
 link-if-few y z link = go (ltb z y)
   where
-    go : (b : Bool) → length (pick b (link ∷ []) []) ≤ 1
+    go : (b : Bool) → length (cond b (link ∷ []) []) ≤ 1
     go true = omega arith
     go false = omega arith
 
@@ -115,7 +117,7 @@ module _ (jobs : List Job) (y : ℕ) (pair : Pair) where
   in-link-by l m = go (eqb (job .task) (pair .b)) refl (eqb (job .task) (pair .a)) refl m
     where
       go : (s : Bool) → eqb (job .task) (pair .b) ≡ s → (t : Bool) → eqb (job .task) (pair .a) ≡ t
-          → List·Memᴰ l (pick s (linkIf y first first) (pick t (linkIf y second (second + 128)) [])) → LinkBy jobs y pair l
+          → List·Memᴰ l (cond s (linkIf y first first) (cond t (linkIf y second (second + 128)) [])) → LinkBy jobs y pair l
       go true e t q m =
           let v = in-link-if y first first l m in
           to-first (omega (arith, v .0, v .1)) (eqb-true _ _ e) (rw (← v .1) at (place-before-has jobs (pair .a) (job .number) y (v .0)))
@@ -141,7 +143,7 @@ module _ (jobs : List Job) (y : ℕ) (pair : Pair) where
   unfolding linkBy
   link-by-few = go (eqb (job .task) (pair .b)) (eqb (job .task) (pair .a))
     where
-      go : (s t : Bool) → length (pick s (linkIf y first first) (pick t (linkIf y second (second + 128)) [])) ≤ 1
+      go : (s t : Bool) → length (cond s (linkIf y first first) (cond t (linkIf y second (second + 128)) [])) ≤ 1
       go true t = link-if-few y first first
       go false true = link-if-few y second (second + 128)
       go false false = omega arith
@@ -210,22 +212,15 @@ places-at (list ∷ lists) short (suc k) h =
     let on : 16 * suc k ≡ length (padded 16 0 list) + 16 * k = omega (arith, padded-length 16 0 list (short 0)) in
     rw (on, drop-append-add (padded 16 0 list) (inPlaces lists) (16 * k)) (places-at lists (λ k. short (suc k)) k (omega arith))
 
+-- of the n jobs from place y on
+abbrev pub linksFrom : Instance → ℕ → ℕ → List (List ℕ)
+linksFrom x n y = map (linksOfJob x) (range y n)
+
 module _ (x : Instance) where
   pub links-from-length : (n y : ℕ) → length (linksFrom x n y) ≡ n
-  unfolding linksFrom
-  links-from-length zero y = refl
-  links-from-length (suc n) y = ap suc (links-from-length n (y + 1))
-
-  links-from-at : (n y k : ℕ) → k < n → getD (linksFrom x n y) k [] ≡ linksOfJob x (y + k)
-  unfolding linksFrom
-  links-from-at zero y k h = absurd (omega arith)
-  links-from-at (suc n) y zero h = let e : y + 0 ≡ y = omega arith in rw e
-  links-from-at (suc n) y (suc k) h =
-      let e : y + 1 + k ≡ y + suc k = omega arith in
-      links-from-at n (y + 1) k (omega arith) ∙ rw e
+  links-from-length n y = over-length (linksOfJob x) y n
 
   links-from-short : (n y : ℕ) → length (x .pairs) ≤ 16 → Short (linksFrom x n y)
-  unfolding linksFrom
   links-from-short zero y few k = omega arith
   links-from-short (suc n) y few zero = omega (arith, links-few x y)
   links-from-short (suc n) y few (suc k) = links-from-short n (y + 1) few k
@@ -245,7 +240,7 @@ module _ (x : Instance) where
     unfolding linkCounts linkPlaces allLinks
     links-at y h =
         places-at (linksFrom x (length (x .jobs)) 0) (links-from-short (length (x .jobs)) 0 few) y (omega (arith, links-from-length (length (x .jobs)) 0))
-        ∙ rw zero-add at (links-from-at (length (x .jobs)) 0 y h)
+        ∙ over-here (linksOfJob x) [] (length (x .jobs)) y h
 
     counts-few : (y : ℕ) → getD (linkCounts x) y 0 ≤ 16
     unfolding linkCounts allLinks

@@ -8,22 +8,24 @@ use Prim.Native.Nat.{ℕ, _+_, _-_, _≤_, _<_, _%_}
 use native.Mathlib.Omega.{arith}
 use lib.ListN.{length, getD}
 use borrow.Author.Tests.{le-leb, leb-true}
-use Rattle.cursor.specs.Padded.{map-at}
+use Rattle.cursor.specs.PaddedLaws.{map-at}
 use Rattle.cycle.specs.Planned.{noJob}
 use Rattle.search.specs.Placing.{row-sum, linksOf, hasRoom, ordered, fits, windowStart, frameCount}
 use Rattle.search.specs.LoadLaws.{both-true}
 use Rattle.search.specs.Plans.{LinkKept}
 use Rattle.search.specs.PlansLaws.{all-kept-says, says-all-kept}
-use Rattle.model.specs.Window.{window-frames}
+use Rattle.model.specs.WindowLaws.{window-frames}
 use Rattle.model.specs.Plan.{Instance, pairAt, jobAt, rowsAt, costs, InWindow}
 use Rattle.model.specs.Plausible.{plausible}
 use Rattle.model.specs.Chosen.{firstFrameOf, endFrameOf, problemAt}
-use Rattle.model.specs.Good.{Good, same-place}
+use Rattle.model.specs.Good.{Good}
+use Rattle.model.specs.GoodLaws.{same-place}
 use Rattle.model.specs.PlanLaws.{cost-at}
 use Rattle.model.specs.PlausibleLaws.{plausible-says}
 use Rattle.model.specs.LinksLaws.{HasJob, LinkBy, to-first, to-second, link-to-first, link-to-second, in-links, by-pair, links-at}
 use Rattle.model.specs.MayStand.{BreaksNoPair, MayStand}
-use Rattle.model.specs.Within.{Within, within-good}
+use Rattle.model.specs.Within.{Within}
+use Rattle.model.specs.WithinLaws.{within-good}
 
 -- the job at place y, in frame k, keeps its links
 abbrev pub KeepsLinks : Instance → ℕ → List ℕ → ℕ → ℕ → Type 0

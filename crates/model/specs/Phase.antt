@@ -6,10 +6,11 @@ use mathlib.Core.Logic.{_↔_}
 use Prim.Native.Nat.{ℕ, _+_, _*_, _-_, _/_, _%_, _≤_, _<_, _∣_}
 use native.Mathlib.Nat.{mod-lt, mod-le, mod-mod, mod-mod-of-dvd, div-mul-cancel, le-of-dvd, pos-of-dvd-of-pos}
 use native.Mathlib.Omega.{arith}
-use Rattle.arith.specs.Gcd.{gcdOf, gcd-dvd}
+use Rattle.arith.specs.Gcd.{gcdOf}
+use Rattle.arith.specs.GcdLaws.{gcd-dvd}
 use Rattle.arith.specs.Residue.{congruent, residues-reached}
 use Rattle.model.specs.Plan.{InWindow}
-use Rattle.model.specs.Window.{since, since-is, window-holds}
+use Rattle.model.specs.WindowLaws.{since, since-is, window-holds}
 
 -- every job of the task has a whole frame in its window
 abbrev pub EveryWindowHolds : ℕ → ℕ → ℕ → ℕ → ℕ → Type 0

@@ -10,13 +10,15 @@ use native.Mathlib.Omega.{arith}
 use lib.ListN.{length}
 use lib.Dec.{leb}
 use borrow.Author.Tests.{le-leb, leb-true, eq-eqb, ne-eqb}
-use Rattle.arith.specs.Gcd.{gcdOf, gcd-pos}
+use Rattle.arith.specs.Gcd.{gcdOf}
+use Rattle.arith.specs.GcdLaws.{gcd-pos}
 use Rattle.request.specs.declared.Task.{Task}
-use Rattle.model.specs.Window.{since, since-le, since-multiple, since-other}
+use Rattle.model.specs.WindowLaws.{since, since-le, since-multiple, since-other}
 use Rattle.model.specs.Phase.{EveryWindowHolds, windows-hold}
 use Rattle.model.specs.Plan.{Instance, taskAt, jobAt}
 use Rattle.model.specs.Plausible.{commonRule, phaseRule, WindowsHold}
-use Rattle.model.specs.Good.{Good, JobFacts, job-facts, PlaceOf, place-of}
+use Rattle.model.specs.Good.{Good}
+use Rattle.model.specs.GoodLaws.{JobFacts, job-facts, PlaceOf, place-of}
 
 -- the rule where p is 0, and where it is not
 module _ (f : ℕ) (task : Task) (common : ℕ) (is : common ≡ gcdOf f (task .t)) where

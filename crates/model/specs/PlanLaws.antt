@@ -7,12 +7,13 @@ use native.Mathlib.Omega.{arith}
 use lib.ListN.{length, getD, length-map}
 use borrow.Author.Tests.{eq-eqb}
 use Rattle.arith.specs.Residue.{quotient-pos}
-use Rattle.cursor.specs.Padded.{map-at}
+use Rattle.cursor.specs.PaddedLaws.{map-at}
 use Rattle.cycle.specs.Planned.{noJob}
 use Rattle.search.specs.Placing.{row-sum}
 use Rattle.model.specs.Disjoint.{InJob}
 use Rattle.model.specs.Plan.{Instance, taskAt, jobAt, rowsAt, slot, costOf, costs, frameAt, IsPlan}
-use Rattle.model.specs.Good.{Good, JobFacts, job-facts, PlaceOf, first-job}
+use Rattle.model.specs.Good.{Good}
+use Rattle.model.specs.GoodLaws.{JobFacts, job-facts, PlaceOf, first-job}
 
 pub costs-length : (x : Instance) → length (costs x) ≡ length (x .jobs)
 unfolding costs

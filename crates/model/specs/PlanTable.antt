@@ -6,20 +6,23 @@ use mathlib.Core.Logic.{inl, inr, ⊎-elim}
 use mathlib.Core.List.{List, [], _∷_, map, List·Memᴰ}
 use mathlib.Core.List.List·Memᴰ.{List·Memᴰ·head, List·Memᴰ·tail}
 use Prim.Native.Nat.{ℕ, zero, suc, _+_, _*_, _-_, _≤_, _<_}
-use native.Mathlib.Nat.{mod-lt, div-mul-cancel, eq-of-mul-eq-mul-right, add-zero}
+use native.Mathlib.Nat.{mod-lt, div-mul-cancel, eq-of-mul-eq-mul-right}
 use native.Mathlib.Omega.{arith}
-use lib.ListN.{length, getD, length-append, length-map}
+use lib.ListN.{length, length-append, length-map}
 use lib.Seq.{ext-getD}
+use Rattle.cursor.specs.Range.{range}
+use Rattle.cursor.specs.RangeLaws.{over-length, over-here}
 use Rattle.cycle.specs.OrderLaws.{All, all-implies, Pairwise}
 use Rattle.table.specs.Table.{Entry, Table, rowOf, encode}
 use Rattle.table.specs.WellFormed.{RisingFrom, AllRising}
 use Rattle.table.specs.RisingLaws.{row-rises}
 use Rattle.table.specs.LengthLaws.{entryCount, encode-length}
 use Rattle.model.specs.Plan.{Instance, jobAt, rowsAt, frameAt, IsPlan}
-use Rattle.model.specs.Good.{Good, job-facts}
+use Rattle.model.specs.Good.{Good}
+use Rattle.model.specs.GoodLaws.{job-facts}
 use Rattle.model.specs.PlanLaws.{length-pos, rows-pos}
 use Rattle.model.specs.RowLaws.{task-once}
-use Rattle.model.specs.Described.{Among, rowFor, entryFor, StandsIn, Describes, placesByTask, placesIn, planRows, planTable}
+use Rattle.model.specs.Described.{Among, rowFor, entryFor, StandsIn, Describes, placesByTask, placesIn, planRow, planTable}
 use Rattle.model.specs.Places.{
   up-rises,
   all-both,
@@ -45,30 +48,17 @@ use Rattle.model.specs.Places.{
 -- The rows of the table of a plan.
 
 module _ (x : Instance) (f : ℕ) (frames : List ℕ) where
-  -- row r of the plan
-  abbrev pub planRow : ℕ → List Entry
-  planRow r = map (entryFor x f frames) (placesIn (rowFor x f frames) r (placesByTask x))
-
-  plan-rows-count : (n r : ℕ) → length (planRows x f frames n r) ≡ n
-  unfolding planRows
-  plan-rows-count zero r = refl
-  plan-rows-count (suc n) r = ap suc (plan-rows-count n (r + 1))
-
-  plan-rows-at : (n r j : ℕ) → j < n → getD (planRows x f frames n r) j [] ≡ planRow (r + j)
-  unfolding planRows
-  plan-rows-at zero r j h = absurd (omega arith)
-  plan-rows-at (suc n) r zero h = rw add-zero
-  plan-rows-at (suc n) r (suc j) h =
-      let same : r + 1 + j ≡ r + suc j = omega arith in
-      plan-rows-at n (r + 1) j (omega arith) ∙ rw same
+  -- n rows of the plan, from row r on
+  abbrev pub planRows : ℕ → ℕ → List (List Entry)
+  planRows n r = map (planRow x f frames) (range r n)
 
   pub plan-height : length (planTable x f frames .rows) ≡ rowsAt x f
   unfolding planTable
-  plan-height = plan-rows-count (rowsAt x f) 0
+  plan-height = over-length (planRow x f frames) 0 (rowsAt x f)
 
-  pub plan-row : (r : ℕ) → r < rowsAt x f → rowOf (planTable x f frames) r ≡ planRow r
+  pub plan-row : (r : ℕ) → r < rowsAt x f → rowOf (planTable x f frames) r ≡ planRow x f frames r
   unfolding planTable
-  plan-row r h = let same : 0 + r ≡ r = omega arith in plan-rows-at (rowsAt x f) 0 r h ∙ rw same
+  plan-row r h = over-here (planRow x f frames) [] (rowsAt x f) r h
 
 -- the entries of the places in a list, and no others
 among-map : (e : ℕ → Entry) {y : ℕ} {l : List ℕ} → List·Memᴰ y l → Among (e y) (map e l)
@@ -125,7 +115,7 @@ module _ (x : Instance) (g : Good x) (f : ℕ) (frames : List ℕ) (v : IsPlan x
       (pairwise-picked (rowFor x f frames) Less r (placesByTask x) places-rise)
 
   all-rising : (n r : ℕ) → AllRising (planRows x f frames n r)
-  unfolding AllRising planRows
+  unfolding AllRising
   all-rising zero r = tt
   all-rising (suc n) r = (row-rising r, all-rising n (r + 1))
 
@@ -224,7 +214,7 @@ module _ (x : Instance) (g : Good x) (f : ℕ) (frames : List ℕ) (v : IsPlan x
 module _ (x : Instance) (f : ℕ) (frames : List ℕ) where
   -- the rows hold the places, row by row
   rows-hold : (n r : ℕ) → entryCount (planRows x f frames n r) ≡ length (spread (rowFor x f frames) (placesByTask x) n r)
-  unfolding entryCount planRows
+  unfolding entryCount
   rows-hold zero r = refl
   rows-hold (suc n) r =
       let here : List ℕ = placesIn (rowFor x f frames) r (placesByTask x) in

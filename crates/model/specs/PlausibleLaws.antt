@@ -1,7 +1,7 @@
 -- Plausible is necessary for a plan. Each job of a task stands in its window, so all windows of the task hold a frame, which is the rule
 -- of the phase by `PhaseExact`; and a row holds a job of the task, so its C is at most f.
 use mathlib.Core.Path.{_≡_, refl}
-use mathlib.Core.Bool.{Bool, true}
+use mathlib.Core.Bool.{Bool, true, _&&_}
 use mathlib.Core.List.{List, [], _∷_}
 use Prim.Native.Nat.{ℕ, zero, suc, _+_, _%_, _≤_, _<_, _∣_}
 use native.Mathlib.Nat.{mod-eq-zero-of-dvd, dvd-of-mod-eq-zero}
@@ -11,7 +11,6 @@ use lib.ListN.{length, getD, drop, drop-of-length-le}
 use lib.Seq.{drop-cons}
 use lib.Dec.{leb, ltb, eqb}
 use borrow.Author.Tests.{lt-ltb, ltb-true, le-leb, leb-true, eq-eqb, eqb-true}
-use Rattle.cursor.specs.Choice.{both}
 use Rattle.cursor.specs.ParsedLaws.{both-true}
 use Rattle.request.specs.Request.{noTask}
 use Rattle.request.specs.declared.Task.{Task}
@@ -63,7 +62,7 @@ module _ (rule : ℕ → Task → Bool) (g f : ℕ) (tasks : List Task) (i : ℕ
   rules-end h = rw (drop-of-length-le tasks h)
 
   pub rules-next : i < length tasks
-      → frameRules rule g f (drop i tasks) ≡ both (frameRule rule g f (getD tasks i noTask)) (frameRules rule g f (drop (i + 1) tasks))
+      → frameRules rule g f (drop i tasks) ≡ frameRule rule g f (getD tasks i noTask) && frameRules rule g f (drop (i + 1) tasks)
   unfolding frameRules
   rules-next h = rw (add-one i, drop-cons tasks i noTask h)
 

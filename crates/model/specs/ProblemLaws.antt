@@ -15,7 +15,8 @@ use Rattle.search.specs.Placing.{Proper}
 use Rattle.search.specs.Plans.{IsPlacing}
 use Rattle.model.specs.Plan.{Instance, pairAt, jobAt, rowsAt, costs, frameAt, PairsKept, IsPlan}
 use Rattle.model.specs.Chosen.{firstFrameOf, endFrameOf, problemAt}
-use Rattle.model.specs.Good.{Good, job-facts}
+use Rattle.model.specs.Good.{Good}
+use Rattle.model.specs.GoodLaws.{job-facts}
 use Rattle.model.specs.PlanLaws.{costs-length, cost-at, length-pos}
 use Rattle.model.specs.PlausibleLaws.{PlausibleBy}
 use Rattle.model.specs.LinksLaws.{counts-length, links-linked}

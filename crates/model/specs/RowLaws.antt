@@ -7,7 +7,8 @@ use lib.ListN.{length}
 use Rattle.request.specs.Readable.{TaskKept}
 use Rattle.model.specs.Disjoint.{InJob, one-job-in-row, frame-below}
 use Rattle.model.specs.Plan.{Instance, taskAt, jobAt, rowsAt, frameAt, IsPlan}
-use Rattle.model.specs.Good.{Good, JobFacts, job-facts, same-place}
+use Rattle.model.specs.Good.{Good}
+use Rattle.model.specs.GoodLaws.{JobFacts, job-facts, same-place}
 use Rattle.model.specs.PlanLaws.{in-window}
 
 module _ (x : Instance) (g : Good x) (f : ℕ) (frames : List ℕ) (v : IsPlan x f frames) where

@@ -1,13 +1,13 @@
 -- The loop over the tasks that tests the frame rule of each: what is left at task i, and what is left at task i + 1.
 use mathlib.Core.Path.{_≡_, sym, _∙_}
-use mathlib.Core.Bool.{true, false}
+use mathlib.Core.Bool.{true, false, _&&_}
 use mathlib.Core.List.{List}
 use Prim.Native.Nat.{ℕ, _+_, _≤_, _<_}
 use native.Mathlib.Omega.{arith}
 use lib.ListN.{getD, drop}
 use borrow.Author.Tests.{le-leb, lt-leb}
-use Rattle.cursor.specs.Choice.{both}
-use Rattle.cursor.specs.Padded.{firsts, firsts-length, getD-firsts}
+use Rattle.cursor.specs.Padded.{firsts}
+use Rattle.cursor.specs.PaddedLaws.{firsts-length, getD-firsts}
 use Rattle.request.specs.Request.{noTask}
 use Rattle.request.specs.declared.Task.{Task}
 use Rattle.model.specs.Plan.{slot}
@@ -21,7 +21,7 @@ module _ (g f : ℕ) (places : List Task) (n i : ℕ) where
   abbrev x : Task
   x = getD places i noTask
 
-  turn : i < n → frameRules phaseRule g f (drop i tasks) ≡ both (frameRule phaseRule g f x) (frameRules phaseRule g f (drop (i + 1) tasks))
+  turn : i < n → frameRules phaseRule g f (drop i tasks) ≡ frameRule phaseRule g f x && frameRules phaseRule g f (drop (i + 1) tasks)
   turn l = rules-next phaseRule g f tasks i (omega (arith, firsts-length noTask places n)) ∙ rw (getD-firsts noTask places n i l)
 
   -- the slot is longer than the frame

@@ -1,11 +1,10 @@
 -- The answers of the functions as values of their types, and what they say of the table that the bytes have.
 use Prim.Native.Nat.{ℕ, _+_, _*_, _≤_, _<_}
 use mathlib.Core.Path.{_≡_}
-use mathlib.Core.Bool.{Bool}
+use mathlib.Core.Bool.{Bool, _&&_}
 use mathlib.Core.List.{List}
 use lib.ListN.{getD}
 use lib.Dec.{leb}
-use Rattle.cursor.specs.Choice.{both}
 use Rattle.table.specs.Table.{Table, table, decode, rowOf}
 use Rattle.model.specs.Plan.{Instance}
 use Rattle.model.specs.Slots.{slots}
@@ -24,7 +23,7 @@ pub record UsedTimes (x : Instance) (bytes : List ℕ) (k : ℕ) (times : List �
 
 -- the three tests of frame k, whose row has so much used time
 unfoldable pub fitsBy : ℕ → ℕ → ℕ → ℕ → ℕ → ℕ → ℕ → Bool
-fitsBy L s e f g used k = both (leb s (k * f)) (both (leb ((k + 1) * f) e) (leb (used + (L + g)) f))
+fitsBy L s e f g used k = leb s (k * f) && (leb ((k + 1) * f) e && leb (used + (L + g)) f)
 
 module _ (L s e : ℕ) (x : Instance) (bytes : List ℕ) where
   -- whether frame k fits

@@ -1,7 +1,7 @@
 -- Of the frames of two cycles the first that fits is found, or none fits. A frame that fits ends by e, which is at most 2H: so it is one of those.
 use Prim.Native.Nat.{ℕ, zero, suc, _+_, _*_, _≤_, _<_}
 use mathlib.Core.Path.{_≡_, refl, sym, ap, subst, _∙_}
-use mathlib.Core.Bool.{Bool, true, false}
+use mathlib.Core.Bool.{Bool, true, false, _&&_}
 use mathlib.Core.Logic.{_⊎_, inl, inr, ⊎-elim}
 use mathlib.Core.List.{List}
 use native.Mathlib.Nat.{le-of-mul-le-mul-right}
@@ -9,24 +9,25 @@ use native.Mathlib.Omega.{arith}
 use lib.ListN.{length}
 use lib.Dec.{leb, ltb, eqb}
 use borrow.Author.Tests.{ltb-true, ltb-false, leb-true, leb-false, eqb-true, eqb-false, le-leb, eq-eqb}
-use Rattle.cursor.specs.Choice.{both}
 use Rattle.cursor.specs.ChoiceLaws.{lt-or-ge}
-use Rattle.cursor.specs.Front.{Bytes}
+use Rattle.cursor.specs.Fields.{Bytes}
 use Rattle.cursor.specs.ParsedLaws.{never, both-true}
 use Rattle.cycle.specs.Cycle.{cycleOf}
 use Rattle.table.specs.Table.{Table, decode}
-use Rattle.table.specs.TableBytes.{SaysTable, says-decodes}
+use Rattle.table.specs.TableBytes.{SaysTable}
+use Rattle.table.specs.TableBytesLaws.{says-decodes}
 use Rattle.model.specs.Plan.{Instance, IsPlan}
 use Rattle.model.specs.PlanLaws.{length-pos}
-use Rattle.model.specs.Within.{Within, within-good}
+use Rattle.model.specs.Within.{Within}
+use Rattle.model.specs.WithinLaws.{within-good}
 use Rattle.model.specs.Described.{Accepted}
 use Rattle.checker.specs.Checked as checker
 use Rattle.checker.specs.Checked.{checkNumber}
 use Rattle.checker.specs.Verdicts.{refusal-number}
 use Rattle.checker.specs.Exactly.{OfBoth}
 use Rattle.checker.specs.ExactlyLaws.{check-exact}
-use Rattle.one_off.specs.OneOff.{inFrame, refusal, frameFits, wellAsked, earliestOf, earliest, offered, oneOff}
-use Rattle.one_off.specs.StepLaws.{check-refuses}
+use Rattle.one_off.specs.OneOff.{inFrame, refusal, frameFits, wellAsked, earliest, offered, oneOff}
+use Rattle.one_off.specs.StepLaws.{earliestOf, check-refuses}
 use Rattle.one_off.specs.Exactly.{Fits, BadlyAsked, NoneFits, IsEarliest, AskedBadly, NoFrame, TheFrame, OneOffExact}
 
 -- The first frame of some
@@ -41,7 +42,6 @@ Sought fits n k = ((l : ℕ) × (earliestOf fits n k ≡ inFrame l) × FirstAt f
     ⊎ ((earliestOf fits n k ≡ refusal 22) × ((j : ℕ) → k ≤ j → j < k + n → fits j ≡ true → ⊥))
 
 sought : (fits : ℕ → Bool) (n k : ℕ) → Sought fits n k
-unfolding earliestOf
 sought fits zero k = inr (refl, λ j a b q. omega arith)
 sought fits (suc n) k = go (fits k) refl (sought fits n (k + 1))
   where
@@ -87,7 +87,7 @@ module _ (L s e : ℕ) where
   unfolding wellAsked
   badly-says h q = go (ltb 0 L) refl (leb s e) refl (leb e (2 * h)) refl q
     where
-      go : (a : Bool) → ltb 0 L ≡ a → (b : Bool) → leb s e ≡ b → (c : Bool) → leb e (2 * h) ≡ c → both a (both b c) ≡ false → BadlyAsked h L s e
+      go : (a : Bool) → ltb 0 L ≡ a → (b : Bool) → leb s e ≡ b → (c : Bool) → leb e (2 * h) ≡ c → a && (b && c) ≡ false → BadlyAsked h L s e
       go false p b r c w z = inl (let none = ltb-false 0 L p in omega arith)
       go true p false r c w z = inr (inl (leb-false s e r))
       go true p true r false w z = inr (inr (leb-false e (2 * h) w))

@@ -1,10 +1,10 @@
 -- Time for a one-off transfer: 02, R-6.
-use Prim.Native.Nat.{ℕ, zero, suc, _+_, _*_, _%_}
-use mathlib.Core.Bool.{Bool}
-use mathlib.Core.List.{List}
+use Prim.Native.Nat.{ℕ, _+_, _*_, _%_}
+use mathlib.Core.Bool.{Bool, cond, _&&_}
+use mathlib.Core.List.{List, foldr}
 use lib.ListN.{length}
 use lib.Dec.{leb, ltb, eqb}
-use Rattle.cursor.specs.Choice.{pick, both}
+use Rattle.cursor.specs.Range.{range}
 use Rattle.cycle.specs.Cycle.{Cycle, cycle, noCycle, cycleOf}
 use Rattle.table.specs.Table.{Table, Decoded, table, malformed, decode, rowOf}
 use Rattle.model.specs.Plan.{Instance}
@@ -25,25 +25,19 @@ usedIn x t k = slots x (rowOf t (k % length (t .rows)))
 module _ (L s e : ℕ) where
   -- "k·f ≥ s, (k+1)·f ≤ e and enough unused time in its row for L + g"
   unfoldable pub frameFits : Instance → Table → ℕ → Bool
-  frameFits x t k = both (leb s (k * t .f)) (both (leb ((k + 1) * t .f) e) (leb (usedIn x t k + (L + x .g)) (t .f)))
+  frameFits x t k = leb s (k * t .f) && (leb ((k + 1) * t .f) e && leb (usedIn x t k + (L + x .g)) (t .f))
 
   -- not "L is 0, s > e or e > 2H"
   unfoldable pub wellAsked : ℕ → Bool
-  wellAsked h = both (ltb 0 L) (both (leb s e) (leb e (2 * h)))
+  wellAsked h = ltb 0 L && (leb s e && leb e (2 * h))
 
--- "the earliest frame": of n frames, the first is k; 22 "when no frame fits"
-unfoldable pub earliestOf : (ℕ → Bool) → ℕ → ℕ → Offer
-earliestOf fits zero k = refusal 22
-earliestOf fits (suc n) k = pick (fits k) (inFrame k) (earliestOf fits n (k + 1))
-
-module _ (L s e : ℕ) where
-  -- the frames of two cycles, since e is at most 2H
+  -- "the earliest frame" of two cycles, since e is at most 2H; 22 "when no frame fits"
   unfoldable pub earliest : Instance → Table → Offer
-  earliest x t = earliestOf (frameFits L s e x t) (2 * length (t .rows)) 0
+  earliest x t = foldr (λ k later. cond (frameFits x t k) (inFrame k) later) (refusal 22) (range 0 (2 * length (t .rows)))
 
   -- "It refuses with 21 if L is 0, s > e or e > 2H, and then with 22"
   unfoldable pub offered : Instance → Table → Offer
-  offered x t = pick (wellAsked L s e (x .h)) (earliest x t) (refusal 21)
+  offered x t = cond (wellAsked (x .h)) (earliest x t) (refusal 21)
 
   -- of what the check accepts; the other cases it has refused
   abbrev pub offeredTo : Cycle → Decoded → Offer
@@ -53,4 +47,4 @@ module _ (L s e : ℕ) where
 
   -- "The request and table are checked first."
   unfoldable pub oneOff : List ℕ → List ℕ → Offer
-  oneOff request bytes = pick (eqb (checkNumber request bytes) 0) (offeredTo (cycleOf request) (decode bytes)) (refusal (checkNumber request bytes))
+  oneOff request bytes = cond (eqb (checkNumber request bytes) 0) (offeredTo (cycleOf request) (decode bytes)) (refusal (checkNumber request bytes))

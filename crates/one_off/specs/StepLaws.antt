@@ -1,29 +1,30 @@
 -- Each step of the code as the definitions have it: one entry more of a row, one frame tested, one frame more passed, and each way out.
 use Prim.Native.Nat.{ℕ, zero, suc, _+_, _*_, _-_, _%_, _≤_, _<_, min}
 use mathlib.Core.Path.{_≡_, refl, sym, ap, _∙_}
-use mathlib.Core.Bool.{Bool, true, false}
+use mathlib.Core.Bool.{Bool, true, false, cond}
 use mathlib.Core.Logic.{⊎-elim}
-use mathlib.Core.List.{List, []}
+use mathlib.Core.List.{List, [], foldr}
 use native.Mathlib.Nat.{mod-lt}
 use native.Mathlib.Omega.{arith}
 use lib.ListN.{length, getD, set}
 use lib.Seq.{getD-set-same, getD-set-other}
 use lib.Dec.{leb}
 use borrow.Author.Tests.{lt-leb, le-leb, eq-eqb, ne-eqb}
+use Rattle.cursor.specs.Range.{range}
 use Rattle.cursor.specs.ChoiceLaws.{lt-or-ge}
-use Rattle.cursor.specs.Front.{Bytes}
+use Rattle.cursor.specs.Fields.{Bytes}
 use Rattle.cursor.specs.Padded.{firsts}
 use Rattle.request.specs.Request.{noTask}
 use Rattle.request.specs.declared.Task.{Task}
 use Rattle.cycle.specs.Cycle.{cycleOf}
-use Rattle.cycle.specs.Answers.{answered}
+use Rattle.cycle.specs.Answers.{cycleAnswered}
 use Rattle.cycle.specs.declared.Cycle.{Cycle}
 use Rattle.table.specs.Table.{Table, table, decode, rowOf}
 use Rattle.table.specs.EntryLaws.{task-of-byte}
 use Rattle.table.specs.RisingLaws.{row-rises, row-few}
 use Rattle.table.specs.Inverse.{decode-wellformed}
-use Rattle.table.specs.Answers.{sizesOf, rowGiven, rowAt, entriesAt, entriesSaid}
-use Rattle.table.specs.AnswerLaws.{entries-more, entries-none, entries-given, given-count, sizes-table, row-answered}
+use Rattle.table.specs.Answers.{sizesOf, rowGiven, rowAt, entriesSaid}
+use Rattle.table.specs.AnswerLaws.{entriesAt, entries-more, entries-none, entries-given, given-count, sizes-table, row-answered}
 use Rattle.table.specs.RowsLeft.{RowsLeft, row-there, rows-go-on}
 use Rattle.table.specs.declared.Row.{Row}
 use Rattle.table.specs.declared.TakenRow.{TakenRow}
@@ -31,12 +32,12 @@ use Rattle.table.specs.declared.Sizes.{Sizes}
 use Rattle.model.specs.Plan.{Instance, slot}
 use Rattle.model.specs.Slots.{slots}
 use Rattle.model.specs.Answers.{instanceOf}
-use Rattle.model.specs.Within.{Taken, read-within}
-use Rattle.checker.specs.Checked.{Verdict, accepted, refusal, checked, numberOf, checkNumber}
+use Rattle.model.specs.WithinLaws.{Taken, read-within}
+use Rattle.checker.specs.Checked.{Verdict, accepted, refusal, checked, verdictNumber, checkNumber}
 use Rattle.checker.specs.ReadLaws.{Formed, table-formed}
 use Rattle.checker.specs.Verdicts.{PlanRead, plan-read, refusal-number}
 use Rattle.one_off.specs.OneOff as spec
-use Rattle.one_off.specs.OneOff.{frameFits, wellAsked, earliestOf, earliest, offered, oneOff}
+use Rattle.one_off.specs.OneOff.{frameFits, wellAsked, earliest, offered, oneOff}
 use Rattle.one_off.specs.Answers.{offerAnswer, UsedTimes, fitsBy, FitsIn, EarliestIn}
 use Rattle.one_off.specs.declared.FrameFound.{FrameFound}
 
@@ -60,7 +61,6 @@ module _ (tasks : List Task) (n g : ℕ) (entries : List ℕ) (count i : ℕ) wh
 
 same-slots : (c : Cycle) (entries jobs : List ℕ) (k p : ℕ)
     → slots (ofTasks (c .tasks) (c .n) (c .g)) (entriesAt entries [] k p) ≡ slots (instanceOf c) (entriesAt entries jobs k p)
-unfolding entriesAt
 same-slots c entries jobs zero p = refl
 same-slots c entries jobs (suc k) p =
     rw (task-of-byte (getD entries p 0) (getD {A = ℕ} [] p 0), task-of-byte (getD entries p 0) (getD jobs p 0), same-slots c entries jobs k (p + 1))
@@ -156,6 +156,10 @@ module _ (L s e : ℕ) (c : Cycle) (bytes : List ℕ) (z : Sizes) (o : Formed by
 
 -- The frames in turn
 
+-- the earliest of n frames that fits, the first is k
+abbrev pub earliestOf : (ℕ → Bool) → ℕ → ℕ → spec.Offer
+earliestOf fits n k = foldr (λ j later. cond (fits j) (spec.inFrame j) later) (spec.refusal 22) (range k n)
+
 module _ (L s e : ℕ) (x : Instance) (bytes : List ℕ) where
   -- the frames from k on decide
   pub record LeftFrom (k : ℕ) : Type 0 where
@@ -174,15 +178,12 @@ module _ (L s e : ℕ) (x : Instance) (bytes : List ℕ) where
       one-less t is = omega (arith, height-of t is)
 
       pub frame-found : FitsIn L s e x bytes k true → EarliestIn L s e x bytes (record { refusal = 0; frame = k })
-      unfolding earliestOf
       frame-found fits = record { of = λ t is. ap offerAnswer (rw (one-less t is, ← fits .of t is) at (left .of t is)) }
 
       pub frame-passed : FitsIn L s e x bytes k false → LeftFrom (k + 1)
-      unfolding earliestOf
       frame-passed fits = record { of = λ t is. rw (one-less t is, ← fits .of t is) at (left .of t is) }
 
     pub none-fits : 2 * z .height ≤ k → EarliestIn L s e x bytes (offerAnswer (spec.refusal 22))
-    unfolding earliestOf
     none-fits h = record {
       of = λ t is. let none : 2 * length (t .rows) - k ≡ 0 = omega (arith, height-of t is) in ap offerAnswer (rw none at (left .of t is));
     }
@@ -205,7 +206,7 @@ module _ (L s e : ℕ) (request bytes : List ℕ) where
     pub passed : Passed
     passed = go (checked (cycleOf request) (decode bytes)) refl pass
       where
-        go : (v : Verdict) → checked (cycleOf request) (decode bytes) ≡ v → numberOf v ≡ 0 → Passed
+        go : (v : Verdict) → checked (cycleOf request) (decode bytes) ≡ v → verdictNumber v ≡ 0 → Passed
         go (accepted f frames) is q = record { f = f; frames = frames; read = plan-read request bytes f frames is }
         go (refusal n) is q = absurd (omega (arith, refusal-number request bytes n is .0))
 
@@ -214,9 +215,9 @@ module _ (L s e : ℕ) (request bytes : List ℕ) where
         let p = passed .read in
         table-formed bytes z is (ap (λ (y : Sizes). y .refusal) (is ∙ ap sizesOf (p .read) ∙ sizes-table (p .t)))
 
-    module _ (c : Cycle) (is : c ≡ answered (cycleOf request)) where
+    module _ (c : Cycle) (is : c ≡ cycleAnswered (cycleOf request)) where
       taken : Taken request c
-      taken = read-within request c is (ap (λ (y : Cycle). y .refusal) (is ∙ ap answered (passed .read .within)))
+      taken = read-within request c is (ap (λ (y : Cycle). y .refusal) (is ∙ ap cycleAnswered (passed .read .within)))
 
       offered-is : oneOff L s e request bytes ≡ offered L s e (instanceOf c) (passed .read .t)
       unfolding oneOff

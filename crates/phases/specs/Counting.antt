@@ -5,7 +5,7 @@ use lib.Dec.{eqb}
 use Rattle.cursor.specs.Choice.{bit}
 use Rattle.request.specs.Request.{periodOf}
 use Rattle.request.specs.declared.Request.{Request}
-use Rattle.cycle.specs.Answers.{AsRead, cycleFor, answered}
+use Rattle.cycle.specs.Answers.{AsRead, cycleFor, cycleAnswered}
 use Rattle.cycle.specs.PhaseLaws.{requestWith}
 use Rattle.model.specs.Answers.{instanceOf}
 use Rattle.model.specs.Chosen.{chooseWalk}
@@ -32,7 +32,7 @@ oneMore counts number = record {
 -- a request that was read and is within the limits, and one of its tasks
 pub record Countable (r : Request) (i : ℕ) : Type 0 where
   pub as-read : AsRead r
-  pub within : answered (cycleFor r) .refusal ≡ 0
+  pub within : cycleAnswered (cycleFor r) .refusal ≡ 0
   pub known : i < r .n
 
 abbrev pub periodIn : Request → ℕ → ℕ
@@ -40,4 +40,4 @@ periodIn r i = periodOf (r .tasks) i
 
 -- what planning the request with the phase p for task i comes to
 unfoldable pub phaseNumber : ℕ → Request → ℕ → ℕ → ℕ
-phaseNumber allowance r i p = choiceWithin allowance (chooseWalk (instanceOf (answered (cycleFor (requestWith r i p))))) .refusal
+phaseNumber allowance r i p = choiceWithin allowance (chooseWalk (instanceOf (cycleAnswered (cycleFor (requestWith r i p))))) .refusal

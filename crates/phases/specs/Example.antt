@@ -11,17 +11,17 @@ use Rattle.request.specs.Request.{taskRule, judgedTask, taskOf, tasksOf, pairRu
 use Rattle.request.specs.Encode.{taskBytes, pairBytes, sectionBytes, silentBytes, requestBytes}
 use Rattle.request.specs.declared.Task.{Task}
 use Rattle.request.specs.declared.Pair.{Pair}
-use Rattle.cycle.specs.Cycle.{lcmWith, hyperperiod, jobsIn, jobOf, jobsFrom, jobsOf, allJobs, before, insert, inOrder, planned, cycleOf}
+use Rattle.cycle.specs.Cycle.{lcmWith, hyperperiod, jobsIn, jobOf, allJobs, before, insert, inOrder, planned, cycleOf}
 use Rattle.search.specs.Search.{goOn, oneTry, walkFrames, walk}
 use Rattle.search.specs.Placing.{row-sum, all-kept, fits, planWalk}
 use Rattle.model.specs.Window.{firstFrom}
 use Rattle.model.specs.Plan.{slot, costOf, costs}
 use Rattle.model.specs.Plausible.{commonRule, phaseRule, frameRule, frameRules, plausibleBy}
 use Rattle.model.specs.Named.{isJob}
-use Rattle.model.specs.Links.{placeFrom, placeBefore, linkIf, linkBy, linksBy, linksOfJob, linksFrom, allLinks, inPlaces, linkCounts, linkPlaces}
+use Rattle.model.specs.Links.{placeFrom, placeBefore, linkIf, linkBy, linksBy, linksOfJob, allLinks, inPlaces, linkCounts, linkPlaces}
 use Rattle.model.specs.Chosen.{firstFrameOf, endFrameOf, problemAt, isTriedBy, goOnLengths, walkLengthsBy, chooseWalkBy}
 use Rattle.planner.specs.Outcome.{outcome, requestTries, outcomeWithin}
-use Rattle.phases.specs.Phases.{withPhase, leadsTo, howMany, counted, uncounted, phases}
+use Rattle.phases.specs.Phases.{withPhase, leadsTo, howMany, phaseCounts, uncounted, phases}
 use Rattle.phases.specs.declared.PhaseCounts.{PhaseCounts}
 
 abbrev task : ℕ → ℕ → ℕ → ℕ → Task
@@ -69,10 +69,10 @@ pub examples : Examples
 unfolding outcome requestTries outcomeWithin cycleOf reading tasksOf taskOf judgedTask taskRule pairsOf pairOf judgedPair pairRule silentOf records byteOf wordOf
     requestBytes sectionBytes taskBytes pairBytes silentBytes wordBytes flatMap
     isTriedBy problemAt firstFrameOf endFrameOf firstFrom costs costOf slot plausibleBy frameRules frameRule phaseRule commonRule
-    linkCounts linkPlaces inPlaces allLinks linksFrom linksOfJob linksBy linkBy linkIf placeBefore placeFrom isJob padded
+    linkCounts linkPlaces inPlaces allLinks linksOfJob linksBy linkBy linkIf placeBefore placeFrom isJob padded
     chooseWalkBy walkLengthsBy goOnLengths planWalk walk walkFrames oneTry goOn fits all-kept row-sum
-    planned inOrder insert before allJobs jobsOf jobsFrom jobOf jobsIn hyperperiod lcmWith lcmOf gcdOf gcdSteps
-    withPhase leadsTo howMany counted phases
+    planned inOrder insert before allJobs jobOf jobsIn hyperperiod lcmWith lcmOf gcdOf gcdSteps
+    withPhase leadsTo howMany phaseCounts phases
 examples = record {
   one-is = refl;
   one-none = refl;

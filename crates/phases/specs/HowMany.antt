@@ -6,7 +6,7 @@ use native.Mathlib.Numerals.{add-one}
 use native.Mathlib.Omega.{arith}
 use lib.Dec.{eqb}
 use Rattle.cursor.specs.Choice.{bit}
-use Rattle.phases.specs.Phases.{howMany, counted, uncounted}
+use Rattle.phases.specs.Phases.{howMany, phaseCounts, uncounted}
 use Rattle.phases.specs.Counting.{Room, oneMore}
 
 bit-most : (b : Bool) → bit b ≤ 1
@@ -38,23 +38,23 @@ module _ (number : ℕ → ℕ) where
   abbrev below : ℕ → ℕ → ℕ
   below n k = howMany n (λ p. eqb (number p) k)
 
-  pub none-counted : uncounted 0 ≡ counted number 0
-  unfolding counted howMany
+  pub none-counted : uncounted 0 ≡ phaseCounts number 0
+  unfolding phaseCounts howMany
   none-counted = refl
 
-  pub one-counted : (n : ℕ) → oneMore (counted number n) (number n) ≡ counted number (n + 1)
-  unfolding counted howMany oneMore
+  pub one-counted : (n : ℕ) → oneMore (phaseCounts number n) (number n) ≡ phaseCounts number (n + 1)
+  unfolding phaseCounts howMany oneMore
   one-counted n = rw (add-one n)
 
-  pub counts-room : (n : ℕ) → n < 65535 → Room (counted number n)
-  unfolding counted
+  pub counts-room : (n : ℕ) → n < 65535 → Room (phaseCounts number n)
+  unfolding phaseCounts
   counts-room n h =
       let most : (k : ℕ) → below n k ≤ n = λ k. how-many-most n (λ p. eqb (number p) k) in
       record { tables = omega (arith, most 0); nines = omega (arith, most 9); tens = omega (arith, most 10); ended = omega (arith, most 23) }
 
 -- numbers that agree below n count the same
-pub counted-same : (n : ℕ) (f g : ℕ → ℕ) → ((p : ℕ) → p < n → f p ≡ g p) → counted f n ≡ counted g n
-unfolding counted
+pub counted-same : (n : ℕ) (f g : ℕ → ℕ) → ((p : ℕ) → p < n → f p ≡ g p) → phaseCounts f n ≡ phaseCounts g n
+unfolding phaseCounts
 counted-same n f g same =
     let each : (k : ℕ) → howMany n (λ p. eqb (f p) k) ≡ howMany n (λ p. eqb (g p) k)
     = λ k. how-many-same n (λ p. eqb (f p) k) (λ p. eqb (g p) k) (λ p h. ap (λ (m : ℕ). eqb m k) (same p h)) in

@@ -1,17 +1,18 @@
 -- The bytes of a request with two bytes replaced, those of one task's P: they read as the request with that phase.
 -- A task that was read is six bytes and two for its P; each record is read by itself, and no pair's rule speaks of a phase.
-use Prim.Native.Nat.{ℕ, zero, suc, _+_, _*_, _%_, _/_, _≤_, _<_}
+use Prim.Native.Nat.{ℕ, zero, suc, _+_, _*_, _≤_, _<_}
 use mathlib.Core.Path.{_≡_, refl, sym, ap, ap₂, subst, _∙_}
 use mathlib.Core.List.{List, [], _∷_, _++_, append-nil, append-assoc}
+use mathlib.Core.Bool.{cond}
 use native.Mathlib.Omega.{arith}
 use lib.ListN.{length, getD, take, drop, length-append, length-set}
 use lib.Seq.{append-snoc, take-at, drop-at, take-append-add, drop-append-add, getD-append-add}
 use borrow.Author.Tests.{le-leb, lt-ltb}
-use Rattle.cursor.specs.Choice.{pick}
 use Rattle.cursor.specs.Parsed.{Parsed, got, refused, then, records}
 use Rattle.cursor.specs.ParsedLaws.{never, then-got, rule-got, got-same}
-use Rattle.cursor.specs.Fields.{byteOf, wordOf, wordBytes}
-use Rattle.cursor.specs.Front.{Bytes, byte-read, word-read}
+use Rattle.cursor.specs.Fields.{byteOf, wordOf, wordBytes, Bytes}
+use Rattle.cursor.specs.FrontLaws.{byte-read, word-read}
+use Rattle.cursor.specs.WordBytesLaws.{two-bytes}
 use Rattle.request.specs.Request.{
   noTask,
   periodOf,
@@ -30,7 +31,8 @@ use Rattle.request.specs.Request.{
   reading,
   readable,
 }
-use Rattle.request.specs.Readable.{TaskKept, task-read, Sections, reading-sections}
+use Rattle.request.specs.Readable.{TaskKept}
+use Rattle.request.specs.ReadableLaws.{task-read, Sections, reading-sections}
 use Rattle.request.specs.SectionLaws.{SectionRead, tasks-section, SectionSteps, section-steps}
 use Rattle.request.specs.declared.Task.{Task}
 use Rattle.request.specs.declared.Pair.{Pair}
@@ -95,11 +97,11 @@ record TwoBytes (bytes : List ℕ) (w : ℕ) (rest : List ℕ) : Type 0 where
   pub any : (behind : List ℕ) → wordOf 1 (low ∷ high ∷ behind) ≡ got w behind
   pub own : low < 256 → wordBytes w ≡ low ∷ high ∷ []
 
-two-bytes : (bytes : List ℕ) (w : ℕ) (rest : List ℕ) → wordOf 1 bytes ≡ got w rest → TwoBytes bytes w rest
-unfolding wordOf byteOf wordBytes
-two-bytes [] w rest e = absurd (never (cc))
-two-bytes (low ∷ []) w rest e = absurd (never (cc))
-two-bytes (low ∷ high ∷ tail) w rest e =
+word-split : (bytes : List ℕ) (w : ℕ) (rest : List ℕ) → wordOf 1 bytes ≡ got w rest → TwoBytes bytes w rest
+unfolding wordOf byteOf
+word-split [] w rest e = absurd (never (cc))
+word-split (low ∷ []) w rest e = absurd (never (cc))
+word-split (low ∷ high ∷ tail) w rest e =
     let end : tail ≡ rest = cc in
     let value : low + high * 256 ≡ w = cc in
     record {
@@ -107,7 +109,7 @@ two-bytes (low ∷ high ∷ tail) w rest e =
       high = high;
       whole = rw end;
       any = λ behind. rw value;
-      own = λ h. let low-is : w % 256 ≡ low = omega arith in let high-is : w / 256 ≡ high = omega arith in rw (low-is, high-is);
+      own = λ h. rw (← value) (two-bytes low high h);
     }
 
 -- `front` holds C, T and D, and `last` P
@@ -160,10 +162,10 @@ task-parts bytes x rest e =
     let same : x ≡ judged = cc in
     got-same (TaskRead bytes) (rule .1)
     (of-words
-    (two-bytes bytes (s1 .value) (s1 .tail) (s1 .first))
-    (two-bytes (s1 .tail) (s2 .value) (s2 .tail) (s2 .first))
-    (two-bytes (s2 .tail) (s3 .value) (s3 .tail) (s3 .first))
-    (two-bytes (s3 .tail) (s4 .value) (s4 .tail) (s4 .first))
+    (word-split bytes (s1 .value) (s1 .tail) (s1 .first))
+    (word-split (s1 .tail) (s2 .value) (s2 .tail) (s2 .first))
+    (word-split (s2 .tail) (s3 .value) (s3 .tail) (s3 .first))
+    (word-split (s3 .tail) (s4 .value) (s4 .tail) (s4 .first))
     (subst TaskKept same (task-read bytes x rest e .kept)))
 
 -- two bytes replaced in records that stand without their count
@@ -294,7 +296,7 @@ module _ (bytes : List ℕ) (tasks : List Task) (pairs : List Pair) (g : ℕ) (i
 
   pair-with : pairOf (tasksWith tasks i p) ≡ pairOf tasks
   unfolding pairOf judgedPair
-  pair-with = λ q bytes. then (byteOf 1 bytes) (λ a rest. then (byteOf 1 rest) (λ b rest. pick (rule-with a b q) (got (record { a = a; b = b }) rest) (refused 5)))
+  pair-with = λ q bytes. then (byteOf 1 bytes) (λ a rest. then (byteOf 1 rest) (λ b rest. cond (rule-with a b q) (got (record { a = a; b = b }) rest) (refused 5)))
 
   pairs-with : pairsOf (tasksWith tasks i p) (r .behind) ≡ got pairs (r .last)
   unfolding pairsOf

@@ -2,16 +2,16 @@
 -- The jobs are those of the new phase, in the order of their new releases.
 use Prim.Native.Nat.{ℕ, zero, suc, _+_, _/_, _≤_, _<_}
 use mathlib.Core.Path.{_≡_, refl, sym, ap, _∙_}
-use mathlib.Core.List.{List, [], _∷_}
+use mathlib.Core.List.{List, [], _∷_, flatMap}
 use native.Mathlib.Omega.{arith}
 use lib.ListN.{length, getD, length-set}
 use borrow.Author.Tests.{le-ltb}
 use Rattle.request.specs.Request.{readable, reading, noTask, periodOf}
 use Rattle.request.specs.declared.Task.{Task}
 use Rattle.request.specs.declared.Pair.{Pair}
-use Rattle.cycle.specs.Cycle.{lcmWith, hyperperiod, jobsIn, jobsOf, allJobs, planned, cycle, afterReading, cycleOf}
+use Rattle.cycle.specs.Cycle.{lcmWith, hyperperiod, jobsIn, allJobs, planned, cycle, afterReading, cycleOf}
 use Rattle.cycle.specs.LimitLaws.{WithinLimits}
-use Rattle.cycle.specs.PlannedLaws.{jobs-then-length, planned-length}
+use Rattle.cycle.specs.PlannedLaws.{jobsOf, all-jobs-are, jobs-then-length, planned-length}
 use Rattle.cycle.specs.PhaseLaws.{taskWith, tasksWith, periods-with}
 use Rattle.cycle.specs.declared.Job.{Job}
 use Rattle.phases.specs.Phases.{withPhase}
@@ -27,7 +27,7 @@ lcm-phase h (x ∷ tasks) (suc i) p = lcm-phase _ tasks i p
 -- the number of jobs goes by the periods
 jobs-same : (h : ℕ) (tasks tasks′ : List Task) → ((m : ℕ) → periodOf tasks m ≡ periodOf tasks′ m)
     → (k a : ℕ) → length (jobsOf tasks h k a) ≡ length (jobsOf tasks′ h k a)
-unfolding jobsOf jobsIn
+unfolding jobsOf jobsIn flatMap
 jobs-same h tasks tasks′ same zero a = refl
 jobs-same h tasks tasks′ same (suc k) a =
     let one : h / periodOf tasks a ≡ h / periodOf tasks′ a = ap (λ (t : ℕ). h / t) (same a) in
@@ -44,11 +44,10 @@ module _ (tasks : List Task) (i p : ℕ) (known : i < length tasks) (early : p <
   same-h = lcm-phase 1 tasks i p
 
   pub same-count : (h : ℕ) → length (allJobs (tasksWith tasks i p) h) ≡ length (allJobs tasks h)
-  unfolding allJobs
   same-count h =
       let size : length (tasksWith tasks i p) ≡ length tasks = length-set tasks i (taskWith (getD tasks i noTask) p) in
-      ap (λ (k : ℕ). length (jobsOf (tasksWith tasks i p) h k 0)) size
-      ∙ jobs-same h (tasksWith tasks i p) tasks (periods-with tasks i p known early) (length tasks) 0
+      rw (all-jobs-are (tasksWith tasks i p) h, all-jobs-are tasks h, size)
+      (jobs-same h (tasksWith tasks i p) tasks (periods-with tasks i p known early) (length tasks) 0)
 
   module _ (pairs : List Pair) (g h : ℕ) (jobs : List Job) (w : WithinLimits tasks pairs h jobs) where
     pub after-with : afterReading (readable (tasksWith tasks i p) pairs g) ≡ cycle (tasksWith tasks i p) pairs g h (jobsWith h)

@@ -7,6 +7,7 @@ use native.Mathlib.Omega.{arith}
 use lib.ListN.{length, getD, take, drop, length-append, length-drop, List·getD-append}
 use lib.Seq.{length-take-le, getD-take, getD-drop, getD-append-add, take-at, drop-at}
 use Rattle.cursor.specs.Fields.{wordBytes}
+use Rattle.cursor.specs.WordBytesLaws.{word-long}
 use Rattle.phases.specs.Phases.{withPhase}
 
 module _ (request : List ℕ) (i p : ℕ) (inside : 9 + 8 * i ≤ length request) where
@@ -20,8 +21,7 @@ module _ (request : List ℕ) (i p : ℕ) (inside : 9 + 8 * i ≤ length request
   before-long = length-take-le (7 + 8 * i) request (omega arith)
 
   with-long : length (before ++ wordBytes p) ≡ 9 + 8 * i
-  unfolding wordBytes
-  with-long = omega (arith, length-append before (wordBytes p), before-long)
+  with-long = omega (arith, length-append before (wordBytes p), word-long p, before-long)
 
   pub same-length : length (withPhase request i p) ≡ length request
   unfolding withPhase

@@ -1,10 +1,10 @@
 -- Which phases still fit, in the words of 02's R-11: what the call answers.
 use Prim.Native.Nat.{ℕ, zero, suc, _+_, _*_}
-use mathlib.Core.Bool.{Bool}
+use mathlib.Core.Bool.{Bool, cond}
 use mathlib.Core.List.{List, _++_}
 use lib.ListN.{length, take, drop}
 use lib.Dec.{ltb, eqb}
-use Rattle.cursor.specs.Choice.{pick, bit}
+use Rattle.cursor.specs.Choice.{bit}
 use Rattle.cursor.specs.Fields.{wordBytes}
 use Rattle.request.specs.Request.{periodOf}
 use Rattle.cycle.specs.Cycle.{Cycle, cycle, noCycle, cycleOf}
@@ -18,13 +18,13 @@ unfoldable pub withPhase : List ℕ → ℕ → ℕ → List ℕ
 withPhase request i p = take (7 + 8 * i) request ++ wordBytes p ++ drop (9 + 8 * i) request
 
 -- the number of the planner's answer, 0 for a table; a buffer that is long enough is meant, so that 11 does not occur
-abbrev pub numberOf : Outcome → ℕ
-numberOf (handed t) = 0
-numberOf (refusal number) = number
+abbrev pub outcomeNumber : Outcome → ℕ
+outcomeNumber (handed t) = 0
+outcomeNumber (refusal number) = number
 
 -- what the phase leads to, with the whole allowance: "an allowance for each phase"
 unfoldable pub leadsTo : ℕ → List ℕ → ℕ → ℕ → ℕ
-leadsTo allowance request i p = numberOf (outcomeWithin allowance (withPhase request i p))
+leadsTo allowance request i p = outcomeNumber (outcomeWithin allowance (withPhase request i p))
 
 -- how many of the numbers below n pass the test
 unfoldable pub howMany : ℕ → (ℕ → Bool) → ℕ
@@ -32,8 +32,8 @@ howMany zero test = 0
 howMany (suc n) test = howMany n test + bit (test n)
 
 -- "count how many phases .. lead to a table, to 9, to 10 and to 23": of those below n, where `number p` is what the phase p leads to
-unfoldable pub counted : (ℕ → ℕ) → ℕ → PhaseCounts
-counted number n = record {
+unfoldable pub phaseCounts : (ℕ → ℕ) → ℕ → PhaseCounts
+phaseCounts number n = record {
   refusal = 0;
   tables = howMany n (λ p. eqb (number p) 0);
   nines = howMany n (λ p. eqb (number p) 9);
@@ -48,7 +48,7 @@ uncounted number = record { refusal = number; tables = 0; nines = 0; tens = 0; e
 -- "For a task of a valid request within the cycle limits and an allowance for each phase, count how many phases from 0 to T − 1"; "An unknown task gives 16, after 8."
 abbrev pub phasesIn : ℕ → List ℕ → ℕ → Cycle → PhaseCounts
 phasesIn allowance request i (cycle tasks pairs g h jobs) =
-    pick (ltb i (length tasks)) (counted (leadsTo allowance request i) (periodOf tasks i)) (uncounted 16)
+    cond (ltb i (length tasks)) (phaseCounts (leadsTo allowance request i) (periodOf tasks i)) (uncounted 16)
 phasesIn allowance request i (noCycle number) = uncounted number
 
 unfoldable pub phases : ℕ → List ℕ → ℕ → PhaseCounts

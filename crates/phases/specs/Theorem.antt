@@ -2,7 +2,7 @@
 -- request with a phase is within the limits, so that number is one of four.
 use Prim.Native.Nat.{ℕ, zero, suc, _+_, _*_, _≤_, _<_}
 use mathlib.Core.Path.{_≡_, refl, sym, ap, ap₂, _∙_}
-use mathlib.Core.Bool.{Bool, true, false}
+use mathlib.Core.Bool.{Bool, true, false, cond}
 use mathlib.Core.Logic.{_⊎_, inl, inr, ⊎-elim}
 use mathlib.Core.List.{List}
 use native.Mathlib.Nat.{le-antisymm}
@@ -12,7 +12,7 @@ use lib.ListN.{length, replicate, length-set, length-replicate}
 use lib.Seq.{getD-set-same, getD-set-other}
 use lib.Dec.{ltb, eqb}
 use borrow.Author.Tests.{lt-ltb, le-ltb, eq-eqb, eqb-true, eqb-false}
-use Rattle.cursor.specs.Choice.{pick, bit}
+use Rattle.cursor.specs.Choice.{bit}
 use Rattle.cursor.specs.ChoiceLaws.{lt-or-ge}
 use Rattle.request.specs.Request.{readable, reading, noTask}
 use Rattle.request.specs.declared.Task.{Task}
@@ -21,7 +21,8 @@ use Rattle.cycle.specs.LimitLaws.{WithinLimits, cycle-reading, no-cycle-number,
 use Rattle.cycle.specs.PhaseLaws.{taskWith, tasksWith}
 use Rattle.model.specs.Plan.{Instance, taskAt}
 use Rattle.model.specs.Answers.{instance}
-use Rattle.model.specs.Within.{Within, within-limits, within-or-not}
+use Rattle.model.specs.Within.{Within}
+use Rattle.model.specs.WithinLaws.{within-limits, within-or-not}
 use Rattle.model.specs.Chosen.{Choice, chosen, noPlan, noPlausible, choose}
 use Rattle.cursor.specs.declared.Written.{Written}
 use Rattle.plan_writer.specs.Outcome.{Outcome, handed, refusal, outcomeAnswer}
@@ -30,7 +31,7 @@ use Rattle.planner.specs.PlanLaws.{within-reached, within-exceeded}
 use Rattle.planner.specs.HandedLaws.{table-handed}
 use Rattle.plan_writer.specs.OutcomeLaws.{refused-answer, handed-answer}
 use Rattle.planner.specs.TableLaws.{GoodOutcome, outcome-within-good}
-use Rattle.phases.specs.Phases.{withPhase, numberOf, leadsTo, howMany, counted, uncounted, phasesIn, phases}
+use Rattle.phases.specs.Phases.{withPhase, outcomeNumber, leadsTo, howMany, phaseCounts, uncounted, phasesIn, phases}
 use Rattle.phases.specs.HowMany.{how-many-same, how-many-le}
 use Rattle.phases.specs.PhaseBytes.{phase-inside, own-with}
 use Rattle.phases.specs.PhasePlaces.{same-length, other-bytes, set-again}
@@ -66,20 +67,20 @@ four-add-up number (suc n) each = omega (arith, four-add-up number n (λ p h. ea
 
 -- The planner's public answer into a buffer of 519 bytes or more is the number of its outcome
 
-says-number : (allowance : ℕ) (s out : List ℕ) → 519 ≤ length out → searchedAnswer allowance s out .refusal ≡ numberOf (outcomeWithin allowance s)
+says-number : (allowance : ℕ) (s out : List ℕ) → 519 ≤ length out → searchedAnswer allowance s out .refusal ≡ outcomeNumber (outcomeWithin allowance s)
 unfolding searchedAnswer
 says-number allowance s out room = go (outcomeWithin allowance s) (outcome-within-good allowance s)
   where
-    go : (o : Outcome) → GoodOutcome o → outcomeAnswer o out .refusal ≡ numberOf o
+    go : (o : Outcome) → GoodOutcome o → outcomeAnswer o out .refusal ≡ outcomeNumber o
     go (handed t) good = ap (λ (w : Written). w .refusal) (handed-answer t out (omega (arith, good .short)))
     go (refusal number) good = ap (λ (w : Written). w .refusal) (refused-answer number out)
 
 -- and of a request within the limits it is one of four
-number-of-four : (allowance : ℕ) (s : List ℕ) (x : Instance) → Within s x → OneOfFour (numberOf (outcomeWithin allowance s))
+number-of-four : (allowance : ℕ) (s : List ℕ) (x : Instance) → Within s x → OneOfFour (outcomeNumber (outcomeWithin allowance s))
 unfolding outcomeWithin outcome
 number-of-four allowance s x within = rw (ap inCycle within) (go (ltb allowance (requestTries s)) (choose x))
   where
-    go : (b : Bool) (o : Choice) → OneOfFour (numberOf (pick b (refusal 23) (byChoice x o)))
+    go : (b : Bool) (o : Choice) → OneOfFour (outcomeNumber (cond b (refusal 23) (byChoice x o)))
     go true o = inr (inr (inr refl))
     go false (chosen f frames) = inl refl
     go false noPlan = inr (inr (inl refl))
@@ -99,7 +100,7 @@ module _ (request : List ℕ) (i : ℕ) (x : Instance) (within : Within request 
   unknown-is allowance h = rw (within, le-ltb i (length (x .tasks)) h)
 
   module _ (known : i < length (x .tasks)) where
-    counted-is : (allowance : ℕ) → phases allowance request i ≡ counted (leadsTo allowance request i) (taskAt x i .t)
+    counted-is : (allowance : ℕ) → phases allowance request i ≡ phaseCounts (leadsTo allowance request i) (taskAt x i .t)
     unfolding phases
     counted-is allowance = rw (within, lt-ltb i (length (x .tasks)) known)
 
@@ -153,7 +154,7 @@ module _ (request : List ℕ) (i : ℕ) (x : Instance) (within : Within request 
           (λ p h. ap (λ (k : ℕ). eqb k number) (sym (says out room p)))
 
       counts-are : Counts allowance request i x
-      unfolding counted
+      unfolding phaseCounts
       counts-are =
           let c = counted-is allowance in
           record {
@@ -175,7 +176,7 @@ not-counted allowance request i number e = ap (phasesIn allowance request i) e
 
 -- THE THEOREM: for all byte strings, task numbers and allowances.
 pub phases-exact : (allowance : ℕ) (request : List ℕ) (i : ℕ) → PhasesExact allowance request i
-unfolding counted
+unfolding phaseCounts
 phases-exact allowance request i = record {
   own-number = number-is;
   sixteen = (λ e. ⊎-elim (λ w. to-sixteen (w .0) (w .1) e) (λ w. absurd (not-own (w .0) (w .1) e)) (within-or-not request), λ w. unknown (w .0) (w .1) (w .2));
@@ -224,23 +225,23 @@ unfolding leadsTo
 own-phase-theorem allowance request i x within known p early =
     let there = phase-set request i x within known p early in
     let same : leadsTo allowance (withPhase request i p) i ≡ leadsTo allowance request i
-    = λ j q. numberOf (outcomeWithin allowance (set-again request i p (inside request i x within known) q j)) in
+    = λ j q. outcomeNumber (outcomeWithin allowance (set-again request i p (inside request i x within known) q j)) in
     counted-is (withPhase request i p) i (there .y) (there .within) (omega (arith, there .as-many)) allowance
-    ∙ ap₂ counted same (there .itself .same-t) ∙ sym (counted-is request i x within known allowance)
+    ∙ ap₂ phaseCounts same (there .itself .same-t) ∙ sym (counted-is request i x within known allowance)
 
 -- A larger allowance: it changes no number but 23, and 9 needs no try.
 
 module _ (a b : ℕ) (h : a ≤ b) (s : List ℕ) where
   abbrev was : ℕ
-  was = numberOf (outcomeWithin a s)
+  was = outcomeNumber (outcomeWithin a s)
 
   abbrev becomes : ℕ
-  becomes = numberOf (outcomeWithin b s)
+  becomes = outcomeNumber (outcomeWithin b s)
 
   number-stays : (was ≡ 23 → ⊥) → becomes ≡ was
   number-stays ne =
-      ⊎-elim (λ t. absurd (ne (ap numberOf (within-exceeded a s t))))
-      (λ t. ap numberOf (within-reached b s (omega arith) ∙ sym (within-reached a s t)))
+      ⊎-elim (λ t. absurd (ne (ap outcomeNumber (within-exceeded a s t))))
+      (λ t. ap outcomeNumber (within-reached b s (omega arith) ∙ sym (within-reached a s t)))
       (lt-or-ge a (requestTries s))
 
   ended-before : becomes ≡ 23 → was ≡ 23
@@ -258,7 +259,7 @@ module _ (a b : ℕ) (h : a ≤ b) (s : List ℕ) where
       sym (says-number a s out room) ∙ table-handed a s out x within .nine .1 none
 
 pub larger : LargerTheorem
-unfolding counted leadsTo
+unfolding phaseCounts leadsTo
 larger a b h request i =
     ⊎-elim (λ w. ⊎-elim (known (w .0) (w .1)) (λ l. refused 16 (λ c. unknown-is request i (w .0) (w .1) c l)) (lt-or-ge i (length (w .0 .tasks))))
     (λ w. refused (w .0) (λ c. not-counted c request i (w .0) (w .1)))

@@ -1,4 +1,4 @@
--- The ways out of the functions: one count raised, a request refused, an unknown task, and the phases counted.
+-- The ways out of the functions: one count raised, a request refused, an unknown task, and the phases phaseCounts.
 use Prim.Native.Nat.{ℕ, _+_, _≤_, _<_}
 use mathlib.Core.Path.{_≡_, sym, ap, _∙_}
 use mathlib.Core.List.{List}
@@ -7,20 +7,21 @@ use lib.ListN.{length}
 use lib.Dec.{eqb}
 use borrow.Author.Tests.{eq-eqb, ne-eqb, lt-ltb, le-ltb}
 use Rattle.cursor.specs.Choice.{bit}
-use Rattle.cursor.specs.Padded.{getD-padded}
+use Rattle.cursor.specs.PaddedLaws.{getD-padded}
 use Rattle.request.specs.Request.{readable, reading, noTask, periodOf}
 use Rattle.request.specs.Answers as request
 use Rattle.request.specs.declared.Task.{Task}
 use Rattle.request.specs.declared.Request.{Request}
 use Rattle.cycle.specs.Cycle.{Cycle, cycleOf}
-use Rattle.cycle.specs.Answers.{cycleFor, answered}
+use Rattle.cycle.specs.Answers.{cycleFor, cycleAnswered}
 use Rattle.cycle.specs.LimitLaws.{cycle-reading}
 use Rattle.cycle.specs.ReadLaws.{bytes-as-read, bytes-cycle}
 use Rattle.cycle.specs.declared.Cycle as answer
 use Rattle.model.specs.Plan.{Instance}
 use Rattle.model.specs.Answers.{instanceOf}
-use Rattle.model.specs.Within.{Within, read-within, read-refused}
-use Rattle.phases.specs.Phases.{leadsTo, counted, uncounted, phasesIn, phases}
+use Rattle.model.specs.Within.{Within}
+use Rattle.model.specs.WithinLaws.{read-within, read-refused}
+use Rattle.phases.specs.Phases.{leadsTo, phaseCounts, uncounted, phasesIn, phases}
 use Rattle.phases.specs.Counting.{oneMore, Countable, periodIn, phaseNumber}
 use Rattle.phases.specs.HowMany.{counted-same}
 use Rattle.phases.specs.ReadPhase.{held, number-is}
@@ -63,11 +64,11 @@ module _ (counts : PhaseCounts) (number : ℕ) where
         pub no-more : (number ≡ 23 → ⊥) → Raises (counts .tables) (counts .nines) (counts .tens) (counts .ended)
         no-more end = parts (omega (arith, no 0 table)) (omega (arith, no 9 nine)) (omega (arith, no 10 ten)) (omega (arith, no 23 end))
 
--- The whole call: what the reader and the cycle answered for the bytes
+-- The whole call: what the reader and the cycle cycleAnswered for the bytes
 
-module _ (bytes : List ℕ) (r : Request) (read : r ≡ request.answered (reading bytes)) (d : answer.Cycle) (is : d ≡ answered (cycleFor r)) (i : ℕ) where
-  cycle-is : d ≡ answered (cycleOf bytes)
-  cycle-is = is ∙ ap answered (bytes-cycle bytes read)
+module _ (bytes : List ℕ) (r : Request) (read : r ≡ request.requestAnswered (reading bytes)) (d : answer.Cycle) (is : d ≡ cycleAnswered (cycleFor r)) (i : ℕ) where
+  cycle-is : d ≡ cycleAnswered (cycleOf bytes)
+  cycle-is = is ∙ ap cycleAnswered (bytes-cycle bytes read)
 
   pub own-number : (allowance : ℕ) → (d .refusal ≡ 0 → ⊥) → uncounted (d .refusal) ≡ phases allowance bytes i
   unfolding phases
@@ -80,8 +81,8 @@ module _ (bytes : List ℕ) (r : Request) (read : r ≡ request.answered (readin
     within : Within bytes x
     within = read-within bytes d cycle-is z .within
 
-    hold : r ≡ request.answered (readable (x .tasks) (x .pairs) (x .g))
-    hold = read ∙ ap request.answered (cycle-reading bytes (x .tasks) (x .pairs) (x .g) (x .h) (x .jobs) within)
+    hold : r ≡ request.requestAnswered (readable (x .tasks) (x .pairs) (x .g))
+    hold = read ∙ ap request.requestAnswered (cycle-reading bytes (x .tasks) (x .pairs) (x .g) (x .h) (x .jobs) within)
 
     size : r .n ≡ length (x .tasks)
     size = ap (λ (y : Request). y .n) hold
@@ -93,14 +94,14 @@ module _ (bytes : List ℕ) (r : Request) (read : r ≡ request.answered (readin
     pub countable : i < r .n → Countable r i
     countable h = record { as-read = bytes-as-read bytes read; within = ap (λ (y : answer.Cycle). y .refusal) (sym is) ∙ z; known = h }
 
-    pub all-counted : (allowance : ℕ) → i < r .n → counted (phaseNumber allowance r i) (periodIn r i) ≡ phases allowance bytes i
+    pub all-counted : (allowance : ℕ) → i < r .n → phaseCounts (phaseNumber allowance r i) (periodIn r i) ≡ phases allowance bytes i
     unfolding phases
     all-counted allowance h =
         let known : i < length (x .tasks) = omega (arith, size) in
         let period : periodIn r i ≡ periodOf (x .tasks) i
         = ap (λ (y : Request). periodIn y i) hold ∙ ap (λ (t : Task). t .t) (getD-padded 16 noTask (x .tasks) i known) in
         counted-same (periodIn r i) (phaseNumber allowance r i) (leadsTo allowance bytes i) (λ p early. number-is (countable h) p early bytes read allowance)
-        ∙ ap (counted (leadsTo allowance bytes i)) period ∙ rw (within, lt-ltb i (length (x .tasks)) known)
+        ∙ ap (phaseCounts (leadsTo allowance bytes i)) period ∙ rw (within, lt-ltb i (length (x .tasks)) known)
 
 -- a task of a request is one of sixteen
 pub task-few : {r : Request} {i : ℕ} → Countable r i → i < 16

@@ -4,7 +4,7 @@ use request::Task;
 ghost use mathlib.Core.Path.{_≡_};
 ghost use Prim.Native.Nat.{_<_};
 ghost use Rattle.cycle.specs.PhaseLaws.{requestWith};
-ghost use Rattle.phases.specs.Phases.{counted, uncounted, phases};
+ghost use Rattle.phases.specs.Phases.{phaseCounts, uncounted, phases};
 ghost use Rattle.phases.specs.Counting.{Room, oneMore, Countable, periodIn, phaseNumber};
 
 // A refusal, or 0; and how many phases of the task lead to a table, to 9, to 10 and to 23.
@@ -85,7 +85,7 @@ fn one_more(counts: PhaseCounts, number: u8) -> PhaseCounts
 // The phases of task i from 0 to T - 1, each planned with the whole allowance.
 fn count(request: Request, i: usize, allowance: u64) -> PhaseCounts
     requires { ⌜ Countable request i ⌝ }
-    ensures { λ r. ⌜ r ≡ counted (phaseNumber allowance request i) (periodIn request i) ⌝ }
+    ensures { λ r. ⌜ r ≡ phaseCounts (phaseNumber allowance request i) (periodIn request i) ⌝ }
 {
     let tasks = request.tasks;
     let x = tasks[i];

@@ -3,8 +3,8 @@
 -- by `+`; single spaces." Each line ends in a newline, the last one too.
 use Prim.Native.Nat.{ℕ, _+_}
 use mathlib.Core.List.{List, [], _∷_, _++_}
+use mathlib.Core.Bool.{cond}
 use lib.ListN.{length, getD}
-use Rattle.cursor.specs.Choice.{pick}
 use Rattle.request.specs.Request.{Reading, readable, unreadable, reading, noTask}
 use Rattle.request.specs.declared.Task.{Task}
 use Rattle.table.specs.Table.{Entry, Table}
@@ -31,7 +31,7 @@ named e = ascii " " ++ decimalOf (e .task) ++ ascii "." ++ decimalOf (e .number)
 
 -- "a carried one followed by `+`"
 unfoldable pub entryText : Entry → List ℕ
-entryText e = named e ++ pick (e .carried) (ascii "+") []
+entryText e = named e ++ cond (e .carried) (ascii "+") []
 
 -- the text of each entry, one behind the other
 unfoldable pub each : (Entry → List ℕ) → List Entry → List ℕ

@@ -6,19 +6,20 @@ use native.Mathlib.Numerals.{add-one}
 use native.Mathlib.Omega.{arith}
 use lib.ListN.{length, drop, getD, drop-of-length-le}
 use lib.Seq.{drop-cons}
-use Rattle.cursor.specs.Front.{Bytes}
-use Rattle.cursor.specs.Padded.{padded, padded-length, getD-padded-any}
+use Rattle.cursor.specs.Fields.{Bytes}
+use Rattle.cursor.specs.Padded.{padded}
+use Rattle.cursor.specs.PaddedLaws.{padded-none, padded-length, getD-padded-any}
 use Rattle.request.specs.Request.{Reading, readable, unreadable, reading, noTask}
-use Rattle.request.specs.Readable.{readable-kept}
-use Rattle.request.specs.Answers.{answered}
+use Rattle.request.specs.ReadableLaws.{readable-kept}
+use Rattle.request.specs.Answers.{requestAnswered}
 use Rattle.request.specs.declared.Task.{Task}
 use Rattle.request.specs.declared.Request.{Request}
 use Rattle.table.specs.Table.{Entry, Table, Decoded, table, malformed, decode, entryOf, rowOf}
 use Rattle.table.specs.Inverse.{decode-wellformed}
 use Rattle.table.specs.EntryLaws.{task-of-byte, number-of-byte}
 use Rattle.table.specs.RisingLaws.{row-rises, row-few}
-use Rattle.table.specs.Answers.{sizesOf, rowGiven, rowAnswer, rowAt, entriesAt, entriesSaid}
-use Rattle.table.specs.AnswerLaws.{entries-more, entries-none, entries-given, given-count, row-answered}
+use Rattle.table.specs.Answers.{sizesOf, rowGiven, rowAnswer, rowAt, entriesSaid}
+use Rattle.table.specs.AnswerLaws.{entriesAt, entries-more, entries-none, entries-given, given-count, row-answered}
 use Rattle.table.specs.RowsLeft.{RowsLeft, row-there, rows-go-on}
 use Rattle.table.specs.declared.Sizes.{Sizes}
 use Rattle.table.specs.declared.TakenRow.{TakenRow}
@@ -123,14 +124,13 @@ unfolding rowLines rowLine
 rows-padded size tasks k [] = refl
 rows-padded size tasks k (es ∷ rows) = rw (busy-padded size tasks es, rows-padded size tasks (k + 1) rows)
 
-module _ (bytes : List ℕ) (r : Request) (e : r ≡ answered (reading bytes)) where
+module _ (bytes : List ℕ) (r : Request) (e : r ≡ requestAnswered (reading bytes)) where
   pub tasks-are : r .tasks ≡ padded 16 noTask (tasksIn (reading bytes))
-  unfolding padded
   tasks-are = go (reading bytes) e
     where
-      go : (x : Reading) → r ≡ answered x → r .tasks ≡ padded 16 noTask (tasksIn x)
+      go : (x : Reading) → r ≡ requestAnswered x → r .tasks ≡ padded 16 noTask (tasksIn x)
       go (readable tasks pairs g) q = ap (λ (y : Request). y .tasks) q
-      go (unreadable number) q = ap (λ (y : Request). y .tasks) q
+      go (unreadable number) q = ap (λ (y : Request). y .tasks) q ∙ sym (padded-none 16 noTask)
 
   pub tasks-size : length (r .tasks) ≡ 16
   tasks-size = ap length tasks-are ∙ padded-length 16 noTask (tasksIn (reading bytes)) (go (reading bytes) refl)

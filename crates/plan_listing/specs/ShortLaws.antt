@@ -2,14 +2,13 @@
 -- rows, and 8 for each of at most 128 entries. So `plan` never cuts one.
 use Prim.Native.Nat.{ℕ, _+_, _*_, _≤_, _<_}
 use mathlib.Core.Path.{_≡_, refl}
-use mathlib.Core.Bool.{Bool, true, false}
+use mathlib.Core.Bool.{Bool, true, false, cond}
 use mathlib.Core.List.{List, [], _∷_, _++_}
 use native.Mathlib.Nat.{mul-le-mul-right}
 use native.Mathlib.Omega.{arith}
 use lib.ListN.{length, drop, getD, length-append, List·getD-eq-default}
 use lib.Dec.{ltb}
 use borrow.Author.Tests.{ltb-true, ltb-false}
-use Rattle.cursor.specs.Choice.{pick}
 use Rattle.request.specs.Request.{reading, noTask}
 use Rattle.request.specs.declared.Task.{Task}
 use Rattle.request.specs.declared.Pair.{Pair}
@@ -43,7 +42,7 @@ entry-length : (e : Entry) → e .task < 16 → e .number < 128 → length (entr
 unfolding entryText
 entry-length e a b = go (e .carried)
   where
-    go : (c : Bool) → length (named e ++ pick c (ascii "+") []) ≤ 8
+    go : (c : Bool) → length (named e ++ cond c (ascii "+") []) ≤ 8
     go true = simp length-append (omega (arith, name-length e a b))
     go false = simp length-append (omega (arith, name-length e a b))
 

@@ -1,19 +1,19 @@
 -- The earliest frame of each job of a task, by the job's number: a job of another task may stand in frame k exactly if k is at most that.
 use Prim.Native.Nat.{ℕ, _+_, _≤_, _<_, min}
 use mathlib.Core.Path.{_≡_, refl, sym, _∙_}
-use mathlib.Core.Bool.{Bool, true, false}
+use mathlib.Core.Bool.{Bool, true, false, _&&_}
 use mathlib.Core.List.{List}
 use native.Mathlib.Omega.{arith}
 use lib.ListN.{length, getD, set, replicate, length-set, length-replicate, getD-replicate}
 use lib.Seq.{getD-set-same, getD-set-other}
 use lib.Dec.{leb, eqb}
 use borrow.Author.Tests.{le-leb, lt-leb, leb-true, leb-false, eq-eqb, ne-eqb, eqb-true, eqb-false}
-use Rattle.cursor.specs.Choice.{both}
-use Rattle.cursor.specs.Padded.{firsts, getD-firsts}
+use Rattle.cursor.specs.Padded.{firsts}
+use Rattle.cursor.specs.PaddedLaws.{getD-firsts}
 use Rattle.cycle.specs.Planned.{noJob}
 use Rattle.cycle.specs.declared.Job.{Job}
 use Rattle.model.specs.Named.{isJob}
-use Rattle.plan_rules.specs.Every.{allFrom, every}
+use Rattle.plan_rules.specs.Every.{every}
 use Rattle.plan_rules.specs.EveryLaws.{both-all, every-snoc}
 use Rattle.plan_rules.specs.Rules.{otherKept}
 
@@ -22,24 +22,23 @@ pub record Earliest (jobs : List Job) (frames : List ℕ) (b n : ℕ) (earliest 
   pub size : length earliest ≡ 256
   pub tells : (number k : ℕ) → number < 256 → k ≤ 65535 → leb k (getD earliest number 0) ≡ every n (otherKept jobs frames b number k)
 
-leb-min : (k a b : ℕ) → leb k (min a b) ≡ both (leb k a) (leb k b)
+leb-min : (k a b : ℕ) → leb k (min a b) ≡ leb k a && leb k b
 leb-min k a b = go (leb k a) refl (leb k b) refl
   where
-    go : (s : Bool) → leb k a ≡ s → (t : Bool) → leb k b ≡ t → leb k (min a b) ≡ both s t
+    go : (s : Bool) → leb k a ≡ s → (t : Bool) → leb k b ≡ t → leb k (min a b) ≡ s && t
     go true p true q = le-leb k (min a b) (omega (arith, leb-true k a p, leb-true k b q))
     go true p false q = lt-leb k (min a b) (omega (arith, leb-false k b q))
     go false p t q = lt-leb k (min a b) (omega (arith, leb-false k a p))
 
 module _ (jobs : List Job) (frames : List ℕ) (b : ℕ) where
   pub earliest-none : Earliest jobs frames b 0 (replicate 256 65535)
-  unfolding allFrom
   earliest-none = record {
     size = length-replicate {A = ℕ} 256 65535;
     tells = λ number k few small. rw (getD-replicate {A = ℕ} 256 number 65535 0 few) (le-leb k 65535 small);
   }
 
   module _ (z : ℕ) (earliest : List ℕ) (so : Earliest jobs frames b z earliest) where
-    more : (number k : ℕ) → every (z + 1) (otherKept jobs frames b number k) ≡ both (every z (otherKept jobs frames b number k)) (otherKept jobs frames b number k z)
+    more : (number k : ℕ) → every (z + 1) (otherKept jobs frames b number k) ≡ every z (otherKept jobs frames b number k) && otherKept jobs frames b number k z
     more number k = every-snoc (otherKept jobs frames b number k) z
 
     pub other-task : (getD jobs z noJob .task ≡ b → ⊥) → Earliest jobs frames b (z + 1) earliest
@@ -64,7 +63,7 @@ module _ (jobs : List Job) (frames : List ℕ) (b : ℕ) where
         own = getD jobs z noJob .number
 
         go : (number k : ℕ) (t : Bool) → eqb own number ≡ t
-            → both (leb k (getD earliest number 0)) (otherKept jobs frames b number k z) ≡ leb k (getD (set earliest own v) number 0)
+            → leb k (getD earliest number 0) && otherKept jobs frames b number k z ≡ leb k (getD (set earliest own v) number 0)
         go number k true q =
             let same : own ≡ number = eqb-true own number q in
             let stored : getD (set earliest own v) number 0 ≡ v = rw (← same) (getD-set-same earliest own v 0 (omega (arith, so .size))) in

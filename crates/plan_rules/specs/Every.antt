@@ -1,20 +1,13 @@
 -- A test of every number below n, or of some number below n.
-use Prim.Native.Nat.{ℕ, zero, suc, _+_}
-use mathlib.Core.Bool.{Bool, true, false}
-use Rattle.cursor.specs.Choice.{pick, both}
+use Prim.Native.Nat.{ℕ}
+use mathlib.Core.Bool.{Bool, true, false, cond, _&&_}
+use mathlib.Core.List.{map, foldr}
+use Rattle.cursor.specs.Range.{range}
 
--- n numbers from i on: each keeps the test, or some one does
-unfoldable pub allFrom : (ℕ → Bool) → ℕ → ℕ → Bool
-allFrom test zero i = true
-allFrom test (suc n) i = both (test i) (allFrom test n (i + 1))
-
-unfoldable pub someFrom : (ℕ → Bool) → ℕ → ℕ → Bool
-someFrom test zero i = false
-someFrom test (suc n) i = pick (test i) true (someFrom test n (i + 1))
-
--- the numbers below n
+-- each of the numbers below n keeps the test
 abbrev pub every : ℕ → (ℕ → Bool) → Bool
-every n test = allFrom test n 0
+every n test = foldr _&&_ true (map test (range 0 n))
 
+-- some one of them does
 abbrev pub some : ℕ → (ℕ → Bool) → Bool
-some n test = someFrom test n 0
+some n test = foldr (λ this later. cond this true later) false (map test (range 0 n))

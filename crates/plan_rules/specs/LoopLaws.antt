@@ -1,7 +1,7 @@
 -- What each test says of the job at place y in the arrays, of which the first n places are used; and the loads kept, with one job more.
 use Prim.Native.Nat.{ℕ, _+_, _-_, _%_, _≤_, _<_}
 use mathlib.Core.Path.{_≡_, refl, sym, ap, _∙_}
-use mathlib.Core.Bool.{Bool, true, false}
+use mathlib.Core.Bool.{Bool, true, false, cond}
 use mathlib.Core.List.{List, []}
 use native.Mathlib.Nat.{mod-lt}
 use native.Mathlib.Numerals.{add-one}
@@ -10,8 +10,8 @@ use lib.ListN.{length, getD, set, replicate, length-set, length-replicate}
 use lib.Seq.{getD-set-same, getD-set-other}
 use lib.Dec.{eqb}
 use borrow.Author.Tests.{lt-leb, le-leb, eqb-true, eqb-false}
-use Rattle.cursor.specs.Choice.{pick}
-use Rattle.cursor.specs.Padded.{getD-blanks, firsts, firsts-length, getD-firsts, take-firsts}
+use Rattle.cursor.specs.Padded.{firsts}
+use Rattle.cursor.specs.PaddedLaws.{getD-blanks, firsts-length, getD-firsts, take-firsts}
 use Rattle.request.specs.Request.{noPair}
 use Rattle.request.specs.declared.Pair.{Pair}
 use Rattle.cycle.specs.Planned.{noJob}
@@ -28,7 +28,7 @@ module _ (jobs : List Job) (frames : List ℕ) (n y : ℕ) (h : y < n) where
   window-at f = rw (getD-firsts noJob jobs n y h, getD-firsts 0 frames n y h)
 
   pub one-at : (a b : ℕ) → oneKept (firsts n noJob jobs) (firsts n 0 frames) n a b y
-      ≡ pick (eqb (getD jobs y noJob .task) a) (every n (otherKept (firsts n noJob jobs) (firsts n 0 frames) b (getD jobs y noJob .number) (getD frames y 0))) true
+      ≡ cond (eqb (getD jobs y noJob .task) a) (every n (otherKept (firsts n noJob jobs) (firsts n 0 frames) b (getD jobs y noJob .number) (getD frames y 0))) true
   unfolding oneKept
   one-at a b = rw (getD-firsts noJob jobs n y h, getD-firsts 0 frames n y h)
 

@@ -1,10 +1,9 @@
 -- The rules of a plan as tests, in the words of 01's 'A plan', of the frames of its jobs.
 use Prim.Native.Nat.{ℕ, _+_, _*_}
-use mathlib.Core.Bool.{Bool, true}
+use mathlib.Core.Bool.{Bool, true, cond, _&&_}
 use mathlib.Core.List.{List}
 use lib.ListN.{length, getD}
 use lib.Dec.{leb, eqb}
-use Rattle.cursor.specs.Choice.{pick, both}
 use Rattle.request.specs.Request.{noPair}
 use Rattle.request.specs.declared.Pair.{Pair}
 use Rattle.cycle.specs.Planned.{noJob}
@@ -16,7 +15,7 @@ use Rattle.plan_rules.specs.Every.{every}
 
 -- "Window: k·f ≥ r and (k+1)·f ≤ r + D."
 unfoldable pub inWindow : ℕ → Job → ℕ → Bool
-inWindow f job k = both (leb (job .release) (k * f)) (leb ((k + 1) * f) (job .due))
+inWindow f job k = leb (job .release) (k * f) && leb ((k + 1) * f) (job .due)
 
 -- The frames of jobs, by place: n jobs.
 module _ (jobs : List Job) (frames : List ℕ) where
@@ -26,12 +25,12 @@ module _ (jobs : List Job) (frames : List ℕ) where
 
   -- "Order: for a pair a, b the frame of job j of a is at most the frame of job j of b.": the one has frame k, z is the place of the other
   unfoldable pub otherKept : ℕ → ℕ → ℕ → ℕ → Bool
-  otherKept b number k z = pick (isJob b number (getD jobs z noJob)) (leb k (getD frames z 0)) true
+  otherKept b number k z = cond (isJob b number (getD jobs z noJob)) (leb k (getD frames z 0)) true
 
   module _ (n : ℕ) where
     -- y is the place of the one
     unfoldable pub oneKept : ℕ → ℕ → ℕ → Bool
-    oneKept a b y = pick (eqb (getD jobs y noJob .task) a) (every n (otherKept b (getD jobs y noJob .number) (getD frames y 0))) true
+    oneKept a b y = cond (eqb (getD jobs y noJob .task) a) (every n (otherKept b (getD jobs y noJob .number) (getD frames y 0))) true
 
     -- the pair u
     unfoldable pub pairKept : List Pair → ℕ → Bool
@@ -54,7 +53,7 @@ orderRight x frames = every (length (x .pairs)) (pairKept (x .jobs) frames (leng
 
 -- "F = H/f at most 256 rows", and there is one
 unfoldable pub heightRight : ℕ → Bool
-heightRight rows = both (leb 1 rows) (leb rows 256)
+heightRight rows = leb 1 rows && leb rows 256
 
 unfoldable pub rulesRight : Instance → ℕ → ℕ → List ℕ → Bool
-rulesRight x rows f frames = both (heightRight rows) (both (windowsRight x f frames) (both (capacityRight x rows f frames) (orderRight x frames)))
+rulesRight x rows f frames = heightRight rows && (windowsRight x f frames && (capacityRight x rows f frames && orderRight x frames))

@@ -1,13 +1,13 @@
 -- The rules of a cycle in its arrays, as they are tested one after the other.
 use Prim.Native.Nat.{ℕ, _≤_, _<_, min}
 use mathlib.Core.Path.{_≡_, refl, sym, _∙_}
-use mathlib.Core.Bool.{Bool, true, false}
+use mathlib.Core.Bool.{Bool, true, false, _&&_}
 use mathlib.Core.List.{List}
 use native.Mathlib.Omega.{arith}
 use lib.ListN.{length}
 use borrow.Author.Tests.{le-leb, lt-leb}
-use Rattle.cursor.specs.Choice.{both}
-use Rattle.cursor.specs.Padded.{padded, firsts, firsts-length, firsts-padded}
+use Rattle.cursor.specs.Padded.{padded, firsts}
+use Rattle.cursor.specs.PaddedLaws.{firsts-length, firsts-padded}
 use Rattle.request.specs.Request.{noPair}
 use Rattle.cycle.specs.Planned.{noJob}
 use Rattle.cycle.specs.declared.Cycle.{Cycle}
@@ -39,7 +39,7 @@ module _ (c : Cycle) (places : List ℕ) (rows f n : ℕ) (n-is : n ≡ min (c .
         let size : length (costs x) ≡ min (c .count) 128 = costs-length x ∙ firsts-length noJob (c .jobs) (min (c .count) 128) in
         rw cost-is (rw size at (firsts-padded 128 0 (costs x)))
 
-    pub rules-are : answer ≡ both (heightRight rows) (both windows (both capacity (order (min (c .m) 16))))
+    pub rules-are : answer ≡ heightRight rows && (windows && (capacity && order (min (c .m) 16)))
     unfolding rulesRight windowsRight capacityRight orderRight
     rules-are = rw (n-is, costs-are, firsts-length noJob (c .jobs) (min (c .count) 128), firsts-length noPair (c .pairs) (min (c .m) 16))
 

@@ -1,16 +1,16 @@
 -- What the tests of the rules say: the rules of a plan hold exactly if the tests do.
 use Prim.Native.Nat.{ℕ, _*_, _≤_, _<_}
 use mathlib.Core.Path.{_≡_, refl, sym}
-use mathlib.Core.Bool.{Bool, true, false}
+use mathlib.Core.Bool.{Bool, true, false, cond}
 use mathlib.Core.List.{List}
 use lib.ListN.{length}
 use lib.Dec.{leb, eqb}
 use borrow.Author.Tests.{le-leb, leb-true, eq-eqb, eqb-true}
-use Rattle.cursor.specs.Choice.{pick}
 use Rattle.cursor.specs.ParsedLaws.{both-true}
 use Rattle.search.specs.Placing.{row-sum}
 use Rattle.model.specs.Plan.{Instance, jobAt, pairAt, frameAt, costs, PairsKept, InWindow}
-use Rattle.model.specs.Named.{isJob, job-says, says-job}
+use Rattle.model.specs.Named.{isJob}
+use Rattle.model.specs.NamedLaws.{job-says, says-job}
 use Rattle.plan_rules.specs.Every.{every}
 use Rattle.plan_rules.specs.EveryLaws.{every-says, says-every}
 use Rattle.plan_rules.specs.Rules.{inWindow, windowKept, otherKept, oneKept, pairKept, capacityKept, windowsRight, capacityRight, orderRight, heightRight, rulesRight}
@@ -59,14 +59,14 @@ module _ (x : Instance) (frames : List ℕ) where
       (λ y hy. one u hu y hy (eqb (jobAt x y .task) (pairAt x u .a)) refl))
     where
       other : (u : ℕ) → u < length (x .pairs) → (y : ℕ) → y < length (x .jobs) → jobAt x y .task ≡ pairAt x u .a → (z : ℕ) → z < length (x .jobs)
-          → (b : Bool) → isJob (pairAt x u .b) (jobAt x y .number) (jobAt x z) ≡ b → pick b (leb (frameAt frames y) (frameAt frames z)) true ≡ true
+          → (b : Bool) → isJob (pairAt x u .b) (jobAt x y .number) (jobAt x z) ≡ b → cond b (leb (frameAt frames y) (frameAt frames z)) true ≡ true
       other u hu y hy ty z hz true q =
           let v = job-says (pairAt x u .b) (jobAt x y .number) (jobAt x z) q in
           le-leb _ _ (kept u hu y z hy hz ty (v .task-is) (sym (v .number-is)))
       other u hu y hy ty z hz false q = refl
 
       one : (u : ℕ) → u < length (x .pairs) → (y : ℕ) → y < length (x .jobs) → (b : Bool) → eqb (jobAt x y .task) (pairAt x u .a) ≡ b
-          → pick b (every (length (x .jobs)) (otherKept (x .jobs) frames (pairAt x u .b) (jobAt x y .number) (frameAt frames y))) true ≡ true
+          → cond b (every (length (x .jobs)) (otherKept (x .jobs) frames (pairAt x u .b) (jobAt x y .number) (frameAt frames y))) true ≡ true
       one u hu y hy true q =
           says-every (otherKept (x .jobs) frames (pairAt x u .b) (jobAt x y .number) (frameAt frames y)) (length (x .jobs))
           (λ z hz. other u hu y hy (eqb-true (jobAt x y .task) (pairAt x u .a) q) z hz (isJob (pairAt x u .b) (jobAt x y .number) (jobAt x z)) refl)

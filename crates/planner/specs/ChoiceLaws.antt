@@ -1,14 +1,13 @@
 -- The loop over the numbers of rows: with those left to try, it comes to the definition's choice, and to its tries.
 use Prim.Native.Nat.{ℕ, zero, suc, _+_, _-_, _/_, _%_, _≤_, _<_, min}
 use mathlib.Core.Path.{_≡_, refl, ap, subst, _∙_}
-use mathlib.Core.Bool.{Bool, true, false}
+use mathlib.Core.Bool.{Bool, true, false, cond, _&&_}
 use mathlib.Core.List.{List, []}
 use native.Mathlib.Nat.{div-zero, mod-eq-of-lt}
 use native.Mathlib.Omega.{arith}
 use lib.ListN.{replicate}
 use lib.Dec.{ltb, eqb}
 use borrow.Author.Tests.{ne-eqb, le-ltb, lt-ltb, ltb-true, ltb-false}
-use Rattle.cursor.specs.Choice.{pick, both}
 use Rattle.cursor.specs.ParsedLaws.{both-true}
 use Rattle.cursor.specs.Padded.{padded}
 use Rattle.cycle.specs.declared.Cycle.{Cycle}
@@ -28,7 +27,7 @@ use Rattle.searcher.specs.declared.Placed.{Placed}
 use Rattle.planner.specs.Choices.{Searchable, noneChosen, choiceAnswer, choiceWithin}
 use Rattle.planner.specs.declared.choose.ChosenPlan.{ChosenPlan}
 
-both-false : (b : Bool) → both b false ≡ false
+both-false : (b : Bool) → b && false ≡ false
 both-false true = refl
 both-false false = refl
 
@@ -174,7 +173,7 @@ module _ {x : Instance} {allowed left rows : ℕ} {some : Bool} (v : Choosing x 
   last : Choosing x allowed left 257 some
   last = all-skipped (257 - rows) rows v pos all (omega (arith, v .most))
 
-  passed : walkLengthsBy phaseRule x 0 257 some ≡ record { choice = pick some noPlan noPlausible; tries = 0 }
+  passed : walkLengthsBy phaseRule x 0 257 some ≡ record { choice = cond some noPlan noPlausible; tries = 0 }
   passed = lengths-end phaseRule x 257 some
 
   tries-are : allowed - left ≡ fullTries x
@@ -182,7 +181,7 @@ module _ {x : Instance} {allowed left rows : ℕ} {some : Bool} (v : Choosing x 
       let t : walkLengthsBy phaseRule x 0 257 some .tries ≡ 0 = ap (λ (y : ChoiceWalk). y .tries) passed in
       omega (arith, last .spent, last .within)
 
-  reached : (ltb allowed (fullTries x) ≡ false) × (chooseWalk x .choice ≡ pick some noPlan noPlausible)
+  reached : (ltb allowed (fullTries x) ≡ false) × (chooseWalk x .choice ≡ cond some noPlan noPlausible)
   reached = (le-ltb allowed (fullTries x) (omega (arith, tries-are)), last .rest ∙ ap (λ (y : ChoiceWalk). y .choice) passed)
 
   pub some-passed : some ≡ true → noneChosen 10 (allowed - left) ≡ choiceWithin allowed (chooseWalk x)

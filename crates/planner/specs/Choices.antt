@@ -1,11 +1,10 @@
 -- The answers of the functions that choose, and what they ask of their arguments.
 use Prim.Native.Nat.{ℕ}
 use mathlib.Core.Path.{_≡_}
-use mathlib.Core.Bool.{true}
+use mathlib.Core.Bool.{true, cond}
 use mathlib.Core.List.{List}
 use lib.ListN.{replicate}
 use lib.Dec.{ltb}
-use Rattle.cursor.specs.Choice.{pick}
 use Rattle.cursor.specs.Padded.{padded}
 use Rattle.cycle.specs.declared.Cycle.{Cycle}
 use Rattle.model.specs.Plan.{costs}
@@ -28,7 +27,7 @@ choiceAnswer noPlausible tries = noneChosen 9 tries
 
 -- the choice where a tries are allowed: "23 .. in place of a table or 10, exactly when the full search needs more tries than allowed"
 unfoldable pub choiceWithin : ℕ → ChoiceWalk → ChosenPlan
-choiceWithin a w = pick (ltb a (w .tries)) (noneChosen 23 a) (choiceAnswer (w .choice) (w .tries))
+choiceWithin a w = cond (ltb a (w .tries)) (noneChosen 23 a) (choiceAnswer (w .choice) (w .tries))
 
 -- the cycle of a request within the limits, with the costs and the links of its jobs, and a plausible length
 pub record Searchable (c : Cycle) (cost : List ℕ) (links : JobLinks) (f : ℕ) : Type 0 where

@@ -10,7 +10,8 @@ use Rattle.cycle.specs.Cycle.{noCycle, cycleOf}
 use Rattle.cycle.specs.LimitLaws.{no-cycle-number, request-number-pos}
 use Rattle.table.specs.Table.{encode}
 use Rattle.model.specs.Plan.{Instance}
-use Rattle.model.specs.Within.{Within, within-or-not}
+use Rattle.model.specs.Within.{Within}
+use Rattle.model.specs.WithinLaws.{within-or-not}
 use Rattle.plan_writer.specs.Outcome.{outcomeBuffer}
 use Rattle.planner.specs.Outcome.{outcomeWithin, searchedAnswer}
 use Rattle.planner.specs.Handed.{HandedOut}

@@ -12,7 +12,8 @@ use Rattle.table.specs.Table.{encode}
 use Rattle.model.specs.Plan.{Instance, rowsAt}
 use Rattle.model.specs.PlausibleLaws.{plausible-needed}
 use Rattle.model.specs.Good.{Good}
-use Rattle.model.specs.Within.{Within, within-limits, within-good}
+use Rattle.model.specs.Within.{Within}
+use Rattle.model.specs.WithinLaws.{within-limits, within-good}
 use Rattle.model.specs.Chosen.{Choice, chosen, noPlan, noPlausible, choose, IsChosen, NoPlan, RightBy, RightChoice, fullTries}
 use Rattle.model.specs.ChosenLaws.{choose-right, chosen-exactly}
 use Rattle.model.specs.ChosenTries.{none-tried}
@@ -110,7 +111,7 @@ module _ (allowance : ℕ) (request out : List ℕ) (x : Instance) (within : Wit
       -- there is one chosen plan
       same-size : (f' : ℕ) (frames' : List ℕ) → IsChosen x f' frames' → f' ≡ f
       same-size f' frames' r' =
-          let both : chosen f' frames' ≡ chosen f frames = sym (chosen-exactly x good f' frames' .1 r') ∙ q in
+          let same : chosen f' frames' ≡ chosen f frames = sym (chosen-exactly x good f' frames' .1 r') ∙ q in
           cc
 
       -- the table fits

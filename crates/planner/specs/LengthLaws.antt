@@ -4,11 +4,13 @@ use mathlib.Core.Path.{_≡_, sym, ap, subst⁻¹, _∙_}
 use mathlib.Core.List.{List, map}
 use native.Mathlib.Omega.{arith}
 use lib.ListN.{length, take, length-map}
-use Rattle.cursor.specs.Padded.{padded, padded-length, take-padded}
+use Rattle.cursor.specs.Padded.{padded}
+use Rattle.cursor.specs.PaddedLaws.{padded-length, take-padded}
 use Rattle.cycle.specs.declared.Cycle.{Cycle}
 use Rattle.search.specs.Placing.{Proper}
 use Rattle.model.specs.Plan.{Instance, costs}
-use Rattle.model.specs.Answers.{instanceOf, jobs-counted}
+use Rattle.model.specs.Answers.{instanceOf}
+use Rattle.model.specs.AnswerLaws.{jobs-counted}
 use Rattle.model.specs.PlanLaws.{costs-length}
 use Rattle.model.specs.PlausibleLaws.{plausible-says}
 use Rattle.model.specs.LinksLaws.{counts-length, places-of-links-length}

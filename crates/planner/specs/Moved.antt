@@ -8,7 +8,8 @@ use mathlib.Core.Logic.{_⊎_, inl, inr, ⊎-elim}
 use mathlib.Core.List.{List}
 use Rattle.model.specs.Plan.{Instance}
 use Rattle.model.specs.Plausible.{commonRule, phaseRule}
-use Rattle.model.specs.Within.{Within, within-good, within-or-not}
+use Rattle.model.specs.Within.{Within}
+use Rattle.model.specs.WithinLaws.{within-good, within-or-not}
 use Rattle.model.specs.Chosen.{noPlan, noPlausible, chooseBy, choose}
 use Rattle.model.specs.ChosenLaws.{choice-moved}
 use Rattle.plan_writer.specs.Outcome.{refusal}

@@ -1,9 +1,8 @@
 -- What planning a request comes to: whatever is allowed, and within an allowance of tries.
 use mathlib.Core.List.{List}
 use Prim.Native.Nat.{ℕ, min}
-use mathlib.Core.Bool.{Bool}
+use mathlib.Core.Bool.{Bool, cond}
 use lib.Dec.{ltb}
-use Rattle.cursor.specs.Choice.{pick}
 use Rattle.request.specs.declared.Task.{Task}
 use Rattle.cycle.specs.Cycle.{Cycle, cycle, noCycle, cycleOf}
 use Rattle.cursor.specs.declared.Written.{Written}
@@ -47,7 +46,7 @@ requestTries request = triesIn (cycleOf request)
 
 -- "It refuses with 23, before 11 and in place of a table or 10, exactly when the full search needs more tries than allowed."
 unfoldable pub outcomeWithin : ℕ → List ℕ → Outcome
-outcomeWithin allowance request = pick (ltb allowance (requestTries request)) (refusal 23) (outcome request)
+outcomeWithin allowance request = cond (ltb allowance (requestTries request)) (refusal 23) (outcome request)
 
 -- "the count comes back in the answer": "the allowance with 23, and otherwise the full search's tries"
 unfoldable pub searchedAnswer : ℕ → List ℕ → List ℕ → Searched

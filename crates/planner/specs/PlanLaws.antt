@@ -12,7 +12,7 @@ use Rattle.cycle.specs.declared.Cycle as c
 use Rattle.cursor.specs.declared.Written.{Written}
 use Rattle.model.specs.Plan.{Instance}
 use Rattle.model.specs.Answers.{instanceOf}
-use Rattle.model.specs.Within.{Taken}
+use Rattle.model.specs.WithinLaws.{Taken}
 use Rattle.model.specs.Chosen.{Choice, chosen, noPlan, noPlausible, choose, RightBy, RightChoice, chooseWalk, fullTries}
 use Rattle.model.specs.ChosenLaws.{choose-right}
 use Rattle.model.specs.Described.{planTable}

@@ -2,13 +2,12 @@
 -- stands in a buffer of 519 bytes or more, for a caller that reads it there.
 use Prim.Native.Nat.{ℕ, _≤_, _<_}
 use mathlib.Core.Path.{_≡_, refl, sym, ap, _∙_}
-use mathlib.Core.Bool.{Bool, true, false}
+use mathlib.Core.Bool.{Bool, true, false, cond}
 use mathlib.Core.List.{List}
 use native.Mathlib.Omega.{arith}
 use lib.ListN.{length, take}
 use lib.Seq.{take-append-seam}
 use lib.Dec.{ltb}
-use Rattle.cursor.specs.Choice.{pick}
 use Rattle.cursor.specs.ParsedLaws.{never}
 use Rattle.cycle.specs.Cycle.{Cycle, cycle, noCycle, cycleOf}
 use Rattle.cycle.specs.LimitLaws.{cycle-within, no-cycle-number, request-number-pos, request-number-few}
@@ -18,7 +17,8 @@ use Rattle.table.specs.LengthLaws.{entryCount}
 use Rattle.cursor.specs.declared.Written.{Written}
 use Rattle.model.specs.Plan.{Instance}
 use Rattle.model.specs.Good.{Good}
-use Rattle.model.specs.Answers.{instance, instance-good}
+use Rattle.model.specs.Answers.{instance}
+use Rattle.model.specs.AnswerLaws.{instance-good}
 use Rattle.model.specs.Chosen.{Choice, chosen, noPlan, noPlausible, choose, RightBy, RightChoice}
 use Rattle.model.specs.ChosenLaws.{choose-right}
 use Rattle.model.specs.PlanTable.{plan-entries, plan-table-describes, plan-table-length}
@@ -65,7 +65,7 @@ pub outcome-within-good : (allowance : ℕ) (request : List ℕ) → GoodOutcome
 unfolding outcomeWithin
 outcome-within-good allowance request = go (ltb allowance (requestTries request))
   where
-    go : (b : Bool) → GoodOutcome (pick b (refusal 23) (outcome request))
+    go : (b : Bool) → GoodOutcome (cond b (refusal 23) (outcome request))
     go true = (omega arith, omega arith)
     go false = outcome-good request
 
@@ -74,7 +74,7 @@ pub handed-within : (allowance : ℕ) (request : List ℕ) (t : Table) → outco
 unfolding outcomeWithin
 handed-within allowance request t e = go (ltb allowance (requestTries request)) e
   where
-    go : (b : Bool) → pick b (refusal 23) (outcome request) ≡ handed t → outcome request ≡ handed t
+    go : (b : Bool) → cond b (refusal 23) (outcome request) ≡ handed t → outcome request ≡ handed t
     go true q = absurd (never (cc))
     go false q = q
 

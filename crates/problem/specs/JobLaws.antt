@@ -3,11 +3,12 @@
 use Prim.Native.Nat.{ℕ, zero, suc, _+_, _*_, _-_, _/_, _≤_, _<_}
 use mathlib.Core.Path.{_≡_, refl, sym, ap, _∙_}
 use mathlib.Core.List.{List, [], _∷_, _++_, map, map-append}
-use native.Mathlib.Nat.{sub-zero, div-zero, div-lt-iff-lt-mul}
+use native.Mathlib.Nat.{div-zero, div-lt-iff-lt-mul}
 use native.Mathlib.Numerals.{add-one}
 use native.Mathlib.Omega.{arith}
 use lib.ListN.{length, getD, set, replicate, length-map, List·getD-eq-default}
-use Rattle.cursor.specs.Padded.{padded, set-padded, firsts, firsts-length, getD-firsts}
+use Rattle.cursor.specs.Padded.{padded, firsts}
+use Rattle.cursor.specs.PaddedLaws.{padded-none, set-padded, firsts-length, getD-firsts}
 use Rattle.request.specs.Request.{noTask}
 use Rattle.request.specs.declared.Task.{Task}
 use Rattle.cycle.specs.Planned.{noJob}
@@ -23,8 +24,7 @@ set-next size blank xs x k e h =
     ap (λ (i : ℕ). set (padded size blank xs) i x) (sym e) ∙ set-padded size blank xs x (omega arith)
 
 pub none-stored : {A : Type 0} (size : ℕ) (blank : A) → replicate size blank ≡ padded size blank []
-unfolding padded
-none-stored size blank = rw sub-zero
+none-stored size blank = sym (padded-none size blank)
 
 module _ (number : Job → ℕ) (jobs : List Job) where
   -- the numbers of the first n jobs

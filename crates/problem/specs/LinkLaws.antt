@@ -8,9 +8,12 @@ use mathlib.Core.List.{List, [], _∷_, _++_, map, map-append, append-assoc, app
 use native.Mathlib.Nat.{zero-add, sub-zero}
 use native.Mathlib.Numerals.{add-one}
 use native.Mathlib.Omega.{arith}
-use lib.ListN.{length, getD, set, replicate, length-append, length-map, replicate-append-replicate}
+use lib.ListN.{length, getD, set, replicate, length-append, length-map}
 use borrow.Author.Tests.{lt-ltb, le-ltb, eq-eqb, ne-eqb}
-use Rattle.cursor.specs.Padded.{padded, padded-length, firsts, firsts-length, getD-firsts}
+use Rattle.cursor.specs.Padded.{padded, firsts}
+use Rattle.cursor.specs.PaddedLaws.{padded-length, firsts-length, getD-firsts}
+use Rattle.cursor.specs.RangeLaws.{over-last, over-same}
+use Rattle.cursor.specs.ArrayLaws.{padded-part}
 use Rattle.request.specs.Request.{noPair}
 use Rattle.request.specs.declared.Pair.{Pair}
 use Rattle.cycle.specs.Planned.{noJob}
@@ -18,8 +21,8 @@ use Rattle.cycle.specs.declared.Job.{Job}
 use Rattle.cycle.specs.declared.Cycle.{Cycle}
 use Rattle.model.specs.Plan.{Instance}
 use Rattle.model.specs.Named.{isJob}
-use Rattle.model.specs.Links.{placeFrom, placeBefore, linkIf, linkBy, linksBy, linksOfJob, linksFrom, allLinks, inPlaces, linkCounts, linkPlaces}
-use Rattle.model.specs.LinksLaws.{place-here, place-later, links-few, links-from-length}
+use Rattle.model.specs.Links.{placeFrom, placeBefore, linkIf, linkBy, linksBy, linksOfJob, allLinks, inPlaces, linkCounts, linkPlaces}
+use Rattle.model.specs.LinksLaws.{place-here, place-later, linksFrom, links-few, links-from-length}
 use Rattle.model.specs.Answers.{instance, instanceOf}
 use Rattle.problem.specs.Answers.{linksAnswer, Stored}
 use Rattle.problem.specs.JobLaws.{set-next, none-stored}
@@ -151,18 +154,6 @@ module _ (jobs : List Job) (n : ℕ) where
     links-known [] = refl
     links-known (pair ∷ pairs) = rw (link-known pair, links-known pairs)
 
--- a blank behind the elements of a part is one behind those of the whole
-pad-part : {A : Type 0} (size k : ℕ) (blank : A) (xs ys : List A) → length ys ≤ k → length xs + k ≤ size
-    → padded size blank (xs ++ ys) ≡ padded size blank (xs ++ padded k blank ys)
-unfolding padded
-pad-part size k blank xs ys few room =
-    let part = replicate (k - length ys) blank in
-    let rest = replicate (size - (length xs + k)) blank in
-    let long : length (xs ++ (ys ++ part)) ≡ length xs + k = omega (arith, length-append xs (ys ++ part), padded-length k blank ys few) in
-    let split : size - (length xs + length ys) ≡ (k - length ys) + (size - (length xs + k)) = omega arith in
-    rw (long, length-append xs ys, split, ← replicate-append-replicate (k - length ys) (size - (length xs + k)) blank)
-    (append-assoc xs ys (part ++ rest) ∙ ap (λ l. xs ++ l) (sym (append-assoc ys part rest)) ∙ sym (append-assoc xs (ys ++ part) rest))
-
 in-places-append : (xs ys : List (List ℕ)) → inPlaces (xs ++ ys) ≡ inPlaces xs ++ inPlaces ys
 unfolding inPlaces
 in-places-append [] ys = refl
@@ -176,18 +167,11 @@ pub record LinksSoFar (x : Instance) (y : ℕ) (counts places : List ℕ) : Type
 
 -- the jobs one by one
 module _ (x : Instance) where
-  links-last : (n y : ℕ) → linksFrom x (suc n) y ≡ linksFrom x n y ++ (linksOfJob x (y + n) ∷ [])
-  unfolding linksFrom
-  links-last zero y = let e : y + 0 ≡ y = omega arith in rw e
-  links-last (suc n) y =
-      let e : y + 1 + n ≡ y + suc n = omega arith in
-      ap (λ l. linksOfJob x y ∷ l) (links-last n (y + 1) ∙ rw e)
-
   links-upto : (y : ℕ) → linksFrom x (y + 1) 0 ≡ linksFrom x y 0 ++ (linksOfJob x y ∷ [])
-  links-upto y = rw (add-one y) (rw zero-add at (links-last y 0))
+  links-upto y = rw (add-one y) (over-last (linksOfJob x) 0 y ∙ ap (λ (k : ℕ). linksFrom x y 0 ++ (linksOfJob x k ∷ [])) (zero-add y))
 
   pub no-job-linked : LinksSoFar x 0 (replicate 128 0) (replicate 2048 0)
-  unfolding linksFrom inPlaces
+  unfolding inPlaces
   no-job-linked = record { size = refl; counted = none-stored 128 0; stored = none-stored 2048 0 }
 
   module _ (y : ℕ) (counts places : List ℕ) (s : LinksSoFar x y counts places) where
@@ -205,14 +189,13 @@ module _ (x : Instance) where
           size = rw placed (omega (arith, length-append (inPlaces before) (padded 16 0 links), padded-length 16 0 links few, s .size));
           counted = rw (s .counted, listed, one .counted) (set-next 128 0 (map length before) (length links) y sized room);
           stored = rw placed
-              (one .stored (inPlaces before) (s .size) (s .stored) ∙ pad-part 2048 16 0 (inPlaces before) links few (omega (arith, s .size)));
+              (one .stored (inPlaces before) (s .size) (s .stored) ∙ padded-part 2048 0 16 (inPlaces before) links few (omega (arith, s .size)));
         }
 
 -- the links stand on the jobs and the pairs alone
 same-links : (x z : Instance) → x .jobs ≡ z .jobs → x .pairs ≡ z .pairs → (n y : ℕ) → linksFrom x n y ≡ linksFrom z n y
-unfolding linksFrom linksOfJob
-same-links x z e q zero y = refl
-same-links x z e q (suc n) y = rw (same-links x z e q n (y + 1), e, q)
+unfolding linksOfJob
+same-links x z e q n y = over-same (linksOfJob x) (linksOfJob z) y n (λ k low high. rw (e, q))
 
 -- the jobs and the pairs in the first places of two arrays
 module _ (jobs : List Job) (n : ℕ) (pairs : List Pair) (m : ℕ) where

@@ -4,10 +4,11 @@ use mathlib.Core.Path.{_≡_, refl, ap, _∙_}
 use mathlib.Core.List.{List}
 use native.Mathlib.Omega.{arith}
 use lib.ListN.{length, getD}
-use Rattle.cursor.specs.Padded.{getD-padded}
+use Rattle.cursor.specs.PaddedLaws.{getD-padded}
 use Rattle.request.specs.Request.{Reading, readable, unreadable, reading, noTask}
-use Rattle.request.specs.Answers.{answered}
-use Rattle.request.specs.Readable.{Readable, readable-kept, unreadable-number, unread-pos}
+use Rattle.request.specs.Answers.{requestAnswered}
+use Rattle.request.specs.Readable.{Readable}
+use Rattle.request.specs.ReadableLaws.{readable-kept, unreadable-number, unread-pos}
 use Rattle.request.specs.declared.Task.{Task}
 use Rattle.request.specs.declared.Pair.{Pair}
 use Rattle.request.specs.declared.Request.{Request}
@@ -22,11 +23,11 @@ pub record WasRead (bytes : List ℕ) (r : Request) : Type 0 where
   pub n-is : r .n ≡ length tasks
   pub task-is : (i : ℕ) → i < length tasks → getD (r .tasks) i noTask ≡ getD tasks i noTask
 
-module _ (bytes : List ℕ) (r : Request) (e : r ≡ answered (reading bytes)) where
+module _ (bytes : List ℕ) (r : Request) (e : r ≡ requestAnswered (reading bytes)) where
   pub was-read : r .refusal ≡ 0 → WasRead bytes r
   was-read z = go (reading bytes) refl e
     where
-      go : (x : Reading) → reading bytes ≡ x → r ≡ answered x → WasRead bytes r
+      go : (x : Reading) → reading bytes ≡ x → r ≡ requestAnswered x → WasRead bytes r
       go (readable tasks pairs g) is q = record {
         tasks = tasks;
         pairs = pairs;
@@ -43,6 +44,6 @@ module _ (bytes : List ℕ) (r : Request) (e : r ≡ answered (reading bytes)) w
   pub not-read : (r .refusal ≡ 0 → ⊥) → reading bytes ≡ unreadable (r .refusal)
   not-read ne = go (reading bytes) refl e
     where
-      go : (x : Reading) → reading bytes ≡ x → r ≡ answered x → reading bytes ≡ unreadable (r .refusal)
+      go : (x : Reading) → reading bytes ≡ x → r ≡ requestAnswered x → reading bytes ≡ unreadable (r .refusal)
       go (readable tasks pairs g) is q = absurd (ne (ap (λ (y : Request). y .refusal) q))
       go (unreadable number) is q = is ∙ rw q

@@ -68,7 +68,7 @@ abbrev pub unread : ℕ → Request
 unread number = record { refusal = number; n = 0; tasks = replicate 16 noTask; m = 0; pairs = replicate 16 noPair; g = 0 }
 
 -- the reading of a request as the function's answer
-abbrev pub answered : Reading → Request
-answered (readable tasks pairs g) =
+abbrev pub requestAnswered : Reading → Request
+requestAnswered (readable tasks pairs g) =
     record { refusal = 0; n = length tasks; tasks = padded 16 noTask tasks; m = length pairs; pairs = padded 16 noPair pairs; g = g }
-answered (unreadable number) = unread number
+requestAnswered (unreadable number) = unread number

@@ -37,3 +37,9 @@ twoSections tasks pairs = sectionBytes taskBytes tasks ++ sectionBytes pairBytes
 -- "Sections stand in a fixed order, each after its count. First: task count n .. Second: pair count"
 unfoldable pub requestBytes : List Task → List Pair → ℕ → List ℕ
 requestBytes tasks pairs g = sectionBytes taskBytes tasks ++ sectionBytes pairBytes pairs ++ silentBytes g
+
+-- the bytes are the two sections and bytes that say g
+pub record SaysRequest (bytes : List ℕ) (tasks : List Task) (pairs : List Pair) (g : ℕ) : Type 0 where
+  pub third : List ℕ
+  pub says : SaysSilent g third
+  pub whole : twoSections tasks pairs ++ third ≡ bytes

@@ -13,8 +13,8 @@ use borrow.Author.Tests.{le-leb, lt-ltb, eq-eqb}
 use Rattle.cursor.specs.Parsed.{Parsed, got, refused, then, records}
 use Rattle.cursor.specs.ParsedLaws.{never, rule-got}
 use Rattle.cursor.specs.ChoiceLaws.{lt-or-ge}
-use Rattle.cursor.specs.Fields.{byteOf, wordOf}
-use Rattle.cursor.specs.Front.{Bytes, Front, front-then, byte-front, byte-read, word-read, records-front, records-read}
+use Rattle.cursor.specs.Fields.{byteOf, wordOf, Bytes}
+use Rattle.cursor.specs.FrontLaws.{Front, front-then, byte-front, byte-read, word-read, records-front, records-read}
 use Rattle.cursor.specs.OwnBytes.{OwnBytes, ByOwnBytes, value-own, rule-own, byte-own, word-own, then-own, records-own}
 use Rattle.request.specs.Request.{
   noTask,
@@ -37,9 +37,10 @@ use Rattle.request.specs.Request.{
   readable,
   unreadable,
 }
-use Rattle.request.specs.Encode.{taskBytes, pairBytes, sectionBytes, silentBytes, SaysSilent, left-out, no-byte, one-byte, twoSections, requestBytes}
+use Rattle.request.specs.Encode.{taskBytes, pairBytes, sectionBytes, silentBytes, SaysSilent, left-out, no-byte, one-byte, twoSections, requestBytes, SaysRequest}
 use Rattle.request.specs.SectionLaws.{section-steps}
-use Rattle.request.specs.Readable.{TaskKept, PairKept, Readable, task-read, pair-read, reading-sections, readable-kept, silent-few}
+use Rattle.request.specs.Readable.{TaskKept, PairKept, Readable}
+use Rattle.request.specs.ReadableLaws.{task-read, pair-read, reading-sections, readable-kept, silent-few}
 use Rattle.request.specs.declared.Task.{Task}
 use Rattle.request.specs.declared.Pair.{Pair}
 
@@ -209,15 +210,9 @@ unfolding requestBytes
 read-encode tasks pairs g kept few =
     read-behind tasks pairs kept (silentBytes g) ∙ ap (ended tasks pairs) (silent-back g few (silentBytes g) (silent-says g))
 
--- the bytes are the two sections and bytes that say g
-pub record Written (bytes : List ℕ) (tasks : List Task) (pairs : List Pair) (g : ℕ) : Type 0 where
-  pub third : List ℕ
-  pub says : SaysSilent g third
-  pub whole : twoSections tasks pairs ++ third ≡ bytes
-
 module _ (bytes : List ℕ) (tasks : List Task) (pairs : List Pair) (g : ℕ) (e : reading bytes ≡ readable tasks pairs g) (k : Bytes bytes) where
   -- A request that is read has these bytes.
-  pub encode-read : Written bytes tasks pairs g
+  pub encode-read : SaysRequest bytes tasks pairs g
   encode-read =
       let h = reading-sections bytes tasks pairs g e in
       let first = tasks-front bytes tasks (h .behind) (h .first) k in

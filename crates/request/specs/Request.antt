@@ -1,10 +1,9 @@
 -- The request file: what its bytes say, or the number that they are refused with.
 use Prim.Native.Nat.{ℕ, zero, suc}
 use mathlib.Core.List.{List, [], _∷_}
-use mathlib.Core.Bool.{Bool}
+use mathlib.Core.Bool.{Bool, cond, _&&_}
 use lib.ListN.{length, getD}
 use lib.Dec.{leb, ltb, eqb}
-use Rattle.cursor.specs.Choice.{pick, both}
 use Rattle.cursor.specs.Parsed.{Parsed, got, refused, then, records}
 use Rattle.cursor.specs.Fields.{byteOf, wordOf}
 use Rattle.request.specs.declared.Task.{Task}
@@ -18,11 +17,11 @@ noPair = record { a = 0; b = 0 }
 
 -- "A task has 1 ≤ C ≤ D ≤ T and P < T."
 unfoldable pub taskRule : Task → Bool
-taskRule x = both (leb 1 (x .c)) (both (leb (x .c) (x .d)) (both (leb (x .d) (x .t)) (ltb (x .p) (x .t))))
+taskRule x = leb 1 (x .c) && (leb (x .c) (x .d) && (leb (x .d) (x .t) && ltb (x .p) (x .t)))
 
 -- "records of four u16: C (worst transfer time), T (period), D (deadline after release), P (phase)"; 3: a task breaks its inequalities
 unfoldable pub judgedTask : Task → List ℕ → Parsed Task
-judgedTask x rest = pick (taskRule x) (got x rest) (refused 3)
+judgedTask x rest = cond (taskRule x) (got x rest) (refused 3)
 
 unfoldable pub taskOf : List ℕ → Parsed Task
 taskOf bytes =
@@ -34,11 +33,11 @@ taskOf bytes =
 -- "Sections stand in a fixed order, each after its count.": a count that `test` lets through, or `number`, and then as many records;
 -- 1: bytes end inside a section or before its count
 abbrev pub section : {A : Type 0} → (ℕ → Bool) → (List ℕ → Parsed A) → ℕ → List ℕ → Parsed (List A)
-section test one number bytes = then (byteOf 1 bytes) (λ n rest. pick (test n) (records one n [] rest) (refused number))
+section test one number bytes = then (byteOf 1 bytes) (λ n rest. cond (test n) (records one n [] rest) (refused number))
 
 -- "First: task count n (one byte, 1 to 16), then n records"; 2: n is 0 or above 16
 abbrev pub taskCount : ℕ → Bool
-taskCount n = both (leb 1 n) (leb n 16)
+taskCount n = leb 1 n && leb n 16
 
 unfoldable pub tasksOf : List ℕ → Parsed (List Task)
 tasksOf bytes = section taskCount taskOf 2 bytes
@@ -49,11 +48,11 @@ periodOf tasks i = getD tasks i noTask .t
 
 -- "A pair has a < b < n and equal T"
 unfoldable pub pairRule : List Task → ℕ → ℕ → Bool
-pairRule tasks a b = both (ltb a b) (both (ltb b (length tasks)) (eqb (periodOf tasks a) (periodOf tasks b)))
+pairRule tasks a b = ltb a b && (ltb b (length tasks) && eqb (periodOf tasks a) (periodOf tasks b))
 
 -- "pairs of bytes a, b"; 5: a pair breaks its rule
 unfoldable pub judgedPair : List Task → ℕ → ℕ → List ℕ → Parsed Pair
-judgedPair tasks a b rest = pick (pairRule tasks a b) (got (record { a = a; b = b }) rest) (refused 5)
+judgedPair tasks a b rest = cond (pairRule tasks a b) (got (record { a = a; b = b }) rest) (refused 5)
 
 unfoldable pub pairOf : List Task → List ℕ → Parsed Pair
 pairOf tasks bytes = then (byteOf 1 bytes) (λ a rest. then (byteOf 1 rest) (λ b rest. judgedPair tasks a b rest))
@@ -70,7 +69,7 @@ pairsOf tasks bytes = section pairCount (pairOf tasks) 4 bytes
 unfoldable pub silentOf : List ℕ → Parsed ℕ
 silentOf [] = got 0 []
 silentOf (zero ∷ rest) = got 0 rest
-silentOf (suc zero ∷ rest) = then (byteOf 1 rest) (λ g rest. pick (leb g 15) (got g rest) (refused 17))
+silentOf (suc zero ∷ rest) = then (byteOf 1 rest) (λ g rest. cond (leb g 15) (got g rest) (refused 17))
 silentOf (suc (suc n) ∷ rest) = refused 17
 
 -- what the bytes of a request say: its tasks, its pairs and its silent ticks g, or the number of its refusal, from 1 to 6 or 17

@@ -2,22 +2,22 @@
 -- so the part of the bytes behind it is what the definition goes on with. One law for the tasks and the pairs where they differ in the record alone.
 use Prim.Native.Nat.{ℕ, _+_, _-_, _*_, _≤_, _<_}
 use mathlib.Core.Path.{_≡_, refl, sym, ap, _∙_}
-use mathlib.Core.Bool.{Bool, true, false}
+use mathlib.Core.Bool.{Bool, true, false, cond}
 use mathlib.Core.List.{List, [], _∷_}
 use native.Mathlib.Omega.{arith}
 use lib.ListN.{length, getD, take, drop, length-drop}
 use lib.Seq.{drop-drop}
 use lib.Dec.{leb}
 use borrow.Author.Tests.{leb-true}
-use Rattle.cursor.specs.Choice.{pick}
 use Rattle.cursor.specs.Parsed.{Parsed, got, refused, then, records}
 use Rattle.cursor.specs.ParsedLaws.{then-got, rule-got, both-true}
 use Rattle.cursor.specs.Fields.{byteOf}
 use Rattle.cursor.specs.Widths.{Wide, byte-wide, records-wide, records-count}
 use Rattle.cursor.specs.RecordLaws.{SoFar, all-records, records-each}
-use Rattle.cursor.specs.Padded.{padded, padded-length, take-padded}
+use Rattle.cursor.specs.Padded.{padded}
+use Rattle.cursor.specs.PaddedLaws.{padded-length, take-padded}
 use Rattle.request.specs.Request.{section, taskCount, taskOf, tasksOf, pairCount, pairOf, pairsOf, silentOf, reading, ended, afterPairs, afterTasks, noTask, noPair}
-use Rattle.request.specs.Answers.{sectionAnswer, taskAnswer, taskSection, pairAnswer, pairSection, silentSection, unread, answered}
+use Rattle.request.specs.Answers.{sectionAnswer, taskAnswer, taskSection, pairAnswer, pairSection, silentSection, unread, requestAnswered}
 use Rattle.request.specs.declared.Task.{Task}
 use Rattle.request.specs.declared.Pair.{Pair}
 use Rattle.request.specs.declared.Request.{Request}
@@ -56,11 +56,11 @@ module _ {A : Type 0} (Number : ℕ → Type 0) (test : ℕ → Bool) (one : Lis
       read n tail here q (refused m) e h = h
 
       judged : (n : ℕ) (tail : List ℕ) → (1 ≤ length bytes) × (tail ≡ drop 1 bytes) → (t : Bool) → test n ≡ t
-          → Section Number test width bytes (pick t (records one n [] tail) (refused number))
+          → Section Number test width bytes (cond t (records one n [] tail) (refused number))
       judged n tail here true q = read n tail here q (records one n [] tail) refl (records-wide Number one width wide n [] tail)
       judged n tail here false q = bad
 
-      go : (r : Parsed ℕ) → Wide Number 1 bytes r → Section Number test width bytes (then r (λ n tail. pick (test n) (records one n [] tail) (refused number)))
+      go : (r : Parsed ℕ) → Wide Number 1 bytes r → Section Number test width bytes (then r (λ n tail. cond (test n) (records one n [] tail) (refused number)))
       go (got n tail) here = judged n tail here (test n) refl
       go (refused m) here = here
 
@@ -87,7 +87,7 @@ pub record SectionSteps {A : Type 0} (test : ℕ → Bool) (one : List ℕ → P
 module _ {A : Type 0} (test : ℕ → Bool) (one : List ℕ → Parsed A) (number : ℕ) (bytes : List ℕ) (xs : List A) (rest : List ℕ) where
   pub section-steps : section test one number bytes ≡ got xs rest → SectionSteps test one bytes xs rest
   section-steps e =
-      let s = then-got (byteOf 1 bytes) (λ n rest. pick (test n) (records one n [] rest) (refused number)) xs rest e in
+      let s = then-got (byteOf 1 bytes) (λ n rest. cond (test n) (records one n [] rest) (refused number)) xs rest e in
       let rule = rule-got (test (s .value)) (records one (s .value) [] (s .tail)) number xs rest (s .second) in
       let size : length xs ≡ s .value = omega (arith, records-count one (s .value) [] (s .tail) xs rest (rule .1)) in
       record { tail = s .tail; count = rw size (s .first); allowed = rw size (rule .0); listed = rw size (rule .1) }
@@ -165,12 +165,12 @@ first-section s a e z =
     section-is s a (h .items) (h .rest) (h .is) (h .read) (e ∙ ap taskSection (h .is))
 
 -- the request is refused in its first section
-pub refused-first : (s : List ℕ) (a : TaskSection) → a ≡ taskSection (tasksOf s) → (a .refusal ≡ 0 → ⊥) → unread (a .refusal) ≡ answered (reading s)
+pub refused-first : (s : List ℕ) (a : TaskSection) → a ≡ taskSection (tasksOf s) → (a .refusal ≡ 0 → ⊥) → unread (a .refusal) ≡ requestAnswered (reading s)
 unfolding reading
 refused-first s a e ne =
     let number = ap (λ (x : TaskSection). x .refusal) e in
     let r = section-refused taskAnswer (λ x. x .refusal) (λ number n xs end. refl) noTask 8 (tasksOf s) (λ z. ne (number ∙ z)) in
-    rw number (sym (ap (λ (x : Parsed (List Task)). answered (afterTasks x)) r))
+    rw number (sym (ap (λ (x : Parsed (List Task)). requestAnswered (afterTasks x)) r))
 
 -- What is known of the second section once its answer has no refusal number: the request is what the bytes behind it make it.
 pub record SecondSection (s : List ℕ) (a : TaskSection) (b : PairSection) : Type 0 where
@@ -191,11 +191,11 @@ module _ (s : List ℕ) (a : TaskSection) (h : FirstSection s a) (b : PairSectio
   whole = ap afterTasks (h .is)
 
   -- the request is refused in its second section
-  pub refused-second : (b .refusal ≡ 0 → ⊥) → unread (b .refusal) ≡ answered (reading s)
+  pub refused-second : (b .refusal ≡ 0 → ⊥) → unread (b .refusal) ≡ requestAnswered (reading s)
   refused-second ne =
       let number = ap (λ (x : PairSection). x .refusal) b-is in
       let r = section-refused pairAnswer (λ x. x .refusal) (λ number m xs end. refl) noPair 2 (pairsOf (h .tasks) (h .rest)) (λ z. ne (number ∙ z)) in
-      rw number (sym (ap answered (whole ∙ ap (afterPairs (h .tasks)) r)))
+      rw number (sym (ap requestAnswered (whole ∙ ap (afterPairs (h .tasks)) r)))
 
   pub second-section : b .refusal ≡ 0 → SecondSection s a b
   second-section z =
@@ -224,29 +224,29 @@ module _ (s : List ℕ) (a : TaskSection) (b : PairSection) (k : SecondSection s
   size = rw (← k .behind, length-drop) refl
 
   -- the request is refused in its third section
-  pub refused-third : (c .refusal ≡ 0 → ⊥) → unread (c .refusal) ≡ answered (reading s)
+  pub refused-third : (c .refusal ≡ 0 → ⊥) → unread (c .refusal) ≡ requestAnswered (reading s)
   refused-third ne = go (silentOf (k .rest)) c-is (k .is)
     where
-      go : (r : Parsed ℕ) → c ≡ silentSection (k .rest) r → reading s ≡ ended (k .first .tasks) (k .pairs) r → unread (c .refusal) ≡ answered (reading s)
+      go : (r : Parsed ℕ) → c ≡ silentSection (k .rest) r → reading s ≡ ended (k .first .tasks) (k .pairs) r → unread (c .refusal) ≡ requestAnswered (reading s)
       go (got g l) q is = absurd (ne (rw q))
       go (refused number) q is = rw (q, is)
 
   -- bytes follow
-  pub bytes-follow : c .refusal ≡ 0 → c .end < length s - (a .end + b .end) → unread 6 ≡ answered (reading s)
+  pub bytes-follow : c .refusal ≡ 0 → c .end < length s - (a .end + b .end) → unread 6 ≡ requestAnswered (reading s)
   bytes-follow z more = go (silentOf (k .rest)) (silent-section (k .rest)) c-is (k .is)
     where
-      go : (r : Parsed ℕ) → SilentRead (k .rest) r → c ≡ silentSection (k .rest) r → reading s ≡ ended (k .first .tasks) (k .pairs) r → unread 6 ≡ answered (reading s)
+      go : (r : Parsed ℕ) → SilentRead (k .rest) r → c ≡ silentSection (k .rest) r → reading s ≡ ended (k .first .tasks) (k .pairs) r → unread 6 ≡ requestAnswered (reading s)
       go (got g []) known q is = absurd (omega (arith, size, ap (λ (x : SilentSection). x .end) q))
       go (got g (x ∷ l)) known q is = rw is
       go (refused number) known q is = absurd (omega (arith, silent-number-pos known, ap (λ (x : SilentSection). x .refusal) q))
 
   -- the request is read
   pub all-read : c .refusal ≡ 0 → length s - (a .end + b .end) ≤ c .end
-      → _≡_ {A = Request} (record { refusal = 0; n = a .n; tasks = a .tasks; m = b .m; pairs = b .pairs; g = c .g }) (answered (reading s))
+      → _≡_ {A = Request} (record { refusal = 0; n = a .n; tasks = a .tasks; m = b .m; pairs = b .pairs; g = c .g }) (requestAnswered (reading s))
   all-read z end = go (silentOf (k .rest)) (silent-section (k .rest)) c-is (k .is)
     where
       go : (r : Parsed ℕ) → SilentRead (k .rest) r → c ≡ silentSection (k .rest) r → reading s ≡ ended (k .first .tasks) (k .pairs) r
-          → _≡_ {A = Request} (record { refusal = 0; n = a .n; tasks = a .tasks; m = b .m; pairs = b .pairs; g = c .g }) (answered (reading s))
+          → _≡_ {A = Request} (record { refusal = 0; n = a .n; tasks = a .tasks; m = b .m; pairs = b .pairs; g = c .g }) (requestAnswered (reading s))
       go (got g []) known q is = rw (k .first .answer, k .answer, q, is)
       go (got g (x ∷ l)) known q is = absurd (omega (arith, size, ap (λ (x : SilentSection). x .end) q))
       go (refused number) known q is = absurd (omega (arith, silent-number-pos known, ap (λ (x : SilentSection). x .refusal) q))

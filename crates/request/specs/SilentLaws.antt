@@ -1,14 +1,13 @@
 -- The third section: what it gives is at most 15 and stands within the bytes, its refusals are 1 and 17, and its reader goes by its count.
 use Prim.Native.Nat.{ℕ, zero, suc, _-_, _≤_, _<_}
 use mathlib.Core.Path.{_≡_, refl}
-use mathlib.Core.Bool.{Bool, true, false}
+use mathlib.Core.Bool.{Bool, true, false, cond}
 use mathlib.Core.List.{List, [], _∷_}
 use mathlib.Core.Logic.{_⊎_, inl, inr}
 use native.Mathlib.Omega.{arith}
 use lib.ListN.{length, drop, length-drop}
 use lib.Dec.{leb}
 use borrow.Author.Tests.{leb-true, le-leb, lt-leb}
-use Rattle.cursor.specs.Choice.{pick}
 use Rattle.cursor.specs.Parsed.{Parsed, got, refused, then}
 use Rattle.cursor.specs.ParsedLaws.{never}
 use Rattle.cursor.specs.Fields.{byteOf}
@@ -33,7 +32,7 @@ silent-section (zero ∷ rest) = (omega arith, omega arith)
 silent-section (suc zero ∷ []) = inl refl
 silent-section (suc zero ∷ (g ∷ rest)) = go (leb g 15) refl
   where
-    go : (b : Bool) → leb g 15 ≡ b → SilentRead (1 ∷ g ∷ rest) (pick b (got g rest) (refused 17))
+    go : (b : Bool) → leb g 15 ≡ b → SilentRead (1 ∷ g ∷ rest) (cond b (got g rest) (refused 17))
     go true e = (leb-true g 15 e, omega arith)
     go false e = inr refl
 silent-section (suc (suc n) ∷ rest) = inr refl
@@ -68,7 +67,7 @@ module _ (s : List ℕ) (n : ℕ) (start : Cursor) (count : ByteTaken 1 s 0 n st
 
   -- or the count is 1, and the byte behind it is missing, above 15 or g
   module _ (most : n ≤ 1) (some : n ≡ 0 → ⊥) where
-    byte-next : silentOf s ≡ then (byteOf 1 (drop (start .at) s)) (λ g rest. pick (leb g 15) (got g rest) (refused 17))
+    byte-next : silentOf s ≡ then (byteOf 1 (drop (start .at) s)) (λ g rest. cond (leb g 15) (got g rest) (refused 17))
     unfolding silentOf
     byte-next = let one : n ≡ 1 = omega arith in rw (counted, one)
 

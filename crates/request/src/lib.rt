@@ -1,5 +1,7 @@
 // The request file: a team's periodic tasks, the pairs of tasks that keep order and the silent ticks after every transfer.
 // Sections stand in a fixed order, each after its count; every count and record is judged as it is met.
+pub mod write;
+
 use cursor::ByteRead;
 use cursor::Cursor;
 use cursor::WordRead;
@@ -7,7 +9,7 @@ ghost use mathlib.Core.Path.{_≡_};
 ghost use Prim.Native.Nat.{_≤_};
 ghost use lib.ListN.{take, drop, length};
 ghost use Rattle.request.specs.Request.{taskRule, pairRule, taskOf, pairOf, tasksOf, pairsOf, silentOf, reading};
-ghost use Rattle.request.specs.Answers.{taskRead, pairRead, taskNumber, pairNumber, noTasks, noPairs, noSilent, taskSection, pairSection, silentSection, unread, answered};
+ghost use Rattle.request.specs.Answers.{taskRead, pairRead, taskNumber, pairNumber, noTasks, noPairs, noSilent, taskSection, pairSection, silentSection, unread, requestAnswered};
 
 // A periodic task: worst transfer time C, period T, deadline D after release, phase P.
 pub struct Task {
@@ -321,7 +323,7 @@ fn refused(refusal: u8) -> Request
 
 // A request, or the number, from 1 to 6 or 17, that its bytes are refused with.
 pub fn read(s: &[u8]) -> Request
-    ensures { λ r. ⌜ r ≡ answered (reading (now (s .entry))) ⌝ }
+    ensures { λ r. ⌜ r ≡ requestAnswered (reading (now (s .entry))) ⌝ }
 {
     let first = read_tasks(s);
     if first.refusal != 0 {

@@ -3,7 +3,7 @@ use Prim.Native.Nat.{ℕ}
 use mathlib.Core.Path.{_≡_, refl, ap, ap₂}
 use mathlib.Core.List.{List}
 use Rattle.cycle.specs.Cycle.{cycleOf}
-use Rattle.cycle.specs.Answers.{answered}
+use Rattle.cycle.specs.Answers.{cycleAnswered}
 use Rattle.table.specs.Table.{decode}
 use Rattle.cursor.specs.declared.Written.{Written}
 use Rattle.model.specs.Plan.{Instance}
@@ -31,16 +31,16 @@ module _ (request bytes : List ℕ) where
   unfolding rewritten
   rewritten-refused n is = ap (planRead (cycleOf request)) is
 
-  -- what is answered, and left in the buffer, is the outcome's
+  -- what is cycleAnswered, and left in the buffer, is the outcome's
   abbrev pub Hands : List ℕ → Written → List ℕ → Type 0
   Hands out w out′ = (w ≡ outcomeAnswer (rewritten request bytes) out) × (out′ ≡ outcomeBuffer (rewritten request bytes) out)
 
-  module _ (r : Read) (e : r ≡ readAnswer (answered (cycleOf request)) (checker.checked (cycleOf request) (decode bytes))) where
+  module _ (r : Read) (e : r ≡ readAnswer (cycleAnswered (cycleOf request)) (checker.checked (cycleOf request) (decode bytes))) where
     -- the check refuses
     pub not-read : (out : List ℕ) → (r .refusal ≡ 0 → ⊥) → Hands out (record { refusal = r .refusal; length = 0 }) out
     not-read out ne = go (checker.checked (cycleOf request) (decode bytes)) refl e
       where
-        go : (v : checker.Verdict) → checker.checked (cycleOf request) (decode bytes) ≡ v → r ≡ readAnswer (answered (cycleOf request)) v
+        go : (v : checker.Verdict) → checker.checked (cycleOf request) (decode bytes) ≡ v → r ≡ readAnswer (cycleAnswered (cycleOf request)) v
             → Hands out (record { refusal = r .refusal; length = 0 }) out
         go (checker.accepted f frames) is q = absurd (ne (ap (λ (y : Read). y .refusal) q))
         go (checker.refusal n) is q =

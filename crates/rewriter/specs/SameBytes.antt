@@ -6,10 +6,11 @@ use mathlib.Core.List.{List, _++_}
 use lib.ListN.{length, drop}
 use Rattle.cycle.specs.Cycle.{cycleOf}
 use Rattle.table.specs.Table.{Table, table, decode, encode}
-use Rattle.cursor.specs.Front.{Bytes}
+use Rattle.cursor.specs.Fields.{Bytes}
 use Rattle.table.specs.Inverse.{decode-encode, encode-decode}
 use Rattle.model.specs.Plan.{Instance, IsPlan}
-use Rattle.model.specs.Within.{Within, within-good}
+use Rattle.model.specs.Within.{Within}
+use Rattle.model.specs.WithinLaws.{within-good}
 use Rattle.model.specs.Described.{Describes, Accepted}
 use Rattle.model.specs.PlanTable.{describes-is}
 use Rattle.plan_writer.specs.Outcome.{handed, outcomeAnswer, outcomeBuffer}

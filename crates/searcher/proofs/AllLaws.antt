@@ -1,14 +1,16 @@
 -- Laws of the whole search: it may begin with no job placed and no row loaded, and what it comes to is what is answered. Assumes nothing.
 use mathlib.Core.Path.{_≡_, refl, sym, ap, subst, subst⁻¹, _∙_}
 use mathlib.Core.Bool.{Bool, true, false}
-use mathlib.Core.List.{List, [], _++_}
-use Prim.Native.Nat.{ℕ, zero, suc, _-_, _*_, _≤_, _<_}
+use mathlib.Core.List.{List, []}
+use Prim.Native.Nat.{ℕ, _*_, _≤_, _<_}
 use native.Mathlib.Omega.{arith}
-use lib.ListN.{length, take, drop, replicate, length-replicate, take-append-drop}
+use lib.ListN.{length, take, replicate, length-replicate}
 use lib.Seq.{length-take-le, getD-take}
 use lib.Dec.{ltb}
 use borrow.Author.Tests.{le-ltb, ltb-true, ltb-false}
-use Rattle.cursor.specs.Padded.{padded, take-padded, getD-blanks}
+use Rattle.cursor.specs.Padded.{padded}
+use Rattle.cursor.specs.PaddedLaws.{take-padded, getD-blanks}
+use Rattle.cursor.specs.ArrayLaws.{blank-behind}
 use Rattle.search.specs.Search.{Found, none, at, Walk}
 use Rattle.search.specs.Placing.{planWalk, Problem, problem, Proper}
 use Rattle.search.specs.LoadLaws.{loads-empty}
@@ -21,11 +23,6 @@ zeros k = replicate k 0
 
 zeros-length : (k : ℕ) → length (zeros k) ≡ k
 zeros-length k = length-replicate k _
-
-pub drop-zeros : (k n : ℕ) → drop n (zeros k) ≡ zeros (k - n)
-drop-zeros k zero = let z : k - 0 ≡ k = omega arith in rw z
-drop-zeros zero (suc n) = let z : 0 - suc n ≡ 0 = omega arith in rw z
-drop-zeros (suc k) (suc n) = let z : suc k - suc n ≡ k - n = omega arith in rw z (drop-zeros k n)
 
 -- the costs fit into two bytes, and packed they are the same
 module _ {g : Given} (p : Placeable g) where
@@ -85,13 +82,11 @@ module _ {g : Given} (p : Placeable g) where
       d = subst (λ (y : Problem). Tried x (planWalk y []) n (zeros 128) (zeros 256) 0 a answer place load left) (same .0) e
 
       pub one-answered : answer ≡ 1 → _≡_ {A = Placed} (record { answer = answer; left = left; frames = place }) (placedWithin a w)
-      unfolding placedWithin placedAnswer padded
+      unfolding placedWithin placedAnswer
       one-answered q =
           let reached : w .tries ≤ a = not-lt (λ t. one-two (sym q ∙ d .out t .0)) in
-          let size : length (take n place) ≡ n = length-take-le n place (omega (arith, d .size, zeros-length 128, few)) in
-          let rest : drop n place ≡ zeros (128 - length (take n place)) = d .beyond ∙ drop-zeros 128 n ∙ ap (λ (k : ℕ). zeros (128 - k)) (sym size) in
-          let frames : take n place ++ zeros (128 - length (take n place)) ≡ place = ap (λ (l : List ℕ). take n place ++ l) (sym rest) ∙ take-append-drop n place in
-          rw (le-ltb a (w .tries) reached, d .found q, frames, d .enough reached .1, q)
+          let room : n ≤ length place = omega (arith, d .size, zeros-length 128, few) in
+          rw (le-ltb a (w .tries) reached, d .found q, blank-behind 128 0 place n room (d .beyond), d .enough reached .1, q)
         where
           one-two : _≡_ {A = ℕ} 1 2 → ⊥
           one-two z = omega arith

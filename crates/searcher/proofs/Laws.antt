@@ -12,7 +12,8 @@ use lib.ListN.{length, take, drop, getD, set, length-set, length-take, length-dr
 use lib.Seq.{length-take-le, take-suc, take-suc-set, take-take, take-set-le, drop-set-lt, set-set, set-getD, getD-take, getD-drop, ext-getD}
 use lib.Dec.{leb}
 use borrow.Author.Tests.{leb-true}
-use Rattle.cursor.specs.Padded.{padded, set-padded}
+use Rattle.cursor.specs.Padded.{padded}
+use Rattle.cursor.specs.PaddedLaws.{set-padded}
 use Rattle.search.specs.Search.{Found, none, at, Walk, goOn}
 use Rattle.search.specs.Counting.{on-none, on-found, one-more, attemptWalk, fromWalk, walk-end, walk-more, walk-all, walk-next, walk-may, walk-not}
 use Rattle.search.specs.Placing.{planWalk, Problem, linksAt, linksOf, partner, hasRoom, fits, fold, earliest, latest, Bounds, Linked, LoadsKept}

@@ -3,9 +3,9 @@
 use mathlib.Core.Path.{_≡_}
 use mathlib.Core.List.{List, [], List·Memᴰ}
 use Prim.Native.Nat.{ℕ, _+_, _-_, _*_, _≤_, _<_, _%_}
+use mathlib.Core.Bool.{cond}
 use lib.ListN.{length, getD, take, drop, replicate}
 use lib.Dec.{ltb}
-use Rattle.cursor.specs.Choice.{pick}
 use Rattle.cursor.specs.Padded.{padded}
 use Rattle.search.specs.Search.{Found, none, at, Walk}
 use Rattle.search.specs.Counting.{attemptWalk}
@@ -42,7 +42,7 @@ placedAnswer none left = record { answer = 0; left = left; frames = replicate 12
 
 -- what is answered where a tries are allowed: 2 "exactly when the full search needs more tries than allowed"
 unfoldable pub placedWithin : ℕ → Walk → Placed
-placedWithin a w = pick (ltb a (w .tries)) (record { answer = 2; left = 0; frames = replicate 128 0 }) (placedAnswer (w .found) (a - w .tries))
+placedWithin a w = cond (ltb a (w .tries)) (record { answer = 2; left = 0; frames = replicate 128 0 }) (placedAnswer (w .found) (a - w .tries))
 
 -- what is given in one array: its parts
 abbrev pub partIn : List (List ℕ) → ℕ → List ℕ

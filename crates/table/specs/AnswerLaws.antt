@@ -1,20 +1,21 @@
 -- What the reader's answers say: entries in places and how they are filled, the entries that a row says, and which row and sizes were found.
 use Prim.Native.Nat.{ℕ, suc, _+_, _-_, _≤_, _<_}
 use mathlib.Core.Path.{_≡_, refl, sym, ap}
-use mathlib.Core.Bool.{Bool, true, false}
+use mathlib.Core.Bool.{Bool, true, false, cond}
 use mathlib.Core.List.{List, [], _∷_, _++_, map}
 use native.Mathlib.Omega.{arith}
 use lib.ListN.{length, getD, set, replicate, length-append}
 use lib.Dec.{ltb}
 use borrow.Author.Tests.{ltb-true, ltb-false, lt-ltb}
-use Rattle.cursor.specs.Choice.{pick}
-use Rattle.cursor.specs.Padded.{padded, padded-none, getD-padded-any, set-mapped}
+use Rattle.cursor.specs.Padded.{padded}
+use Rattle.cursor.specs.PaddedLaws.{padded-none, getD-padded-any, set-mapped}
+use Rattle.cursor.specs.Range.{range}
 use Rattle.table.specs.Left.{less-one, none-left}
 use Rattle.table.specs.Table.{Entry, Table, Decoded, table, malformed, decode, jobByte, entryOf, rowOf}
 use Rattle.table.specs.WellFormed.{RisingFrom}
 use Rattle.table.specs.EntryLaws.{task-of-byte, job-of-byte, entry-back}
 use Rattle.table.specs.RisingLaws.{rising-first}
-use Rattle.table.specs.Answers.{sizesOf, taskByte, rowGiven, rowRefused, rowAnswer, entriesAt, entriesSaid}
+use Rattle.table.specs.Answers.{sizesOf, taskByte, rowGiven, rowRefused, rowAnswer, entriesSaid}
 use Rattle.table.specs.declared.Sizes.{Sizes}
 use Rattle.table.specs.declared.Row.{Row}
 
@@ -51,21 +52,22 @@ module _ (es : List Entry) (count : ℕ) (tasks jobs : List ℕ) (so : EntriesPl
 
 -- The entries that a row says
 
+-- n of them, from place p on
+abbrev pub entriesAt : List ℕ → List ℕ → ℕ → ℕ → List Entry
+entriesAt tasks jobs n p = map (λ i. entryOf (getD tasks i 0) (getD jobs i 0)) (range p n)
+
 -- of n places, those from place i on
 module _ (tasks jobs : List ℕ) (n i : ℕ) where
   pub entries-more : i < n → entriesAt tasks jobs (n - i) i ≡ entryOf (getD tasks i 0) (getD jobs i 0) ∷ entriesAt tasks jobs (n - (i + 1)) (i + 1)
-  unfolding entriesAt
   entries-more h = rw (less-one n i h)
 
   pub entries-none : n ≤ i → entriesAt tasks jobs (n - i) i ≡ []
-  unfolding entriesAt
   entries-none h = rw (none-left n i h)
 
 -- places that hold the entries' bytes from place p on
 entries-at : (tasks jobs : List ℕ) (es : List Entry) (low p : ℕ) → RisingFrom low es
     → ((i k : ℕ) → k ≡ p + i → (getD tasks k 0 ≡ getD (map taskByte es) i 0) × (getD jobs k 0 ≡ getD (map jobByte es) i 0))
     → entriesAt tasks jobs (length es) p ≡ es
-unfolding entriesAt
 entries-at tasks jobs [] low p h same = refl
 entries-at tasks jobs (e ∷ es) low p h same =
     let r = rising-first low e es h in
@@ -123,7 +125,7 @@ module _ (bytes : List ℕ) (k : ℕ) (r : Row) (e : r ≡ rowAnswer k (decode b
   unfolding rowAnswer
   row-sought = go (decode bytes) refl e
     where
-      in-table : (t : Table) → decode bytes ≡ table t → (b : Bool) → ltb k (length (t .rows)) ≡ b → r ≡ pick b (rowGiven (rowOf t k)) (rowRefused 15)
+      in-table : (t : Table) → decode bytes ≡ table t → (b : Bool) → ltb k (length (t .rows)) ≡ b → r ≡ cond b (rowGiven (rowOf t k)) (rowRefused 15)
           → RowSought bytes k r
       in-table t is true w q = found (record { t = t; is = is; below = ltb-true k (length (t .rows)) w; row-is = q })
       in-table t is false w q = behind t is (ltb-false k (length (t .rows)) w) q

@@ -1,9 +1,10 @@
 -- The reader's answers, of what the bytes decode to, and the entries that an answer says.
-use Prim.Native.Nat.{ℕ, zero, suc, _+_, _*_}
-use mathlib.Core.List.{List, [], _∷_, map}
+use Prim.Native.Nat.{ℕ, _+_, _*_}
+use mathlib.Core.List.{List, map}
+use mathlib.Core.Bool.{cond}
 use lib.ListN.{length, getD, drop, replicate}
 use lib.Dec.{ltb}
-use Rattle.cursor.specs.Choice.{pick}
+use Rattle.cursor.specs.Range.{range}
 use Rattle.cursor.specs.Padded.{padded}
 use Rattle.cursor.specs.Parsed.{Parsed, got, refused}
 use Rattle.cursor.specs.declared.Cursor.{Cursor}
@@ -33,7 +34,7 @@ rowRefused n = record { refusal = n; count = 0; tasks = replicate 16 0; jobs = r
 
 -- the row k: 12 where the bytes do not have the form, 15 where k is not below F
 unfoldable pub rowAnswer : ℕ → Decoded → Row
-rowAnswer k (table t) = pick (ltb k (length (t .rows))) (rowGiven (rowOf t k)) (rowRefused 15)
+rowAnswer k (table t) = cond (ltb k (length (t .rows))) (rowGiven (rowOf t k)) (rowRefused 15)
 rowAnswer k malformed = rowRefused 12
 
 -- both answers, of one reading
@@ -56,10 +57,6 @@ takenRow at (refused number) = record { row = rowRefused number; next = record {
 unfoldable pub rowAt : List ℕ → ℕ → TakenRow
 rowAt s at = takenRow at (rowFrom (drop at s))
 
--- the entries that places say: n of them from place p on
-unfoldable pub entriesAt : List ℕ → List ℕ → ℕ → ℕ → List Entry
-entriesAt tasks jobs zero p = []
-entriesAt tasks jobs (suc n) p = entryOf (getD tasks p 0) (getD jobs p 0) ∷ entriesAt tasks jobs n (p + 1)
-
+-- the entries that the places of a row say
 abbrev pub entriesSaid : Row → List Entry
-entriesSaid r = entriesAt (r .tasks) (r .jobs) (r .count) 0
+entriesSaid r = map (λ p. entryOf (getD (r .tasks) p 0) (getD (r .jobs) p 0)) (range 0 (r .count))

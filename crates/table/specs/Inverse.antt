@@ -2,17 +2,16 @@
 use Prim.Native.Nat.{ℕ, zero, suc, _+_, _*_, _≤_, _<_}
 use mathlib.Core.Path.{_≡_, refl, ap, subst, _∙_}
 use mathlib.Core.List.{List, [], _∷_, _++_, append-nil, append-assoc}
-use mathlib.Core.Bool.{true}
+use mathlib.Core.Bool.{true, cond, _&&_}
 use native.Mathlib.Omega.{arith}
 use lib.ListN.{length}
 use lib.Seq.{append-snoc}
 use lib.Dec.{leb, ltb, eqb}
 use borrow.Author.Tests.{leb-true, ltb-true, eqb-true, le-leb, lt-ltb, eq-eqb}
-use Rattle.cursor.specs.Choice.{pick, both}
 use Rattle.cursor.specs.Parsed.{Parsed, got, refused, then, records}
 use Rattle.cursor.specs.ParsedLaws.{never, then-got, rule-got, got-same, both-true}
-use Rattle.cursor.specs.Fields.{byteOf, wordOf, wordBytes}
-use Rattle.cursor.specs.Front.{Bytes, Front, front-then, byte-front, word-front, word-read, records-front, records-read}
+use Rattle.cursor.specs.Fields.{byteOf, wordOf, wordBytes, Bytes}
+use Rattle.cursor.specs.FrontLaws.{Front, front-then, byte-front, word-front, word-read, records-front, records-read}
 use Rattle.cursor.specs.Widths.{records-count}
 use Rattle.cursor.specs.RecordLaws.{records-each}
 use Rattle.table.specs.Table.{
@@ -109,7 +108,7 @@ entry-taken : (low : ℕ) (bytes : List ℕ) (e : Entry) (rest : List ℕ) → e
 unfolding entryFrom
 entry-taken low bytes e rest q =
     let b = then-got (byteOf 12 bytes) _ e rest q in
-    let p = rule-got (both (leb low (b .value)) (ltb (b .value) 16)) _ 12 e rest (b .second) in
+    let p = rule-got (leb low (b .value) && ltb (b .value) 16) _ 12 e rest (b .second) in
     let c = then-got (byteOf 12 (b .tail)) (λ byte rest. got (entryOf (b .value) byte) rest) e rest (p .1) in
     let tests = both-true (leb low (b .value)) (ltb (b .value) 16) (p .0) in
     got-same (EntryTaken low bytes) (c .second)
@@ -151,7 +150,7 @@ pub record RowTaken (bytes : List ℕ) (es : List Entry) (rest : List ℕ) : Typ
 row-taken : (bytes : List ℕ) (es : List Entry) (rest : List ℕ) → rowFrom bytes ≡ got es rest → RowTaken bytes es rest
 unfolding rowFrom rowBytes
 row-taken bytes es rest q =
-    let b = then-got (byteOf 12 bytes) (λ count rest. pick (leb count 16) (entriesFrom count 0 [] rest) (refused 12)) es rest q in
+    let b = then-got (byteOf 12 bytes) (λ count rest. cond (leb count 16) (entriesFrom count 0 [] rest) (refused 12)) es rest q in
     let p = rule-got (leb (b .value) 16) (entriesFrom (b .value) 0 [] (b .tail)) 12 es rest (b .second) in
     let all = entries-taken (b .value) 0 [] es (b .tail) rest (p .1) in
     record {
@@ -173,7 +172,7 @@ sizes-taken bytes z rest q =
     let m = rule-got (eqb (b .value) 2) _ 12 z rest (b .second) in
     let f = then-got (wordOf 12 (b .tail)) _ z rest (m .1) in
     let h = then-got (wordOf 12 (f .tail)) _ z rest (f .second) in
-    let p = rule-got (both (leb 1 (h .value)) (leb (h .value) 10000)) _ 12 z rest (h .second) in
+    let p = rule-got (leb 1 (h .value) && leb (h .value) 10000) _ 12 z rest (h .second) in
     let tests = both-true (leb 1 (h .value)) (leb (h .value) 10000) (p .0) in
     got-same (SizesTaken bytes) (p .1)
     (record {
@@ -195,7 +194,7 @@ record HeightRight (height : ℕ) (z : Lengths) : Type 0 where
 height-right : (height : ℕ) (z : Lengths) → heightFits height z ≡ true → HeightRight height z
 unfolding heightFits
 height-right height z q =
-    let a = both-true (leb 1 height) (both (leb height 256) (eqb (height * z .f) (z .h))) q in
+    let a = both-true (leb 1 height) (leb height 256 && eqb (height * z .f) (z .h)) q in
     let b = both-true (leb height 256) (eqb (height * z .f) (z .h)) (a .1) in
     record { some-rows = leb-true _ _ (a .0); few-rows = leb-true _ _ (b .0); whole = eqb-true _ _ (b .1) }
 
@@ -210,7 +209,7 @@ record TableTaken (z : Lengths) (bytes : List ℕ) (t : Table) (rest : List ℕ)
 table-taken : (z : Lengths) (bytes : List ℕ) (t : Table) (rest : List ℕ) → rowsFrom z bytes ≡ got t rest → TableTaken z bytes t rest
 unfolding rowsFrom
 table-taken z bytes t rest q =
-    let b = then-got (wordOf 12 bytes) (λ height rest. pick (heightFits height z) (tabled z (records rowFrom height [] rest)) (refused 12)) t rest q in
+    let b = then-got (wordOf 12 bytes) (λ height rest. cond (heightFits height z) (tabled z (records rowFrom height [] rest)) (refused 12)) t rest q in
     let p = rule-got (heightFits (b .value) z) (tabled z (records rowFrom (b .value) [] (b .tail))) 12 t rest (b .second) in
     let r = then-got (records rowFrom (b .value) [] (b .tail)) (λ rows rest. got (record { f = z .f; h = z .h; rows = rows }) rest) t rest (p .1) in
     let count : length (r .value) ≡ b .value = omega (arith, records-count rowFrom (b .value) [] (b .tail) (r .value) (r .tail) (r .first)) in

@@ -2,14 +2,14 @@
 use Prim.Native.Nat.{ℕ, zero, suc, _+_, _*_, _-_, _≤_, _<_}
 use mathlib.Core.Path.{_≡_, refl, ap}
 use mathlib.Core.List.{List, [], _∷_, flatMap}
-use mathlib.Core.Bool.{Bool, true, false}
+use mathlib.Core.Bool.{Bool, true, false, _&&_}
 use native.Mathlib.Omega.{arith}
 use native.Mathlib.Nat.{add-zero, zero-add}
 use lib.ListN.{length, getD, drop, length-append, length-map}
 use lib.Seq.{drop-at}
 use lib.Dec.{leb, ltb, eqb}
 use borrow.Author.Tests.{leb-true, leb-false, eqb-true, eqb-false, le-leb, lt-leb, lt-ltb, le-ltb}
-use Rattle.cursor.specs.Choice.{both, bit, keep}
+use Rattle.cursor.specs.Choice.{bit, keep}
 use Rattle.cursor.specs.WordBytesLaws.{word-parts}
 use Rattle.table.specs.Left.{less-one, none-left}
 use Rattle.table.specs.Table.{Entry, Table, entriesBytes, rowBytes, rowsBytes, headBytes, encode}
@@ -51,11 +51,11 @@ encode-length t =
     omega (arith, length-append (headBytes (t .f) (t .h) height) (rowsBytes (t .rows)), head-length (t .f) (t .h) height, rows-length (t .rows))
 
 -- an entry's row is `low`, or later
-one-row : (r low high : ℕ) → low < high → bit (both (leb low r) (ltb r high)) ≡ bit (eqb r low) + bit (both (leb (low + 1) r) (ltb r high))
+one-row : (r low high : ℕ) → low < high → bit (leb low r && ltb r high) ≡ bit (eqb r low) + bit (leb (low + 1) r && ltb r high)
 one-row r low high h = go (eqb r low) refl (leb low r) refl
   where
     go : (t : Bool) → eqb r low ≡ t → (s : Bool) → leb low r ≡ s
-        → bit (both (leb low r) (ltb r high)) ≡ bit (eqb r low) + bit (both (leb (low + 1) r) (ltb r high))
+        → bit (leb low r && ltb r high) ≡ bit (eqb r low) + bit (leb (low + 1) r && ltb r high)
     go true q s w =
         let same : r ≡ low = eqb-true r low q in
         rw (q, le-leb low r (omega arith), lt-ltb r high (omega arith), lt-leb (low + 1) r (omega arith))
@@ -65,10 +65,10 @@ one-row r low high h = go (eqb r low) refl (leb low r) refl
         rw (q, w, le-leb (low + 1) r (omega arith)) (omega arith)
     go false q false w = let before = leb-false low r w in rw (q, w, lt-leb (low + 1) r (omega arith))
 
-no-row : (r low : ℕ) → bit (both (leb low r) (ltb r low)) ≡ 0
+no-row : (r low : ℕ) → bit (leb low r && ltb r low) ≡ 0
 no-row r low = go (leb low r) refl
   where
-    go : (t : Bool) → leb low r ≡ t → bit (both t (ltb r low)) ≡ 0
+    go : (t : Bool) → leb low r ≡ t → bit (t && ltb r low) ≡ 0
     go true q = rw (le-ltb r low (leb-true low r q))
     go false q = refl
 

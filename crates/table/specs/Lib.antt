@@ -5,8 +5,9 @@ pub mod TableBytes
 -- How answers stand in types:
 pub mod Answers
 -- Theorems:
-pub mod Inverse
+pub mod TableBytesLaws
 -- Laws:
+pub mod Inverse
 pub mod Layout
 pub mod Promises
 pub mod Left

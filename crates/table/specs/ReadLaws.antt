@@ -2,14 +2,13 @@
 use Prim.Native.Nat.{ℕ, _+_, _*_, _-_, _≤_, _<_}
 use mathlib.Core.Path.{_≡_, refl, sym, ap, _∙_}
 use mathlib.Core.List.{List, [], _∷_, _++_}
-use mathlib.Core.Bool.{Bool, true, false}
+use mathlib.Core.Bool.{Bool, true, false, cond}
 use native.Mathlib.Omega.{arith}
 use native.Mathlib.Nat.{sub-zero}
 use lib.ListN.{length, getD, drop, set, replicate, length-append, drop-of-length-le, List·getD-append}
 use lib.Seq.{drop-cons, getD-at}
 use lib.Dec.{ltb}
 use borrow.Author.Tests.{ltb-true, ltb-false, lt-ltb, le-ltb, le-leb}
-use Rattle.cursor.specs.Choice.{pick}
 use Rattle.cursor.specs.Parsed.{got, refused, records}
 use Rattle.cursor.specs.Fields.{byteOf, wordOf}
 use Rattle.cursor.specs.declared.Cursor.{Cursor}
@@ -89,8 +88,8 @@ module _ (z : Lengths) (k : ℕ) (done : List (List Entry)) (es : List Entry) (i
   unfolding rowAnswer
   row-other n = rw (count, one-longer done es i count) (go (ltb k i) refl)
     where
-      go : (t : Bool) → ltb k i ≡ t → pick (ltb k i) (rowGiven (getD done k [])) (rowRefused 15)
-          ≡ pick (ltb k (i + 1)) (rowGiven (getD (done ++ (es ∷ [])) k [])) (rowRefused 15)
+      go : (t : Bool) → ltb k i ≡ t → cond (ltb k i) (rowGiven (getD done k [])) (rowRefused 15)
+          ≡ cond (ltb k (i + 1)) (rowGiven (getD (done ++ (es ∷ [])) k [])) (rowRefused 15)
       go true q =
           let before : k < i = ltb-true k i q in
           rw (q, lt-ltb k (i + 1) (omega arith), List·getD-append done (es ∷ []) [] k (rw count before))

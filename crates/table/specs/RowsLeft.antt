@@ -7,7 +7,7 @@ use native.Mathlib.Omega.{arith}
 use lib.ListN.{length, drop}
 use lib.Seq.{drop-cons, drop-at, drop-drop}
 use Rattle.cursor.specs.Parsed.{got}
-use Rattle.cursor.specs.Front.{Bytes}
+use Rattle.cursor.specs.Fields.{Bytes}
 use Rattle.table.specs.Table.{Table, table, decode, rowFrom, rowBytes, rowsBytes, rowOf}
 use Rattle.table.specs.RisingLaws.{row-rises}
 use Rattle.table.specs.LengthLaws.{entries-length, rows-behind}

@@ -1,10 +1,9 @@
 -- A table, its bytes, and what of the one is the other: 01, "Table file".
 use Prim.Native.Nat.{ℕ, zero, suc, _+_, _*_, _%_}
 use mathlib.Core.List.{List, [], _∷_, _++_, flatMap}
-use mathlib.Core.Bool.{Bool}
+use mathlib.Core.Bool.{Bool, cond, _&&_}
 use lib.ListN.{length, getD}
 use lib.Dec.{leb, ltb, eqb}
-use Rattle.cursor.specs.Choice.{pick, both}
 use Rattle.cursor.specs.Parsed.{Parsed, got, refused, then, records}
 use Rattle.cursor.specs.Fields.{byteOf, wordOf, wordBytes}
 
@@ -25,7 +24,7 @@ pub data Decoded : Type 0 where
 
 -- "a job byte: bits 0 to 6 the job j, bit 7 carry"
 abbrev pub jobBits : ℕ → Bool → ℕ
-jobBits number carried = number + pick carried 128 0
+jobBits number carried = number + cond carried 128 0
 
 abbrev pub numberIn : ℕ → ℕ
 numberIn byte = byte % 128
@@ -43,7 +42,7 @@ entryOf task byte = record { task = task; number = numberIn byte; carried = carr
 unfoldable pub entryFrom : ℕ → List ℕ → Parsed Entry
 entryFrom low bytes =
     then (byteOf 12 bytes) (λ task rest.
-    pick (both (leb low task) (ltb task 16))
+    cond (leb low task && ltb task 16)
     (then (byteOf 12 rest) (λ byte rest. got (entryOf task byte) rest))
     (refused 12))
 
@@ -54,7 +53,7 @@ entriesFrom (suc k) low done bytes = then (entryFrom low bytes) (λ e rest. entr
 
 -- "for each row a byte count 0 to 16 and that many entries"
 unfoldable pub rowFrom : List ℕ → Parsed (List Entry)
-rowFrom bytes = then (byteOf 12 bytes) (λ count rest. pick (leb count 16) (entriesFrom count 0 [] rest) (refused 12))
+rowFrom bytes = then (byteOf 12 bytes) (λ count rest. cond (leb count 16) (entriesFrom count 0 [] rest) (refused 12))
 
 pub record Lengths : Type 0 where
   pub f : ℕ
@@ -64,15 +63,15 @@ pub record Lengths : Type 0 where
 unfoldable pub sizesFrom : List ℕ → Parsed Lengths
 sizesFrom bytes =
     then (byteOf 12 bytes) (λ mark rest.
-    pick (eqb mark 2)
+    cond (eqb mark 2)
     (then (wordOf 12 rest) (λ f rest.
     then (wordOf 12 rest) (λ h rest.
-    pick (both (leb 1 h) (leb h 10000)) (got (record { f = f; h = h }) rest) (refused 12))))
+    cond (leb 1 h && leb h 10000) (got (record { f = f; h = h }) rest) (refused 12))))
     (refused 12))
 
 -- "1 ≤ F ≤ 256, F·f = H"
 unfoldable pub heightFits : ℕ → Lengths → Bool
-heightFits height z = both (leb 1 height) (both (leb height 256) (eqb (height * z .f) (z .h)))
+heightFits height z = leb 1 height && (leb height 256 && eqb (height * z .f) (z .h))
 
 -- the rows, with the sizes
 abbrev pub tabled : Lengths → Parsed (List (List Entry)) → Parsed Table
@@ -81,7 +80,7 @@ tabled z read = then read (λ rows rest. got (record { f = z .f; h = z .h; rows 
 -- "Rows: F as u16, then for each row .."
 unfoldable pub rowsFrom : Lengths → List ℕ → Parsed Table
 rowsFrom z bytes =
-    then (wordOf 12 bytes) (λ height rest. pick (heightFits height z) (tabled z (records rowFrom height [] rest)) (refused 12))
+    then (wordOf 12 bytes) (λ height rest. cond (heightFits height z) (tabled z (records rowFrom height [] rest)) (refused 12))
 
 -- "no bytes follow"
 abbrev pub wholeTable : Parsed Table → Decoded

@@ -35,9 +35,9 @@ busyLine b = ascii "busy " ++ decimalOf b ++ ascii "\n"
 abbrev pub timelineLines : List Task → List JobRecord → List ℕ
 timelineLines tasks rs = recordLines rs ++ busyLine (busyOf tasks rs)
 
-abbrev pub printed : List Task → Timeline → List ℕ
-printed tasks (timeline rs) = timelineLines tasks rs
-printed tasks (refusal number) = refusedLine number
+abbrev pub printedTimeline : List Task → Timeline → List ℕ
+printedTimeline tasks (timeline rs) = timelineLines tasks rs
+printedTimeline tasks (refusal number) = refusedLine number
 
 -- of the table that planning hands out
 abbrev pub timelinePlanned : Cycle → Outcome → Timeline
@@ -46,7 +46,7 @@ timelinePlanned c (outcome.refusal number) = refusal number
 
 -- "plans it": within the tries that a program allows
 unfoldable pub timelineText : List ℕ → List ℕ
-timelineText request = printed (tasksIn (reading request)) (timelinePlanned (cycleOf request) (programOutcome request))
+timelineText request = printedTimeline (tasksIn (reading request)) (timelinePlanned (cycleOf request) (programOutcome request))
 
 -- of a request and the table that planning hands out for it: what `fill` answers and leaves in a list of 128 records, which holds every cycle's jobs
 module _ (request : List ℕ) (t : Table) where
@@ -59,7 +59,7 @@ module _ (request : List ℕ) (t : Table) where
 pub record PrintedExact (request : List ℕ) : Type 0 where
   -- "prints `refused N`": where planning is refused, and only there
   pub refused-line : (number : ℕ) → programOutcome request ≡ outcome.refusal number → timelineText request ≡ refusedLine number
-  -- "or the records one a line .., then `busy B`, where B is the sum of C over the printed jobs"
+  -- "or the records one a line .., then `busy B`, where B is the sum of C over the printedTimeline jobs"
   pub never-refused : (t : Table) → programOutcome request ≡ outcome.handed t → filledAll request t .refusal ≡ 0
   pub lines-are : (t : Table) → programOutcome request ≡ outcome.handed t → timelineText request ≡ timelineLines (tasksIn (reading request)) (recordsFilled request t)
   -- "and equals the busy ticks of all rows added up": of the rows that `plan` prints

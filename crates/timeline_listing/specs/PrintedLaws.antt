@@ -1,4 +1,4 @@
--- What is printed for a planned table is what `fill` leaves for it: the table describes a plan, so the check accepts it, and 128 places are enough.
+-- What is printedTimeline for a planned table is what `fill` leaves for it: the table describes a plan, so the check accepts it, and 128 places are enough.
 use Prim.Native.Nat.{ℕ, _≤_}
 use mathlib.Core.Path.{_≡_, refl, sym, ap, subst}
 use mathlib.Core.List.{List}
@@ -11,8 +11,10 @@ use Rattle.table.specs.Table.{Table, Decoded, table, malformed, decode, encode}
 use Rattle.table.specs.Inverse.{decode-encode}
 use Rattle.model.specs.Plan.{Instance, IsPlan}
 use Rattle.model.specs.Good.{Good}
-use Rattle.model.specs.Answers.{instance, instance-good}
-use Rattle.model.specs.Within.{Within, within-limits}
+use Rattle.model.specs.Answers.{instance}
+use Rattle.model.specs.AnswerLaws.{instance-good}
+use Rattle.model.specs.Within.{Within}
+use Rattle.model.specs.WithinLaws.{within-limits}
 use Rattle.model.specs.Chosen.{Choice, chosen, noPlan, noPlausible, choose, RightBy, RightChoice}
 use Rattle.model.specs.ChosenLaws.{choose-right}
 use Rattle.model.specs.Described.{planTable, Describes}
@@ -30,7 +32,7 @@ use Rattle.plan_listing.specs.Answers.{tableIn}
 use Rattle.job_records.specs.Timeline.{timeline, refusal, recordsOf, timelineOf, filling, recordsIn}
 use Rattle.job_records.specs.Theorem.{long-enough}
 use Rattle.job_records.specs.declared.JobRecord.{JobRecord}
-use Rattle.timeline_listing.specs.Printed.{timelineLines, printed, timelinePlanned, timelineText}
+use Rattle.timeline_listing.specs.Printed.{timelineLines, printedTimeline, timelinePlanned, timelineText}
 
 -- the plan that a table describes which planning hands out
 pub record Planned (request : List ℕ) (t : Table) : Type 0 where
@@ -90,7 +92,7 @@ module _ (request : List ℕ) (t : Table) where
 -- the two ways
 pub timeline-refused : (request : List ℕ) (number : ℕ) → programOutcome request ≡ outcome.refusal number → refusedLine number ≡ timelineText request
 unfolding timelineText
-timeline-refused request number e = sym (ap (λ (o : Outcome). printed (tasksIn (reading request)) (timelinePlanned (cycleOf request) o)) e)
+timeline-refused request number e = sym (ap (λ (o : Outcome). printedTimeline (tasksIn (reading request)) (timelinePlanned (cycleOf request) o)) e)
 
 -- of any bytes that say the table
 pub text-handed : (request bytes : List ℕ) (t : Table) → programOutcome request ≡ outcome.handed t → decode bytes ≡ table t

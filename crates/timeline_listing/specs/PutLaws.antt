@@ -3,9 +3,10 @@ use Prim.Native.Nat.{ℕ, _+_, _-_, _≤_, _<_}
 use mathlib.Core.Path.{_≡_, refl, sym}
 use mathlib.Core.List.{List, [], _∷_, _++_}
 use lib.ListN.{getD}
-use Rattle.cursor.specs.Padded.{padded, getD-padded-any}
+use Rattle.cursor.specs.Padded.{padded}
+use Rattle.cursor.specs.PaddedLaws.{getD-padded-any}
 use Rattle.request.specs.Request.{reading, noTask}
-use Rattle.request.specs.Answers.{answered}
+use Rattle.request.specs.Answers.{requestAnswered}
 use Rattle.request.specs.declared.Task.{Task}
 use Rattle.request.specs.declared.Request.{Request}
 use Rattle.text.specs.Text.{Filled, putAllOf}
@@ -13,7 +14,8 @@ use Rattle.text.specs.TextLaws.{put-none, put-append}
 use Rattle.plan_listing.specs.Listing.{tasksIn}
 use Rattle.plan_listing.specs.ListingLaws.{tasks-are}
 use Rattle.job_records.specs.Timeline.{Timeline, recordsIn, busyOf}
-use Rattle.job_records.specs.Known.{recordHere, KnownFor, recordsFrom, recordsKnown, records-more, records-none, known-are}
+use Rattle.job_records.specs.Known.{recordHere, KnownFor, recordsFrom, recordsKnown}
+use Rattle.job_records.specs.KnownLaws.{records-more, records-none, known-are}
 use Rattle.job_records.specs.declared.JobRecord.{JobRecord}
 use Rattle.job_records.specs.declared.JobsKnown.{JobsKnown}
 use Rattle.timeline_listing.specs.Printed.{recordLine, recordLines, busyLine, timelineLines}
@@ -44,7 +46,7 @@ unfolding busyOf
 busy-padded size tasks [] = refl
 busy-padded size tasks (r ∷ rs) = rw (getD-padded-any size noTask tasks (r .task), busy-padded size tasks rs)
 
-module _ (bytes : List ℕ) (r : Request) (e : r ≡ answered (reading bytes)) where
+module _ (bytes : List ℕ) (r : Request) (e : r ≡ requestAnswered (reading bytes)) where
   -- the lines that are put are those of the timeline
   pub lines-are : (tl : Timeline) (k : JobsKnown) → KnownFor tl k
       → recordLines (recordsKnown k) ++ busyLine (busyOf (r .tasks) (recordsKnown k)) ≡ timelineLines (tasksIn (reading bytes)) (recordsIn tl)

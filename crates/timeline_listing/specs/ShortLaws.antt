@@ -13,9 +13,10 @@ use Rattle.cycle.specs.declared.Job.{Job}
 use Rattle.table.specs.Table.{Table}
 use Rattle.model.specs.Plan.{jobAt, frameAt}
 use Rattle.model.specs.PlanLaws.{length-pos}
-use Rattle.model.specs.Good.{Good, job-facts}
+use Rattle.model.specs.Good.{Good}
+use Rattle.model.specs.GoodLaws.{job-facts}
 use Rattle.model.specs.Places.{number-small}
-use Rattle.model.specs.Within.{within-limits, within-good}
+use Rattle.model.specs.WithinLaws.{within-limits, within-good}
 use Rattle.plan_writer.specs.Outcome.{Outcome, handed, refusal}
 use Rattle.planner.specs.Outcome.{programTries, programOutcome}
 use Rattle.planner.specs.TableLaws.{GoodOutcome, outcome-within-good}
@@ -24,9 +25,9 @@ use Rattle.text.specs.TextLaws.{decimal-length, put-whole}
 use Rattle.plan_listing.specs.Listing.{tasksIn}
 use Rattle.plan_listing.specs.ShortLaws.{refused-length}
 use Rattle.job_records.specs.Timeline.{recordOf, noRecord, busyOf}
-use Rattle.job_records.specs.Known.{records-count, record-at}
+use Rattle.job_records.specs.KnownLaws.{records-count, record-at}
 use Rattle.job_records.specs.declared.JobRecord.{JobRecord}
-use Rattle.timeline_listing.specs.Printed.{recordLine, recordLines, busyLine, timelineLines, printed, timelinePlanned, timelineText}
+use Rattle.timeline_listing.specs.Printed.{recordLine, recordLines, busyLine, timelineLines, printedTimeline, timelinePlanned, timelineText}
 use Rattle.timeline_listing.specs.PrintedLaws.{Planned, handed-planned, records, timeline-planned, tasks-planned}
 
 -- the fields of a record have few digits
@@ -116,7 +117,7 @@ pub timeline-short : (request : List ℕ) → length (timelineText request) ≤ 
 unfolding timelineText
 timeline-short request = go (programOutcome request) refl (outcome-within-good programTries request)
   where
-    go : (o : Outcome) → programOutcome request ≡ o → GoodOutcome o → length (printed (tasksIn (reading request)) (timelinePlanned (cycleOf request) o)) ≤ 4096
+    go : (o : Outcome) → programOutcome request ≡ o → GoodOutcome o → length (printedTimeline (tasksIn (reading request)) (timelinePlanned (cycleOf request) o)) ≤ 4096
     go (handed t) is good = let p = handed-planned request t is in rw (timeline-planned request t p) (lines-few request t p)
     go (refusal number) is good = omega (arith, refused-length number (omega (arith, good .1)))
 

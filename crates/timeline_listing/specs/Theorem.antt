@@ -6,7 +6,7 @@ use lib.ListN.{length, drop, replicate}
 use lib.Seq.{take-append-seam}
 use Rattle.request.specs.Request.{reading}
 use Rattle.table.specs.Table.{Table, encode}
-use Rattle.model.specs.Within.{within-good}
+use Rattle.model.specs.WithinLaws.{within-good}
 use Rattle.plan_writer.specs.Outcome.{handed}
 use Rattle.planner.specs.Outcome.{programOutcome}
 use Rattle.plan_listing.specs.Listing.{tasksIn}

@@ -1,25 +1,26 @@
 -- The laws of the registers: each way out of a call, as its definition has it.
-use Prim.Native.Nat.{ℕ, _+_, _-_, _%_, _/_, _≤_, _<_}
+use Prim.Native.Nat.{ℕ, zero, suc, _+_, _-_, _%_, _/_, _≤_, _<_}
 use mathlib.Core.Path.{_≡_, refl, sym}
-use mathlib.Core.Bool.{Bool, true, false, not}
-use mathlib.Core.List.{List, [], _∷_}
+use mathlib.Core.Bool.{Bool, true, false, not, cond, _&&_}
+use mathlib.Core.List.{List, [], _∷_, map, foldr}
 use native.Mathlib.Omega.{arith}
 use lib.ListN.{length, getD}
 use lib.Dec.{ltb, eqb}
 use borrow.Author.Tests.{lt-ltb, le-ltb, eq-eqb, ne-eqb, ltb-false, eqb-true, eqb-false}
 use mir.Val.{boolByte}
-use Rattle.cursor.specs.Choice.{pick, both, bit}
+use Rattle.cursor.specs.Choice.{bit}
+use Rattle.cursor.specs.Range.{range}
 use Rattle.cursor.specs.WordBytesLaws.{word-parts}
 use Rattle.request.specs.Request.{noTask, reading}
 use Rattle.request.specs.AnswerLaws.{WasRead, not-read}
-use Rattle.request.specs.Answers.{answered}
+use Rattle.request.specs.Answers.{requestAnswered}
 use Rattle.request.specs.declared.Request.{Request}
 use Rattle.table.specs.Left.{less-one, none-left}
 use Rattle.table.specs.Table.{Decoded, decode}
 use Rattle.dispatcher.specs.Dispatch.{nextFrame}
 use Rattle.dispatcher.specs.FrameLaws.{frame-few, frame-refused-still}
 use Rattle.dispatcher.specs.declared.Frame.{Frame}
-use Rattle.timer.specs.Registers.{controlByte, statusByte, sumFrom, sumShown, registers, registerRead, withControl, withStatus, controlOf, statusOf, clearedBy, changed, written}
+use Rattle.timer.specs.Registers.{controlByte, statusByte, sumOf, sumShown, registers, registerRead, withControl, withStatus, controlOf, statusOf, clearedBy, changed, afterWrite}
 use Rattle.timer.specs.Registers.{dueOrMissed, afterEvent, servedOnce, dueServed, noneServed, serving, aboveC}
 use Rattle.timer.specs.declared.Control.{Control}
 use Rattle.timer.specs.declared.Status.{Status}
@@ -72,6 +73,25 @@ control-few c = omega (arith, bit-is (c .run), bit-is (c .enable), bit-few (c .r
 pub status-few : (s : Status) → statusByte s < 8
 status-few s = omega (arith, bit-is (s .due), bit-is (s .overrun), bit-is (s .missed), bit-few (s .due), bit-few (s .overrun), bit-few (s .missed))
 
+-- such a byte is that of its bits
+pub control-bits : (n : ℕ) → n < 4 → controlByte (controlOf n) ≡ n
+control-bits zero h = refl
+control-bits (suc zero) h = refl
+control-bits (suc (suc zero)) h = refl
+control-bits (suc (suc (suc zero))) h = refl
+control-bits (suc (suc (suc (suc n)))) h = absurd (omega arith)
+
+pub status-bits : (n : ℕ) → n < 8 → statusByte (statusOf n) ≡ n
+status-bits zero h = refl
+status-bits (suc zero) h = refl
+status-bits (suc (suc zero)) h = refl
+status-bits (suc (suc (suc zero))) h = refl
+status-bits (suc (suc (suc (suc zero)))) h = refl
+status-bits (suc (suc (suc (suc (suc zero))))) h = refl
+status-bits (suc (suc (suc (suc (suc (suc zero)))))) h = refl
+status-bits (suc (suc (suc (suc (suc (suc (suc zero))))))) h = refl
+status-bits (suc (suc (suc (suc (suc (suc (suc (suc n)))))))) h = absurd (omega arith)
+
 -- read
 
 abbrev pub aByte : ℕ → RegisterRead
@@ -110,8 +130,15 @@ module _ (address : ℕ) (t : Timer) where
       go true q = read-at 6 0 (eqb-true address 6 q) (omega arith) refl
       go false q = let ne = eqb-false address 6 q in let seven : address ≡ 7 = omega arith in read-at 7 0 seven (omega arith) refl
 
--- the sum of the counts: i are added
+-- the sum of the counts: of n of them, from that of task i on
+unfoldable pub sumFrom : List ℕ → ℕ → ℕ → ℕ
+sumFrom counts n i = foldr _+_ 0 (map (λ j. getD counts j 0) (range i n))
 
+pub sum-is : (counts : List ℕ) → sumOf counts ≡ sumFrom counts 16 0
+unfolding sumOf sumFrom
+sum-is counts = refl
+
+-- i are added
 module _ (counts : List ℕ) (i : ℕ) where
   pub sum-more : i < 16 → getD counts i 0 + sumFrom counts (16 - (i + 1)) (i + 1) ≡ sumFrom counts (16 - i) i
   unfolding sumFrom
@@ -125,37 +152,37 @@ module _ (counts : List ℕ) (i : ℕ) where
 
 module _ (address value : ℕ) (t : Timer) where
   -- 29
-  pub write-no-more : 8 ≤ address → written address value t ≡ changed 29 t
-  unfolding written
+  pub write-no-more : 8 ≤ address → afterWrite address value t ≡ changed 29 t
+  unfolding afterWrite
   write-no-more h = rw (le-ltb address 8 h)
 
-  pub write-control : address ≡ 0 → written address value t ≡ changed 0 (withControl (controlOf value) t)
-  unfolding written
+  pub write-control : address ≡ 0 → afterWrite address value t ≡ changed 0 (withControl (controlOf value) t)
+  unfolding afterWrite
   write-control e = rw e
 
-  pub write-status : address ≡ 1 → written address value t ≡ changed 0 (withStatus (clearedBy value (t .status)) t)
-  unfolding written
+  pub write-status : address ≡ 1 → afterWrite address value t ≡ changed 0 (withStatus (clearedBy value (t .status)) t)
+  unfolding afterWrite
   write-status e = rw e
 
   -- "Bytes 2 to 7 ignore writes."
-  pub write-ignored : (address ≡ 0 → ⊥) → (address ≡ 1 → ⊥) → address < 8 → written address value t ≡ changed 0 t
-  unfolding written
+  pub write-ignored : (address ≡ 0 → ⊥) → (address ≡ 1 → ⊥) → address < 8 → afterWrite address value t ≡ changed 0 t
+  unfolding afterWrite
   write-ignored n0 n1 h = rw (lt-ltb address 8 h, ne-eqb address 0 n0, ne-eqb address 1 n1)
 
   -- control, status and state after it, whatever the address
   abbrev pub Wrote : Bool → Bool → Timer → Type 0
   Wrote control status after =
-      (after .control ≡ pick control (controlOf value) (t .control)) × (after .status ≡ pick status (clearedBy value (t .status)) (t .status))
+      (after .control ≡ cond control (controlOf value) (t .control)) × (after .status ≡ cond status (clearedBy value (t .status)) (t .status))
       × (after .state ≡ t .state)
 
-  pub write-parts : Wrote (eqb address 0) (eqb address 1) (written address value t .timer)
-  unfolding written
+  pub write-parts : Wrote (eqb address 0) (eqb address 1) (afterWrite address value t .timer)
+  unfolding afterWrite
   write-parts = go (ltb address 8) (eqb address 0) (eqb address 1) refl refl refl
     where
       to : Bool → Bool → Timer
-      to control status = pick control (withControl (controlOf value) t) (pick status (withStatus (clearedBy value (t .status)) t) t)
+      to control status = cond control (withControl (controlOf value) t) (cond status (withStatus (clearedBy value (t .status)) t) t)
 
-      go : (l z o : Bool) → ltb address 8 ≡ l → eqb address 0 ≡ z → eqb address 1 ≡ o → Wrote z o (pick l (changed 0 (to z o)) (changed 29 t) .timer)
+      go : (l z o : Bool) → ltb address 8 ≡ l → eqb address 0 ≡ z → eqb address 1 ≡ o → Wrote z o (cond l (changed 0 (to z o)) (changed 29 t) .timer)
       go l true true e f g = absurd (omega (arith, eqb-true address 0 f, eqb-true address 1 g))
       go true true false e f g = (refl, refl, refl)
       go true false true e f g = (refl, refl, refl)
@@ -176,21 +203,21 @@ module _ (t : Timer) where
   event-heard e = rw e
 
   -- control, status and state after it
-  pub event-parts : (afterEvent t .control ≡ t .control) × (afterEvent t .status ≡ pick (t .control .run) (dueOrMissed (t .status)) (t .status))
+  pub event-parts : (afterEvent t .control ≡ t .control) × (afterEvent t .status ≡ cond (t .control .run) (dueOrMissed (t .status)) (t .status))
       × (afterEvent t .state ≡ t .state)
   unfolding afterEvent
   event-parts = go (t .control .run)
     where
       to : Bool → Timer
-      to run = pick run (withStatus (dueOrMissed (t .status)) t) t
+      to run = cond run (withStatus (dueOrMissed (t .status)) t) t
 
-      go : (b : Bool) → (to b .control ≡ t .control) × (to b .status ≡ pick b (dueOrMissed (t .status)) (t .status)) × (to b .state ≡ t .state)
+      go : (b : Bool) → (to b .control ≡ t .control) × (to b .status ≡ cond b (dueOrMissed (t .status)) (t .status)) × (to b .state ≡ t .state)
       go true = (refl, refl, refl)
       go false = (refl, refl, refl)
 
 -- serve
 
--- a frame as it is answered, with the timer after it
+-- a frame as it is requestAnswered, with the timer after it
 abbrev pub answeredWith : Frame → Timer → FrameServed
 answeredWith a t = record { refusal = a .refusal; count = a .count; tasks = a .tasks; jobs = a .jobs; timer = t }
 
@@ -210,9 +237,9 @@ module _ (d : Decoded) (t : Timer) where
     unfolding serving
     serve-made e = rw (due, eq-eqb (nextFrame d (t .state) .refusal) 0 e)
 
--- the status after a serving that was answered with this number
+-- the status after a serving that was requestAnswered with this number
 abbrev pub servedStatus : ℕ → Status → Status
-servedStatus number s = record { due = both (s .due) (not (eqb number 0)); overrun = s .overrun; missed = s .missed }
+servedStatus number s = record { due = s .due && not (eqb number 0); overrun = s .overrun; missed = s .missed }
 
 same-but-due : (s : Status) (due : Bool) → s .due ≡ due → s ≡ record { due = due; overrun = s .overrun; missed = s .missed }
 same-but-due s due e = λ i. record { due = e i; overrun = s .overrun; missed = s .missed }
@@ -220,13 +247,13 @@ same-but-due s due e = λ i. record { due = e i; overrun = s .overrun; missed = 
 module _ (d : Decoded) (t : Timer) where
   -- control, status and state after it
   pub serve-parts : (serving d t .timer .control ≡ t .control) × (serving d t .timer .status ≡ servedStatus (serving d t .refusal) (t .status))
-      × (serving d t .timer .state ≡ pick (t .status .due) (nextFrame d (t .state) .state) (t .state))
+      × (serving d t .timer .state ≡ cond (t .status .due) (nextFrame d (t .state) .state) (t .state))
   unfolding serving
   serve-parts = go (t .status .due) refl (eqb (nextFrame d (t .state) .refusal) 0) refl
     where
       go : (due : Bool) → t .status .due ≡ due → (none : Bool) → eqb (nextFrame d (t .state) .refusal) 0 ≡ none
           → (serving d t .timer .control ≡ t .control) × (serving d t .timer .status ≡ servedStatus (serving d t .refusal) (t .status))
-          × (serving d t .timer .state ≡ pick due (nextFrame d (t .state) .state) (t .state))
+          × (serving d t .timer .state ≡ cond due (nextFrame d (t .state) .state) (t .state))
       go false e none f = rw (serve-none d t e) (refl, same-but-due (t .status) _ (rw e), refl)
       go true e true f = rw (serve-made d t e (eqb-true _ _ f)) (refl, rw (e, f), refl)
       go true e false f =
@@ -238,14 +265,14 @@ pub serve-few : (bytes : List ℕ) (t : Timer) → serving (decode bytes) t .cou
 unfolding serving
 serve-few bytes t = go (t .status .due)
   where
-    go : (b : Bool) → pick b (dueServed (nextFrame (decode bytes) (t .state)) t) (noneServed t) .count ≤ 16
+    go : (b : Bool) → cond b (dueServed (nextFrame (decode bytes) (t .state)) t) (noneServed t) .count ≤ 16
     go true = frame-few bytes (t .state)
     go false = omega arith
 
 -- report
 
 -- not a request
-pub above-unread : (bytes : List ℕ) (task ticks : ℕ) (r : Request) → r ≡ answered (reading bytes) → (r .refusal ≡ 0 → ⊥)
+pub above-unread : (bytes : List ℕ) (task ticks : ℕ) (r : Request) → r ≡ requestAnswered (reading bytes) → (r .refusal ≡ 0 → ⊥)
     → false ≡ aboveC (reading bytes) task ticks
 unfolding aboveC
 above-unread bytes task ticks r e ne = rw (not-read bytes r e ne)

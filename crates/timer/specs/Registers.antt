@@ -1,10 +1,11 @@
 -- The registers of the bus timer: what each call answers, and the timer after it. 02, R-12: "The controller board shows the dispatcher as eight bytes."
-use Prim.Native.Nat.{ℕ, zero, suc, _+_, _*_, _/_, _%_, min}
-use mathlib.Core.Bool.{Bool, true, false, not}
-use mathlib.Core.List.{List, [], _∷_, _++_}
+use Prim.Native.Nat.{ℕ, _+_, _*_, _/_, _%_, min}
+use mathlib.Core.Bool.{Bool, true, false, not, cond, _&&_, _||_}
+use mathlib.Core.List.{List, [], _∷_, _++_, map, foldr}
 use lib.ListN.{length, getD, replicate}
 use lib.Dec.{ltb, eqb}
-use Rattle.cursor.specs.Choice.{pick, both, bit}
+use Rattle.cursor.specs.Choice.{bit}
+use Rattle.cursor.specs.Range.{range}
 use Rattle.cursor.specs.Fields.{wordBytes}
 use Rattle.request.specs.Request.{Reading, readable, unreadable}
 use Rattle.table.specs.Table.{Decoded}
@@ -23,9 +24,6 @@ use Rattle.timer.specs.declared.FrameServed.{FrameServed}
 abbrev pub isSet : ℕ → ℕ → Bool
 isSet weight byte = eqb (byte / weight % 2) 1
 
-abbrev pub either : Bool → Bool → Bool
-either a b = pick a true b
-
 -- fresh
 
 -- "Fresh, all eight bytes are 0.": the dispatcher is fresh too
@@ -42,14 +40,13 @@ controlByte c = bit (c .run) + 2 * bit (c .enable)
 abbrev pub statusByte : Status → ℕ
 statusByte s = bit (s .due) + 2 * bit (s .overrun) + 4 * bit (s .missed)
 
--- "the sum of all task counts": of n of them, from that of task i on
-unfoldable pub sumFrom : List ℕ → ℕ → ℕ → ℕ
-sumFrom counts zero i = 0
-sumFrom counts (suc n) i = getD counts i 0 + sumFrom counts n (i + 1)
+-- "the sum of all task counts"
+unfoldable pub sumOf : List ℕ → ℕ
+sumOf counts = foldr _+_ 0 (map (λ i. getD counts i 0) (range 0 16))
 
 -- "the smaller of 65,535 and the sum of all task counts"
 abbrev pub sumShown : List ℕ → ℕ
-sumShown counts = min 65535 (sumFrom counts 16 0)
+sumShown counts = min 65535 (sumOf counts)
 
 -- "eight bytes": control, status, "2 and 3: the row as u16. 4 and 5: the smaller of 65,535 and the sum of all task counts, as u16. 6 and 7 read 0."
 unfoldable pub registers : Timer → List ℕ
@@ -59,7 +56,7 @@ registers t =
 -- "It refuses with 29 an address above 7."
 unfoldable pub registerRead : ℕ → Timer → RegisterRead
 registerRead address t =
-    pick (ltb address 8) (record { refusal = 0; value = getD (registers t) address 0 }) (record { refusal = 29; value = 0 })
+    cond (ltb address 8) (record { refusal = 0; value = getD (registers t) address 0 }) (record { refusal = 29; value = 0 })
 
 -- write
 
@@ -73,7 +70,7 @@ statusOf value = record { due = isSet 1 value; overrun = isSet 2 value; missed =
 
 -- "writing a 1 clears bit 1 or 2, and bit 0 ignores writes"
 abbrev pub clearedBy : ℕ → Status → Status
-clearedBy value s = record { due = s .due; overrun = both (s .overrun) (not (isSet 2 value)); missed = both (s .missed) (not (isSet 4 value)) }
+clearedBy value s = record { due = s .due; overrun = s .overrun && not (isSet 2 value); missed = s .missed && not (isSet 4 value) }
 
 abbrev pub withControl : Control → Timer → Timer
 withControl c t = record { state = t .state; control = c; status = t .status }
@@ -84,23 +81,23 @@ withStatus s t = record { state = t .state; control = t .control; status = s }
 -- "Bytes 2 to 7 ignore writes."
 abbrev pub wrote : ℕ → ℕ → Timer → Timer
 wrote address value t =
-    pick (eqb address 0) (withControl (controlOf value) t) (pick (eqb address 1) (withStatus (clearedBy value (t .status)) t) t)
+    cond (eqb address 0) (withControl (controlOf value) t) (cond (eqb address 1) (withStatus (clearedBy value (t .status)) t) t)
 
 abbrev pub changed : ℕ → Timer → Changed
 changed number t = record { refusal = number; timer = t }
 
-unfoldable pub written : ℕ → ℕ → Timer → Changed
-written address value t = pick (ltb address 8) (changed 0 (wrote address value t)) (changed 29 t)
+unfoldable pub afterWrite : ℕ → ℕ → Timer → Changed
+afterWrite address value t = cond (ltb address 8) (changed 0 (wrote address value t)) (changed 29 t)
 
 -- event
 
 -- "makes a frame due, or marks a miss if one is due already"
 abbrev pub dueOrMissed : Status → Status
-dueOrMissed s = record { due = true; overrun = s .overrun; missed = either (s .due) (s .missed) }
+dueOrMissed s = record { due = true; overrun = s .overrun; missed = s .due || s .missed }
 
 -- "A timer event with run set ..; with run clear it does nothing."
 unfoldable pub afterEvent : Timer → Timer
-afterEvent t = pick (t .control .run) (withStatus (dueOrMissed (t .status)) t) t
+afterEvent t = cond (t .control .run) (withStatus (dueOrMissed (t .status)) t) t
 
 -- serve
 
@@ -111,7 +108,7 @@ servedOnce s t = record { state = s; control = t .control; status = record { due
 -- "Serving a due frame is one next-frame call and clears bit 0, unless that call refuses"
 abbrev pub dueServed : Frame → Timer → FrameServed
 dueServed a t =
-    record { refusal = a .refusal; count = a .count; tasks = a .tasks; jobs = a .jobs; timer = pick (eqb (a .refusal) 0) (servedOnce (a .state) t) t }
+    record { refusal = a .refusal; count = a .count; tasks = a .tasks; jobs = a .jobs; timer = cond (eqb (a .refusal) 0) (servedOnce (a .state) t) t }
 
 -- "refuses nothing, .. gives no entries and changes nothing"
 abbrev pub noneServed : Timer → FrameServed
@@ -119,18 +116,18 @@ noneServed t = record { refusal = 0; count = 0; tasks = replicate 16 0; jobs = r
 
 -- "serving with none due refuses nothing, whatever the table"
 unfoldable pub serving : Decoded → Timer → FrameServed
-serving d t = pick (t .status .due) (dueServed (nextFrame d (t .state)) t) (noneServed t)
+serving d t = cond (t .status .due) (dueServed (nextFrame d (t .state)) t) (noneServed t)
 
 -- report
 
 -- "A report above C": it is accepted, and its ticks exceed C, whatever the counts are
 unfoldable pub aboveC : Reading → ℕ → ℕ → Bool
-aboveC (readable tasks pairs g) task ticks = both (ltb task (length tasks)) (exceeds tasks task ticks)
+aboveC (readable tasks pairs g) task ticks = ltb task (length tasks) && exceeds tasks task ticks
 aboveC (unreadable number) task ticks = false
 
 -- "A report above C sets bit 1.": also if the count stands at 65,535
 abbrev pub marked : Bool → Status → Status
-marked over s = record { due = s .due; overrun = either over (s .overrun); missed = s .missed }
+marked over s = record { due = s .due; overrun = over || s .overrun; missed = s .missed }
 
 abbrev pub heardOf : Bool → Reported → Timer → Changed
 heardOf over a t = changed (a .refusal) (record { state = a .state; control = t .control; status = marked over (t .status) })
@@ -142,4 +139,4 @@ reporting r task ticks t = heardOf (aboveC r task ticks) (reported r task ticks 
 
 -- "The interrupt line is on exactly if enabled and a status bit is set."
 unfoldable pub lineOn : Timer → Bool
-lineOn t = both (t .control .enable) (either (t .status .due) (either (t .status .overrun) (t .status .missed)))
+lineOn t = t .control .enable && (t .status .due || (t .status .overrun || t .status .missed))

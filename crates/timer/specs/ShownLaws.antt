@@ -1,22 +1,22 @@
 -- What the eight bytes show of a timer: each register, the line by them, and the fresh timer. And what a call leaves that is ignored or refused.
 use Prim.Native.Nat.{ℕ, _+_, _*_, _≤_, _<_}
 use mathlib.Core.Path.{_≡_, refl, sym, ap}
-use mathlib.Core.Bool.{Bool, true, false, false≢true}
+use mathlib.Core.Bool.{Bool, true, false, false≢true, cond, _&&_, _||_}
 use mathlib.Core.Logic.{_⊎_, inl, inr, _↔_}
 use mathlib.Core.List.{[]}
 use native.Mathlib.Omega.{arith}
 use lib.ListN.{length, getD}
 use lib.Dec.{ltb}
 use borrow.Author.Tests.{lt-ltb, le-ltb, ne-eqb}
-use Rattle.cursor.specs.Choice.{pick, both, bit}
+use Rattle.cursor.specs.Choice.{bit}
 use Rattle.cursor.specs.ChoiceLaws.{lt-or-ge}
-use Rattle.cursor.specs.Padded.{getD-blanks}
+use Rattle.cursor.specs.PaddedLaws.{getD-blanks}
 use Rattle.request.specs.Request.{Reading, readable, unreadable}
 use Rattle.table.specs.Table.{Decoded}
 use Rattle.dispatcher.specs.Dispatch.{nextFrame, reported}
 use Rattle.dispatcher.specs.ReportLaws.{report-counted}
 use Rattle.dispatcher.specs.declared.State.{State}
-use Rattle.timer.specs.Registers.{isSet, either, controlByte, statusByte, sumFrom, sumShown, freshTimer, registerRead, changed, wrote, written, dueServed, serving}
+use Rattle.timer.specs.Registers.{isSet, controlByte, statusByte, sumOf, sumShown, freshTimer, registerRead, changed, wrote, afterWrite, dueServed, serving}
 use Rattle.timer.specs.Registers.{aboveC, lineOn}
 use Rattle.timer.specs.RegisterLaws.{aByte, eightBytes, control-back, status-back, read-at}
 use Rattle.timer.specs.declared.Control.{Control}
@@ -65,7 +65,7 @@ module _ (t : Timer) where
   line-shown = rw (enable-bit, status-shown) (go (t .control .enable) (t .status .due) (t .status .overrun) (t .status .missed))
     where
       go : (enable due overrun missed : Bool)
-          → (both enable (either due (either overrun missed)) ≡ true) ↔ ((enable ≡ true) × (0 < bit due + 2 * bit overrun + 4 * bit missed))
+          → (enable && (due || (overrun || missed)) ≡ true) ↔ ((enable ≡ true) × (0 < bit due + 2 * bit overrun + 4 * bit missed))
       go true true overrun missed = (λ e. (refl, omega arith), λ w. refl)
       go true false true missed = (λ e. (refl, omega arith), λ w. refl)
       go true false false true = (λ e. (refl, omega arith), λ w. refl)
@@ -74,30 +74,30 @@ module _ (t : Timer) where
 
 -- "Fresh, all eight bytes are 0."
 pub fresh-read : (address : ℕ) → address < 8 → registerRead address freshTimer ≡ aByte 0
-unfolding sumFrom
+unfolding sumOf
 fresh-read address h = sym (read-at address freshTimer address 0 refl h (sym (getD-blanks 8 0 [] address)))
 
 -- write
 
 module _ (address value : ℕ) (t : Timer) where
-  pub write-eight : address < 8 → written address value t .refusal ≡ 0
-  unfolding written
+  pub write-eight : address < 8 → afterWrite address value t .refusal ≡ 0
+  unfolding afterWrite
   write-eight h = rw (lt-ltb address 8 h)
 
   -- "Bytes 2 to 7 ignore writes.", and behind them one is refused
-  pub write-above : 2 ≤ address → written address value t .timer ≡ t
-  unfolding written
+  pub write-above : 2 ≤ address → afterWrite address value t .timer ≡ t
+  unfolding afterWrite
   write-above h = rw (ne-eqb address 0 (λ e. omega arith), ne-eqb address 1 (λ e. omega arith)) (go (ltb address 8))
     where
-      go : (b : Bool) → pick b (changed 0 t) (changed 29 t) .timer ≡ t
+      go : (b : Bool) → cond b (changed 0 t) (changed 29 t) .timer ≡ t
       go true = refl
       go false = refl
 
-  pub write-refused-still : (written address value t .refusal ≡ 0 → ⊥) → written address value t .timer ≡ t
-  unfolding written
+  pub write-refused-still : (afterWrite address value t .refusal ≡ 0 → ⊥) → afterWrite address value t .timer ≡ t
+  unfolding afterWrite
   write-refused-still ne = go (ltb address 8) ne
     where
-      go : (b : Bool) → let a = pick b (changed 0 (wrote address value t)) (changed 29 t) in (a .refusal ≡ 0 → ⊥) → a .timer ≡ t
+      go : (b : Bool) → let a = cond b (changed 0 (wrote address value t)) (changed 29 t) in (a .refusal ≡ 0 → ⊥) → a .timer ≡ t
       go true ne = absurd (ne refl)
       go false ne = refl
 

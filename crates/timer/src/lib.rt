@@ -3,12 +3,11 @@ use dispatcher::Frame;
 use dispatcher::State;
 ghost use mathlib.Core.Path.{_≡_};
 ghost use Prim.Native.Nat.{_≤_, _<_};
-ghost use mathlib.Core.Bool.{not};
-ghost use Rattle.cursor.specs.Choice.{both};
+ghost use mathlib.Core.Bool.{_||_, not, _&&_};
 ghost use Rattle.request.specs.Request.{reading};
 ghost use Rattle.table.specs.Table.{decode};
-ghost use Rattle.timer.specs.Registers.{isSet, either, freshTimer, controlByte, statusByte, sumFrom, sumShown, registerRead};
-ghost use Rattle.timer.specs.Registers.{controlOf, statusOf, clearedBy, withControl, withStatus, written, dueOrMissed, afterEvent};
+ghost use Rattle.timer.specs.Registers.{isSet, freshTimer, controlByte, statusByte, sumOf, sumShown, registerRead};
+ghost use Rattle.timer.specs.Registers.{controlOf, statusOf, clearedBy, withControl, withStatus, afterWrite, dueOrMissed, afterEvent};
 ghost use Rattle.timer.specs.Registers.{servedOnce, noneServed, serving, aboveC, marked, reporting, lineOn};
 
 // Register 0: bit 0 run, bit 1 interrupt enable.
@@ -84,7 +83,7 @@ fn wide(count: u16) -> u32
 
 // The sum of 16 counts needs more than 16 bits.
 fn sum_of(counts: [u16; 16]) -> u32
-    ensures { λ r. ⌜ r ≡ sumFrom counts 16 0 ⌝ }
+    ensures { λ r. ⌜ r ≡ sumOf counts ⌝ }
 {
     let mut sum: u32 = 0;
     let mut i: usize = 0;
@@ -136,14 +135,14 @@ fn is_set(weight: u8, byte: u8) -> bool
 }
 
 fn either(a: bool, b: bool) -> bool
-    ensures { λ r. ⌜ r ≡ either a b ⌝ }
+    ensures { λ r. ⌜ r ≡ a || b ⌝ }
 {
     a || b
 }
 
 // A bit that is set stays so unless it is cleared.
 fn kept(set: bool, cleared: bool) -> bool
-    ensures { λ r. ⌜ r ≡ both set (not cleared) ⌝ }
+    ensures { λ r. ⌜ r ≡ set && not cleared ⌝ }
 {
     set && !cleared
 }
@@ -206,7 +205,7 @@ fn with_status(status: Status, timer: Timer) -> Timer
 
 // Control takes its two bits, status is cleared where a 1 is written, and bytes 2 to 7 stay: 29 where the address is above 7.
 pub fn write(address: u8, value: u8, timer: Timer) -> Changed
-    ensures { λ r. ⌜ r ≡ written address value timer ⌝ }
+    ensures { λ r. ⌜ r ≡ afterWrite address value timer ⌝ }
 {
     if 7 < address {
         return Changed { refusal: 29, timer };

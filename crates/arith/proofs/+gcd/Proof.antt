@@ -4,7 +4,7 @@ use mathlib.Core.Path.{sym, _∙_}
 use native.Mathlib.Nat.{pos-of-ne-zero, mod-lt}
 use borrow.Author.Needs.{needs}
 use native.Mathlib.Omega.{arith}
-use Rattle.arith.specs.Gcd.{gcd-zero, gcd-step}
+use Rattle.arith.specs.GcdLaws.{gcd-zero, gcd-step}
 use borrow.Fn.Kinds.{In}
 use borrow.Fn.PlainCycle.{Measures, is, falls, and}
 use Rattle.arith.proofs.gcd.Reads as gcd

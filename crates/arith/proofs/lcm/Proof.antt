@@ -5,7 +5,8 @@ use mathlib.Core.Path.{sym, _∙_}
 use native.Mathlib.Nat.{div-le-self, mul-le-mul}
 use native.Mathlib.Omega.{arith}
 use borrow.Author.Needs.{needs}
-use Rattle.arith.specs.Lcm.{lcmOf, lcm-none}
+use Rattle.arith.specs.Lcm.{lcmOf}
+use Rattle.arith.specs.LcmLaws.{lcm-none}
 use Rattle.arith.proofs.lcm.Statement.{statement}
 use Rattle.arith.proofs.lcm.Tie as tie
 

@@ -2,7 +2,7 @@
 use mathlib.Core.Path.{sym, _∙_, ap}
 use native.Mathlib.Omega.{arith}
 use borrow.Author.Tests.{not-true, not-false}
-use Rattle.cursor.specs.Front.{Bytes}
+use Rattle.cursor.specs.Fields.{Bytes}
 use Rattle.checker.specs.Answers.{foundAnswer}
 use Rattle.checker.specs.ReadLaws.{table-unread, table-formed, table-malformed, height-few, other-cycle, not-plausible, rows-judged}
 use borrow.Author.Needs.{needs}

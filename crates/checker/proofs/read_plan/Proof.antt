@@ -2,10 +2,10 @@
 use mathlib.Core.Path.{sym, _∙_, ap, ap₂}
 use Rattle.cycle.specs.Cycle.{Cycle}
 use Rattle.table.specs.Table.{decode}
-use Rattle.model.specs.Within.{read-within, read-refused}
-use Rattle.checker.specs.Checked.{checked, refusal}
+use Rattle.model.specs.WithinLaws.{read-within, read-refused}
 use Rattle.checker.specs.Answers.{readAnswer, besideIt, cycleIn}
 use Rattle.checker.specs.ReadLaws.{request-refused, found-beside}
+use Rattle.checker.specs.Checked.{checked, refusal}
 use borrow.Author.Needs.{needs}
 use Rattle.checker.proofs.read_plan.Statement.{statement}
 use Rattle.checker.proofs.read_plan.Tie as tie

@@ -2,38 +2,40 @@
 -- The kit
 pub use Prim.Native.Nat.{ℕ, _+_, _*_, _%_, _^_, _≤_, _<_, _∣_, min}
 pub use mathlib.Core.Path.{_≡_}
-pub use mathlib.Core.Bool.{Bool, true}
+pub use mathlib.Core.Bool.{Bool, true, _&&_}
 pub use mathlib.Core.Logic.{_↔_, _⊎_, _≢_}
 pub use mathlib.Core.List.{List, [], _∷_, _++_, map}
 pub use lib.ListN.{length, getD, take, drop}
 pub use lib.IntN.{pos}
 pub use lib.Dec.{eqb}
 -- Request
-pub use Rattle.cursor.specs.Front.{Bytes}
-pub use Rattle.cursor.specs.Choice.{both, bit}
+pub use Rattle.cursor.specs.Fields.{Bytes}
+pub use Rattle.cursor.specs.Choice.{bit}
 pub use Rattle.request.specs.declared.Task.{Task}
 pub use Rattle.request.specs.declared.Pair.{Pair}
 pub use Rattle.request.specs.Request.{periodOf, Reading, readable, unreadable, reading}
-pub use Rattle.request.specs.Encode.{twoSections, requestBytes}
-pub use Rattle.request.specs.Readable.{Readable, readable-kept, UnreadNumber, unreadable-number}
-pub use Rattle.request.specs.EncodeLaws.{Written, read-encode, encode-read, cut-short, cut-before-third, too-long}
-pub use Rattle.request_writer.specs.Written.{requestAnswer, requestBuffer}
-pub use Rattle.request_writer.specs.FileLaws.{ownNumber, fileOf}
+pub use Rattle.request.specs.Encode.{twoSections, requestBytes, SaysRequest}
+pub use Rattle.request.specs.Readable.{Readable, UnreadNumber}
+pub use Rattle.request.specs.ReadableLaws.{readable-kept, unreadable-number}
+pub use Rattle.request.specs.EncodeLaws.{read-encode, encode-read, cut-short, cut-before-third, too-long}
+pub use Rattle.request.specs.Written.{requestAnswer, requestBuffer, ownNumber, fileOf}
 -- Cycle and jobs
-pub use Rattle.arith.specs.Gcd.{gcdOf, gcd-dvd, dvd-gcd, gcd-greatest, gcd-zero, gcd-comm}
-pub use Rattle.arith.specs.Lcm.{lcmOf, dvd-lcm-left, dvd-lcm-right, lcm-dvd, lcm-least}
+pub use Rattle.arith.specs.Gcd.{gcdOf}
+pub use Rattle.arith.specs.GcdLaws.{gcd-dvd, dvd-gcd, gcd-greatest, gcd-zero, gcd-comm}
+pub use Rattle.arith.specs.Lcm.{lcmOf}
+pub use Rattle.arith.specs.LcmLaws.{dvd-lcm-left, dvd-lcm-right, lcm-dvd, lcm-least}
 pub use Rattle.cycle.specs.Cycle.{hyperperiod, planned, cycle, noCycle, cycleOf}
 pub use Rattle.cycle.specs.declared.Job.{Job}
-pub use Rattle.cycle.specs.Planned.{IsJob, InPlanningOrder, Periodic}
+pub use Rattle.cycle.specs.Planned.{IsJob, InPlanningOrder}
 pub use Rattle.cycle.specs.Limits.{WithinLimits, RequestNumber}
 pub use Rattle.cycle.specs.PlannedLaws.{planned-in-order}
-pub use Rattle.cycle.specs.LimitLaws.{cycle-within, hyperperiod-least, no-cycle-number}
+pub use Rattle.cycle.specs.LimitLaws.{cycle-within, readable-periodic, hyperperiod-divides, hyperperiod-least, no-cycle-number}
 -- Plans and the choice
 pub use Rattle.search.specs.Placing.{hasRoom, LoadsKept, fits, windowStart, frameCount}
 pub use Rattle.model.specs.Plan.{Instance, rowsAt, taskAt, jobAt, costs, Capacity, InWindow, IsPlan}
 pub use Rattle.model.specs.Plausible.{phaseRule, commonRule, plausibleBy, plausible, WindowsHold, Needed}
-pub use Rattle.model.specs.Good.{Good}
 pub use Rattle.model.specs.Within.{Within}
+pub use Rattle.model.specs.WithinLaws.{within-good}
 pub use Rattle.model.specs.PhaseExact.{phase-exact}
 pub use Rattle.model.specs.PlausibleLaws.{plausible-needed}
 pub use Rattle.model.specs.Chosen.{chosen, choose, IsChosen, RightChoice, problemAt}
@@ -43,8 +45,8 @@ pub use Rattle.model.specs.MayStandLaws.{frames-walked, passed-over}
 pub use Rattle.model.specs.Described.{Describes, Accepted}
 -- Table, check and rewriting
 pub use Rattle.table.specs.Table.{Table, table, Decoded, encode, decode}
-pub use Rattle.table.specs.WellFormed.{WellFormed}
-pub use Rattle.table.specs.Inverse.{decode-encode, encode-decode}
+pub use Rattle.table.specs.TableBytes.{SaysTable}
+pub use Rattle.table.specs.TableBytesLaws.{decodes-says, says-decodes}
 pub use Rattle.checker.specs.Checked.{checkNumber, checkedBy, checked, accepted}
 pub use Rattle.checker.specs.Accepts.{accepts-described}
 pub use Rattle.checker.specs.Exactly.{CheckExact}
@@ -53,7 +55,8 @@ pub use Rattle.checker.specs.Moved.{Moves}
 pub use Rattle.checker.specs.MovedLaws.{verdict-moved}
 pub use Rattle.rewriter.specs.Rewritten.{rewritten}
 pub use Rattle.rewriter.specs.SameBytes.{same-bytes, reads-back}
-pub use Rattle.rewriter.specs.ReadBack.{ReadsBack, planned-reads-back}
+pub use Rattle.rewriter.specs.ReadBack.{ReadsBack}
+pub use Rattle.rewriter.specs.ReadBackLaws.{planned-reads-back}
 -- Planning
 pub use Rattle.plan_writer.specs.Outcome.{refusal, outcomeAnswer, outcomeBuffer}
 pub use Rattle.planner.specs.Outcome.{outcome, requestTries, outcomeWithin, searchedAnswer, outcomeBy, programOutcome}
@@ -79,9 +82,12 @@ pub use Rattle.flight.specs.Joined.{checked-flight, planned-flight}
 pub use Rattle.flight_in_c.specs.CallsInC.{CheckedInC, PlannedInC}
 pub use Rattle.flight_in_c.specs.InC.{flight-in-c, planned-in-c}
 -- Bench sheet and what the programs print
-pub use Rattle.bench_sheet.specs.Sheet.{SheetHolds, sheet-holds}
-pub use Rattle.bench_sheet.specs.Listed.{Listed, listed}
-pub use Rattle.bench_sheet.specs.Silent.{SilentLine, silent-sheet, silent-sheet-holds}
+pub use Rattle.bench_sheet.specs.Sheet.{SheetHolds, SheetMoved, SheetTries}
+pub use Rattle.bench_sheet.specs.SheetLaws.{sheet-holds}
+pub use Rattle.bench_sheet.specs.Listed.{Listed}
+pub use Rattle.bench_sheet.specs.ListedLaws.{listed}
+pub use Rattle.bench_sheet.specs.Silent.{SilentLine, silent-sheet}
+pub use Rattle.bench_sheet.specs.SilentLaws.{silent-sheet-holds}
 pub use Rattle.text.specs.Text.{NeverCut}
 pub use Rattle.plan_listing.specs.Listing.{listing}
 pub use Rattle.plan_listing.specs.ShortLaws.{listing-short, listing-whole}
@@ -89,7 +95,8 @@ pub use Rattle.fly_listing.specs.Flown.{flightListing}
 pub use Rattle.fly_listing.specs.ShortLaws.{flight-short, flight-whole}
 -- R-4, R-6, R-8, R-9
 pub use Rattle.join.specs.Joined.{joined}
-pub use Rattle.join.specs.Valid.{Joins, JoinNumber, join-valid, join-enough, join-number}
+pub use Rattle.join.specs.Valid.{Joins, JoinNumber}
+pub use Rattle.join.specs.ValidLaws.{join-valid, join-enough, join-number}
 pub use Rattle.join.specs.Associative.{joined-right, joined-left}
 pub use Rattle.one_off.specs.Exactly.{OneOffExact}
 pub use Rattle.one_off.specs.ExactlyLaws.{one-off-exact}
@@ -100,11 +107,13 @@ pub use Rattle.flight_spacing.specs.SpacingLaws.{spacing}
 pub use Rattle.flight_spacing.specs.Joined.{checked-spacing, planned-spacing}
 pub use Rattle.flight_spacing.specs.SuccessiveLaws.{successive-means}
 pub use Rattle.flight_spacing.specs.WhileLaws.{spacing-while}
-pub use Rattle.flight_spacing.specs.Reached.{Reached, reached}
+pub use Rattle.flight_spacing.specs.Reached.{Reached}
+pub use Rattle.flight_spacing.specs.ReachedLaws.{reached}
 pub use Rattle.cut.specs.Cut.{cut}
 pub use Rattle.cut.specs.Exactly.{CutExact}
 pub use Rattle.cut.specs.Theorem.{cut-exact, cut-enough}
 pub use Rattle.cut.specs.Example as cut-example
+pub use Rattle.cut.specs.ExampleLaws as cut-example-laws
 pub use Rattle.flight_cut.specs.Pieces.{CheckedPieces, PlannedPieces}
 pub use Rattle.flight_cut.specs.Theorem.{pieces-run, planned-pieces-run}
 -- R-10 to R-14

@@ -13,7 +13,7 @@ pub record EveryContract (M : Type 1) : Type 2 where
   -- requests
   pub request-read : Rattle.request.proofs.read.Statement.statement M
   pub cycle-read : Rattle.cycle.proofs.read.Statement.statement M
-  pub request-writer-write : Rattle.request_writer.proofs.write.Statement.statement M
+  pub request-writer-write : Rattle.request.proofs.write.write.Statement.statement M
   pub join : Rattle.join.proofs.join.Statement.statement M
   pub cut : Rattle.cut.proofs.cut.Statement.statement M
   -- drafts
@@ -77,7 +77,7 @@ contracts-met = record {
   job-records-fill = Rattle.job_records.proofs.fill.Met.met;
   request-read = Rattle.request.proofs.read.Met.met;
   cycle-read = Rattle.cycle.proofs.read.Met.met;
-  request-writer-write = Rattle.request_writer.proofs.write.Met.met;
+  request-writer-write = Rattle.request.proofs.write.write.Met.met;
   join = Rattle.join.proofs.join.Met.met;
   cut = Rattle.cut.proofs.cut.Met.met;
   draft-start = Rattle.draft.proofs.start.Met.met;

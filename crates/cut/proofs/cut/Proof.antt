@@ -2,7 +2,7 @@
 use Prim.Native.Nat.{_<_}
 use mathlib.Core.Path.{_∙_}
 use native.Mathlib.Omega.{arith}
-use Rattle.request_writer.specs.Places.{ReadAs, read-as, counts-few, pairs-few}
+use Rattle.request.specs.Places.{ReadAs, read-as, counts-few, pairs-few}
 use Rattle.cut.specs.CutLaws.{was-refused, not-cut, tasks-full, pairs-full, can-array, room, was-cut}
 use borrow.Author.Needs.{needs}
 use borrow.Author.Tests.{not-true, not-false}

@@ -5,7 +5,7 @@ use mathlib.Core.Path.{_≡_}
 use native.Mathlib.Omega.{arith}
 use Rattle.cursor.specs.Padded.{padded, firsts}
 use Rattle.request.specs.Request.{noPair}
-use Rattle.request_writer.specs.Places.{Few}
+use Rattle.request.specs.Places.{Few}
 use Rattle.cut.specs.Cut.{cutPairs}
 use Rattle.cut.specs.CutLaws.{pairs-none, pairs-more}
 use Rattle.cut.proofs.cut_pairs.Statement.{statement}

@@ -1,5 +1,5 @@
 -- The request is read, a plan is chosen, and it is written; each way out is one of the definition's cases.
-use Rattle.model.specs.Within.{read-within, read-refused}
+use Rattle.model.specs.WithinLaws.{read-within, read-refused}
 use Rattle.decider.specs.DecideLaws.{not-within, none-decided, plan-decided}
 use borrow.Author.Needs.{needs}
 use Rattle.decider.proofs.decide_exactly.Statement.{statement}

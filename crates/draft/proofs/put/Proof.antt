@@ -3,7 +3,7 @@ use mathlib.Core.Path.{sym, _∙_}
 use native.Mathlib.Omega.{arith}
 use borrow.Author.Needs.{needs}
 use borrow.Author.Tests.{not-true, not-false}
-use Rattle.model.specs.Within.{read-within, read-refused}
+use Rattle.model.specs.WithinLaws.{read-within, read-refused}
 use Rattle.draft.specs.MoveLaws.{movable, in-range, put-refused, put-not, put-placed, put-done}
 use Rattle.draft.proofs.put.Statement.{statement}
 use Rattle.draft.proofs.put.Tie as tie

@@ -3,7 +3,7 @@ use mathlib.Core.Path.{sym, _∙_}
 use native.Mathlib.Omega.{arith}
 use borrow.Author.Needs.{needs}
 use borrow.Author.Tests.{not-true, not-false}
-use Rattle.model.specs.Within.{read-within, read-refused}
+use Rattle.model.specs.WithinLaws.{read-within, read-refused}
 use Rattle.draft.specs.MoveLaws.{write-refused, write-lifted, write-unsound, write-done}
 use Rattle.draft.proofs.write.Statement.{statement}
 use Rattle.draft.proofs.write.Tie as tie

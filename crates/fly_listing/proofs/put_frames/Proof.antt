@@ -11,8 +11,7 @@ use Rattle.flight.specs.Calls.{height}
 use Rattle.text.specs.Text.{filledTo, putAllOf}
 use Rattle.plan_listing.specs.Answers.{tableIn}
 use Rattle.plan_listing.specs.ListingLaws.{sizes-read}
-use Rattle.fly_listing.specs.Flown.{frameLines}
-use Rattle.fly_listing.specs.FlownLaws.{stateAfter, frames-turn, frames-end, frame-read}
+use Rattle.fly_listing.specs.FlownLaws.{frameLines, stateAfter, frames-turn, frames-end, frame-read}
 use Rattle.fly_listing.proofs.put_frames.Statement.{statement}
 use Rattle.fly_listing.proofs.put_frames.Tie as tie
 

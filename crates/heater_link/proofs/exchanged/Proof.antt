@@ -1,7 +1,6 @@
 -- Each part is what its function ensures.
 use mathlib.Core.Path.{_≡_}
-use mathlib.Core.Bool.{not}
-use Rattle.cursor.specs.Choice.{pick, both}
+use mathlib.Core.Bool.{not, cond, _&&_}
 use Rattle.heater_link.specs.Machine.{differ}
 use borrow.Author.Needs.{needs}
 use Rattle.heater_link.proofs.exchanged.Statement.{statement}
@@ -14,9 +13,9 @@ returns c =
     let obey = answer .before in
     let toggle = obey .before in
     let a = toggle .before .args in
-    let toggled : toggle .board-toggles .result ≡ both (a .command) (differ (a .link .master) (a .link .obeyed)) = toggle .board-toggles .ensures in
-    let obeyed : obey .board-obeys .result ≡ pick (a .command) (a .link .master) (a .link .obeyed) = obey .board-obeys .ensures in
-    let answered : answer .answers .result ≡ both (a .reply) (not (differ (obey .board-obeys .result) (a .link .master))) = answer .answers .ensures in
+    let toggled : toggle .board-toggles .result ≡ a .command && differ (a .link .master) (a .link .obeyed) = toggle .board-toggles .ensures in
+    let obeyed : obey .board-obeys .result ≡ cond (a .command) (a .link .master) (a .link .obeyed) = obey .board-obeys .ensures in
+    let answered : answer .answers .result ≡ a .reply && not (differ (obey .board-obeys .result) (a .link .master)) = answer .answers .ensures in
     let master : flip .differ .result ≡ differ (answer .answers .result) (a .link .master) = flip .differ .ensures in
     rw (master, answered, obeyed, toggled)
 

@@ -4,13 +4,13 @@ use mathlib.Core.Path.{_≡_, _∙_}
 use native.Mathlib.Nat.{sub-zero}
 use native.Mathlib.Omega.{arith}
 use Rattle.heater_link.specs.Exchange.{serves}
-use Rattle.heater_link.specs.StepLaws.{served-here, served-later, not-served}
+use Rattle.heater_link.specs.StepLaws.{servesFrom, served-here, served-later, not-served}
 use borrow.Author.Needs.{needs}
 use Rattle.heater_link.proofs.serves.Statement.{statement}
 use Rattle.heater_link.proofs.serves.Tie as tie
 
 abbrev Inv-loop : tie.InvT-loop
-Inv-loop count task tasks i₀ i = (i ≤ count) × (count ≤ 16) × (serves task tasks (count - i) i ≡ serves task tasks count 0)
+Inv-loop count task tasks i₀ i = (i ≤ count) × (count ≤ 16) × (servesFrom task tasks (count - i) i ≡ serves task tasks count)
 
 abbrev μ-loop : tie.MeasureT-loop
 μ-loop count task tasks i₀ i = count - i

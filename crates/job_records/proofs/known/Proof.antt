@@ -1,5 +1,5 @@
 -- The check reads the plan; each way out is one of the laws of `known`.
-use Rattle.job_records.specs.Known.{not-known, too-few, all-known}
+use Rattle.job_records.specs.KnownLaws.{not-known, too-few, all-known}
 use borrow.Author.Needs.{needs}
 use Rattle.job_records.proofs.known.Statement.{statement}
 use Rattle.job_records.proofs.known.Tie as tie

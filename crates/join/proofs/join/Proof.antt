@@ -2,7 +2,7 @@
 use Prim.Native.Nat.{_+_, _≤_}
 use mathlib.Core.Path.{sym, _∙_}
 use native.Mathlib.Omega.{arith}
-use Rattle.request_writer.specs.Places.{ReadAs, read-as, counts-few, tasks-filled, pairs-filled, pairs-few}
+use Rattle.request.specs.Places.{ReadAs, read-as, counts-few, tasks-filled, pairs-filled, pairs-few}
 use Rattle.join.specs.JoinLaws.{first-refused, second-refused, not-joined, fit-all, was-joined}
 use borrow.Author.Needs.{needs}
 use Rattle.join.proofs.join.Statement.{statement}

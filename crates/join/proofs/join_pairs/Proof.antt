@@ -1,4 +1,4 @@
--- The loop keeps that the array holds the first's pairs, then the second's before pair i, raised, and nothing behind.
+-- The loop keeps that the array holds the first's pairs, then the second's before pair i, raisedBy, and nothing behind.
 use borrow.Author.Needs.{needs}
 use Prim.Native.Nat.{_≤_, _-_, _+_}
 use mathlib.Core.Path.{_≡_}
@@ -6,15 +6,15 @@ use mathlib.Core.List.{_++_, map, append-nil}
 use native.Mathlib.Omega.{arith}
 use Rattle.cursor.specs.Padded.{padded, firsts}
 use Rattle.request.specs.Request.{noPair}
-use Rattle.request_writer.specs.Places.{Few}
-use Rattle.join.specs.Joined.{raised}
+use Rattle.request.specs.Places.{Few}
+use Rattle.join.specs.Joined.{raisedBy}
 use Rattle.join.specs.JoinLaws.{pair-behind}
 use Rattle.join.proofs.join_pairs.Statement.{statement}
 use Rattle.join.proofs.join_pairs.Tie as tie
 
 abbrev Inv-loop : tie.InvT-loop
 Inv-loop m k n second pairs₀ i₀ pairs i =
-    (i ≤ k) × (m + k ≤ 16) × (n ≤ 16) × Few second × (pairs ≡ padded 16 noPair (firsts m noPair pairs₀ ++ map (raised n) (firsts i noPair second)))
+    (i ≤ k) × (m + k ≤ 16) × (n ≤ 16) × Few second × (pairs ≡ padded 16 noPair (firsts m noPair pairs₀ ++ map (raisedBy n) (firsts i noPair second)))
 
 abbrev μ-loop : tie.MeasureT-loop
 μ-loop m k n second pairs₀ i₀ pairs i = k - i

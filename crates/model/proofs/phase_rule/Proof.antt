@@ -1,7 +1,7 @@
 -- The tests of the function are the definition's; the gcd of a frame length is not 0.
 use native.Mathlib.Nat.{mod-le}
 use native.Mathlib.Omega.{arith}
-use Rattle.arith.specs.Gcd.{gcd-pos}
+use Rattle.arith.specs.GcdLaws.{gcd-pos}
 use Rattle.model.specs.PhaseExact.{rule-multiple, rule-other}
 use borrow.Author.Needs.{needs}
 use Rattle.model.proofs.phase_rule.Statement.{statement}

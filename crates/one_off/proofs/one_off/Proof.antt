@@ -4,7 +4,7 @@ use mathlib.Core.List.{List}
 use Prim.Native.Nat.{ℕ}
 use borrow.Author.Tests.{not-true, not-false}
 use Rattle.cycle.specs.Cycle.{cycleOf}
-use Rattle.cycle.specs.Answers.{answered}
+use Rattle.cycle.specs.Answers.{cycleAnswered}
 use Rattle.table.specs.Table.{decode}
 use Rattle.checker.specs.Checked.{checked, checkNumber}
 use Rattle.checker.specs.Answers.{readAnswer}
@@ -17,12 +17,12 @@ use Rattle.one_off.proofs.one_off.Statement.{statement}
 use Rattle.one_off.proofs.one_off.Tie as tie
 
 -- the number and the cycle that the check hands on
-module _ (request bytes : List ℕ) (r : Read) (e : r ≡ readAnswer (answered (cycleOf request)) (checked (cycleOf request) (decode bytes))) where
+module _ (request bytes : List ℕ) (r : Read) (e : r ≡ readAnswer (cycleAnswered (cycleOf request)) (checked (cycleOf request) (decode bytes))) where
   number-is : r .refusal ≡ checkNumber request bytes
-  number-is = ap (λ (y : Read). y .refusal) e ∙ answer-number (answered (cycleOf request)) (checked (cycleOf request) (decode bytes))
+  number-is = ap (λ (y : Read). y .refusal) e ∙ answer-number (cycleAnswered (cycleOf request)) (checked (cycleOf request) (decode bytes))
 
-  cycle-is : r .cycle ≡ answered (cycleOf request)
-  cycle-is = ap (λ (y : Read). y .cycle) e ∙ answer-cycle (answered (cycleOf request)) (checked (cycleOf request) (decode bytes))
+  cycle-is : r .cycle ≡ cycleAnswered (cycleOf request)
+  cycle-is = ap (λ (y : Read). y .cycle) e ∙ answer-cycle (cycleAnswered (cycleOf request)) (checked (cycleOf request) (decode bytes))
 
 returns : tie.Need-returns
 returns c =

@@ -3,7 +3,7 @@ use Prim.Native.Nat.{_≤_, _-_}
 use mathlib.Core.Path.{_≡_, refl}
 use native.Mathlib.Omega.{arith}
 use lib.ListN.{length, length-set}
-use Rattle.cursor.specs.Front.{Bytes}
+use Rattle.cursor.specs.Fields.{Bytes}
 use Rattle.table.specs.RowsLeft.{RowsLeft, rows-begin}
 use Rattle.model.specs.Answers.{instanceOf}
 use Rattle.one_off.specs.Answers.{UsedTimes}

@@ -3,7 +3,7 @@ use borrow.Author.Needs.{needs}
 use Prim.Native.Nat.{_≤_, _<_, _-_}
 use mathlib.Core.Path.{_≡_, _∙_}
 use native.Mathlib.Omega.{arith}
-use Rattle.phases.specs.Phases.{counted}
+use Rattle.phases.specs.Phases.{phaseCounts}
 use Rattle.phases.specs.Counting.{Countable, periodIn, phaseNumber}
 use Rattle.phases.specs.HowMany.{none-counted, one-counted, counts-room}
 use Rattle.phases.specs.Ways.{task-few}
@@ -11,7 +11,7 @@ use Rattle.phases.proofs.count.Statement.{statement}
 use Rattle.phases.proofs.count.Tie as tie
 
 abbrev Inv-loop : tie.InvT-loop
-Inv-loop request i allowance x counts₀ p₀ counts p = (counts ≡ counted (phaseNumber allowance request i) p) × (p ≤ x .t) × Countable request i
+Inv-loop request i allowance x counts₀ p₀ counts p = (counts ≡ phaseCounts (phaseNumber allowance request i) p) × (p ≤ x .t) × Countable request i
 
 abbrev μ-loop : tie.MeasureT-loop
 μ-loop request i allowance x counts₀ p₀ counts p = x .t - p

@@ -1,7 +1,7 @@
 -- The request with the phase is as if it had been read, and its cycle is within the limits: so the choice of that cycle is asked for.
 use mathlib.Core.Path.{_≡_, ap, _∙_}
 use Rattle.request.specs.declared.Request.{Request}
-use Rattle.cycle.specs.Answers.{cycleFor, answered}
+use Rattle.cycle.specs.Answers.{cycleFor, cycleAnswered}
 use Rattle.cycle.specs.PhaseLaws.{requestWith}
 use Rattle.phases.specs.Counting.{phaseNumber}
 use Rattle.phases.specs.ReadPhase.{phase-read, phase-limits}
@@ -10,8 +10,8 @@ use Rattle.phases.proofs.number_at.Statement.{statement}
 use Rattle.phases.proofs.number_at.Tie as tie
 
 -- the cycle that is planned is that of the request with the phase
-planned : (c : tie.After-of) → let a = c .before .before .args in c .of .result ≡ answered (cycleFor (requestWith (a .request) (a .i) (a .p)))
-planned c = c .of .ensures ∙ ap (λ (r : Request). answered (cycleFor r)) (c .before .with-phase .ensures)
+planned : (c : tie.After-of) → let a = c .before .before .args in c .of .result ≡ cycleAnswered (cycleFor (requestWith (a .request) (a .i) (a .p)))
+planned c = c .of .ensures ∙ ap (λ (r : Request). cycleAnswered (cycleFor r)) (c .before .with-phase .ensures)
 
 with-phase-requires : tie.Need-with-phase-requires
 with-phase-requires c κs = task-few (c .pre .0)

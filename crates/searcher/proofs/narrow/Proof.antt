@@ -3,7 +3,8 @@ use Prim.Native.Nat.{_≤_, _-_}
 use mathlib.Core.Path.{_≡_, sym, _∙_}
 use native.Mathlib.Omega.{arith}
 use lib.ListN.{take}
-use Rattle.cursor.specs.Padded.{padded, padded-none}
+use Rattle.cursor.specs.Padded.{padded}
+use Rattle.cursor.specs.PaddedLaws.{padded-none}
 use Rattle.searcher.proofs.Laws.{one-stored}
 use borrow.Author.Needs.{needs}
 use Rattle.searcher.proofs.narrow.Statement.{statement}

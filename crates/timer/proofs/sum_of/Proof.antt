@@ -3,19 +3,19 @@ use Prim.Native.Nat.{_+_, _*_, _-_, _≤_}
 use mathlib.Core.Path.{_≡_}
 use native.Mathlib.Omega.{arith}
 use borrow.Author.Needs.{needs}
-use Rattle.timer.specs.Registers.{sumFrom}
-use Rattle.timer.specs.RegisterLaws.{sum-more, sum-end}
+use Rattle.timer.specs.Registers.{sumOf}
+use Rattle.timer.specs.RegisterLaws.{sumFrom, sum-is, sum-more, sum-end}
 use Rattle.timer.proofs.sum_of.Statement.{statement}
 use Rattle.timer.proofs.sum_of.Tie as tie
 
 abbrev Inv-loop : tie.InvT-loop
-Inv-loop counts sum₀ i₀ sum i = (i ≤ 16) × (sum ≤ i * 65535) × (sum + sumFrom counts (16 - i) i ≡ sumFrom counts 16 0)
+Inv-loop counts sum₀ i₀ sum i = (i ≤ 16) × (sum ≤ i * 65535) × (sum + sumFrom counts (16 - i) i ≡ sumOf counts)
 
 abbrev μ-loop : tie.MeasureT-loop
 μ-loop counts sum₀ i₀ sum i = 16 - i
 
 loop-holds : tie.Need-loop-holds Inv-loop μ-loop
-loop-holds c = (omega arith, omega arith, omega arith)
+loop-holds c = (omega arith, omega arith, omega (arith, sum-is (c .args .t1)))
 
 add-sum : tie.Need-add-sum Inv-loop μ-loop
 add-sum c = omega (arith, c .wide .ensures .1, c .before .before .loop .inv .1, c .before .loop-test .taken)

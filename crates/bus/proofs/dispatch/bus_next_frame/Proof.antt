@@ -7,7 +7,7 @@ use Rattle.dispatcher.specs.FrameLaws.{frame-few}
 use Rattle.lent.specs.State.{isState}
 use Rattle.lent.specs.StateLaws.{state-long}
 use Rattle.bus.specs.ReplyLaws.{kept}
-use Rattle.bus.specs.Dispatch.{frameOf}
+use Rattle.bus.specs.Dispatch.{frameServed}
 use Rattle.bus.specs.DispatchLaws.{no-state, no-room, frame-refused, frame-made}
 use borrow.Author.Needs.{needs}
 use Rattle.bus.proofs.dispatch.bus_next_frame.Statement.{statement}
@@ -35,7 +35,7 @@ read-state-requires c κs = state-long _ (a-state (c .before .before))
 
 -- the dispatcher's frame on that state
 frame-is : (c : tie.After-next-frame) → let a = c .before .before .before .before .before .before .before .before .before .before .args in
-    c .next-frame .result ≡ frameOf (a .table .now) (a .state .now)
+    c .next-frame .result ≡ frameServed (a .table .now) (a .state .now)
 frame-is c = rw (c .before .read-state .ensures) at (c .next-frame .ensures)
 
 returns-3 : tie.Need-returns-3

@@ -1,7 +1,7 @@
 -- The lent draft is read, and the draft after the lift is handed back.
 use mathlib.Core.Path.{_∙_}
 use Rattle.draft.specs.Draft.{lift}
-use Rattle.lent.specs.DraftBytes.{draftOf}
+use Rattle.lent.specs.DraftBytes.{draftIn}
 use Rattle.bus.specs.Drafts.{liftReply, liftBytes}
 use Rattle.bus.specs.ReplyLaws.{kept}
 use Rattle.bus.specs.DraftLaws.{too-short}
@@ -13,7 +13,7 @@ returns : tie.Need-returns
 unfolding liftReply liftBytes
 returns c =
     let a = c .before .before .before .before .args in
-    let law = too-short (lift (a .request .now) (draftOf (a .lent .now)) (a .job)) (a .lent .now) (c .before .if1 .taken) in
+    let law = too-short (lift (a .request .now) (draftIn (a .lent .now)) (a .job)) (a .lent .now) (c .before .if1 .taken) in
     (kept _ (c .refusal .ok) ∙ c .refusal .ensures ∙ law .0, law .1)
 
 returns-2 : tie.Need-returns-2

@@ -1,8 +1,8 @@
--- The timer is read and written to, and only an answer without a refusal is stored.
+-- The timer is read and afterWrite to, and only an answer without a refusal is stored.
 use mathlib.Core.Path.{_≡_, sym, _∙_}
 use mathlib.Core.Bool.{true}
 use borrow.Author.Tests.{not-true, not-false}
-use Rattle.timer.specs.Registers.{written}
+use Rattle.timer.specs.Registers.{afterWrite}
 use Rattle.timer.specs.declared.Changed.{Changed}
 use Rattle.lent.specs.TimerBytes.{isTimer, timerOf}
 use Rattle.lent.specs.TimerByteLaws.{timer-long}
@@ -15,7 +15,7 @@ use Rattle.bus.proofs.registers.bus_timer_write.Tie as tie
 
 -- what the timer answers
 abbrev answer : tie.Start → Changed
-answer s = let a = s .args in written (a .address) (a .value) (timerOf (a .timer .now))
+answer s = let a = s .args in afterWrite (a .address) (a .value) (timerOf (a .timer .now))
 
 returns : tie.Need-returns
 unfolding timerWriteReply timerWriteBytes

@@ -2,8 +2,8 @@
 use Prim.Native.Nat.{_≤_, _<_, _-_, _+_, _*_}
 use mathlib.Core.Path.{_≡_, refl, sym, _∙_}
 use Rattle.table.specs.Table.{carriedIn}
-use Rattle.checker.specs.declared.walk.Place.the-variants.{Nowhere}
-use Rattle.checker.specs.Checked.{placeIn}
+use Rattle.checker.specs.declared.walk.Position.the-variants.{Nowhere}
+use Rattle.checker.specs.Checked.{positionIn}
 use Rattle.checker.specs.Answers.{rowsIn, rowsOf}
 use Rattle.checker.specs.WalkLaws.{walkInRow, walk-starts, row-starts, walk-ends, row-ends, entry-names, entry-other}
 use borrow.Author.Needs.{needs}
@@ -13,7 +13,7 @@ use Rattle.checker.proofs.walk.find.Tie as tie
 abbrev Inv-entries : tie.InvT-entries
 Inv-entries table height job place₀ at₀ row n e₀ place at e =
     (place ≡ Nowhere) × (e ≤ n) × (n ≤ 255) × (row < height) × (height ≤ 65535) × (at ≤ 8 + row * 512 + 2 * e)
-    × (walkInRow table job height row n e at ≡ placeIn job 0 (rowsOf table height))
+    × (walkInRow table job height row n e at ≡ positionIn job 0 (rowsOf table height))
 
 abbrev μ-entries : tie.MeasureT-entries
 μ-entries table height job place₀ at₀ row n e₀ place at e = n - e
@@ -21,7 +21,7 @@ abbrev μ-entries : tie.MeasureT-entries
 abbrev Inv-rows : tie.InvT-rows
 Inv-rows table height job place₀ at₀ row₀ place at row =
     (place ≡ Nowhere) × (row ≤ height) × (height ≤ 65535) × (at ≤ 7 + row * 512)
-    × (placeIn job row (rowsIn table (height - row) at) ≡ placeIn job 0 (rowsOf table height))
+    × (positionIn job row (rowsIn table (height - row) at) ≡ positionIn job 0 (rowsOf table height))
 
 abbrev μ-rows : tie.MeasureT-rows
 μ-rows table height job place₀ at₀ row₀ place at row = height - row

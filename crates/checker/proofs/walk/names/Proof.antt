@@ -1,10 +1,11 @@
 -- The loop keeps that the names of the jobs passed stand in the first places.
 use Prim.Native.Nat.{_≤_, _<_, _-_}
-use mathlib.Core.Path.{_≡_, refl}
+use mathlib.Core.Path.{_≡_, sym}
 use native.Mathlib.Omega.{arith}
-use Rattle.cursor.specs.Padded.{padded, firsts}
+use Rattle.cursor.specs.Padded.{firsts}
+use Rattle.cursor.specs.PaddedLaws.{padded-none}
 use Rattle.cycle.specs.Planned.{noJob}
-use Rattle.checker.specs.Answers.{tasksOf, numbersOf}
+use Rattle.checker.specs.Answers.{taskNames, jobNumbers}
 use Rattle.checker.specs.NameLaws.{one-task, one-number}
 use borrow.Author.Needs.{needs}
 use Rattle.checker.proofs.walk.names.Statement.{statement}
@@ -12,14 +13,14 @@ use Rattle.checker.proofs.walk.names.Tie as tie
 
 abbrev Inv-loop : tie.InvT-loop
 Inv-loop count jobs tasks₀ numbers₀ y₀ tasks numbers y =
-    (y ≤ count) × (count ≤ 128) × (tasks ≡ tasksOf (firsts y noJob jobs)) × (numbers ≡ numbersOf (firsts y noJob jobs))
+    (y ≤ count) × (count ≤ 128) × (tasks ≡ taskNames (firsts y noJob jobs)) × (numbers ≡ jobNumbers (firsts y noJob jobs))
 
 abbrev μ-loop : tie.MeasureT-loop
 μ-loop count jobs tasks₀ numbers₀ y₀ tasks numbers y = count - y
 
 loop-holds : tie.Need-loop-holds Inv-loop μ-loop
-unfolding tasksOf numbersOf padded firsts
-loop-holds c = (omega arith, c .pre, refl, refl)
+unfolding taskNames jobNumbers firsts
+loop-holds c = (omega arith, c .pre, sym (padded-none 128 0), sym (padded-none 128 0))
 
 loop-again : tie.Need-loop-again Inv-loop μ-loop
 loop-again c =

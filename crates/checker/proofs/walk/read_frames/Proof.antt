@@ -1,10 +1,11 @@
 -- The loop keeps that the jobs left decide whether all have a frame, and that the frames of those before are in their places.
 use Prim.Native.Nat.{_≤_, _-_}
-use mathlib.Core.Path.{_≡_, refl, sym, _∙_, ap}
+use mathlib.Core.Path.{_≡_, sym, _∙_, ap}
 use native.Mathlib.Nat.{sub-zero}
 use native.Mathlib.Omega.{arith}
 use Rattle.cycle.specs.Planned.{noJob}
 use Rattle.cursor.specs.Padded.{padded, firsts}
+use Rattle.cursor.specs.PaddedLaws.{padded-none}
 use Rattle.checker.specs.Checked.{isPlaced, framesIn}
 use Rattle.checker.specs.Answers.{rowsOf, framesAnswer}
 use Rattle.plan_rules.specs.EveryLaws.{AllLeft, all-next, all-fails, all-done}
@@ -23,8 +24,8 @@ abbrev μ-loop : tie.MeasureT-loop
 μ-loop table height count jobs frames₀ y₀ frames y = count - y
 
 loop-holds : tie.Need-loop-holds Inv-loop μ-loop
-unfolding padded framesIn firsts
-loop-holds c = (omega arith, c .before .pre .1, simp sub-zero, refl)
+unfolding framesIn firsts
+loop-holds c = (omega arith, c .before .pre .1, simp sub-zero, sym (padded-none 128 0))
 
 returns : tie.Need-returns Inv-loop μ-loop
 returns c =

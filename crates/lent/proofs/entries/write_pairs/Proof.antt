@@ -4,14 +4,14 @@ use mathlib.Core.Path.{_≡_}
 use native.Mathlib.Omega.{arith}
 use lib.ListN.{length-set}
 use Rattle.cursor.specs.Pieces.{PartWay}
-use Rattle.lent.specs.Entries.{pairBytes}
+use Rattle.lent.specs.Entries.{entryBytes}
 use Rattle.lent.specs.EntryLaws.{pairs-start, pairs-room, pairs-more, pairs-end}
 use borrow.Author.Needs.{needs}
 use Rattle.lent.proofs.entries.write_pairs.Statement.{statement}
 use Rattle.lent.proofs.entries.write_pairs.Tie as tie
 
 abbrev Inv-loop : tie.InvT-loop
-Inv-loop entries₀ tasks jobs at₀ i₀ entries at i = (i ≤ 16) × (at ≡ i + i) × PartWay (pairBytes tasks jobs 16 0) entries₀ entries (pairBytes tasks jobs (16 - i) i) at
+Inv-loop entries₀ tasks jobs at₀ i₀ entries at i = (i ≤ 16) × (at ≡ i + i) × PartWay (entryBytes tasks jobs 16 0) entries₀ entries (entryBytes tasks jobs (16 - i) i) at
 
 abbrev μ-loop : tie.MeasureT-loop
 μ-loop entries₀ tasks jobs at₀ i₀ entries at i = 16 - i

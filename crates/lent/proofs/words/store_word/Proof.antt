@@ -1,9 +1,8 @@
 -- Two stores, one behind the other.
-use native.Mathlib.Numerals.{add-one}
 use native.Mathlib.Omega.{arith}
 use lib.ListN.{length-set}
 use borrow.Author.Needs.{needs}
-use Rattle.cursor.specs.Fields.{wordBytes}
+use Rattle.cursor.specs.WordBytesLaws.{bytes-stored}
 use Rattle.lent.proofs.words.store_word.Statement.{statement}
 use Rattle.lent.proofs.words.store_word.Tie as tie
 
@@ -11,8 +10,7 @@ slice-write-bytes-2 : tie.Need-slice-write-bytes-2
 slice-write-bytes-2 c = simp length-set (omega (arith, c .pre))
 
 returns : tie.Need-returns
-unfolding wordBytes
-returns c = rw (add-one (c .args .at))
+returns c = bytes-stored _ (c .args .at) (c .args .w)
 
 pub store-word-spec : {M : Type 1} → statement M
 store-word-spec =

@@ -5,7 +5,7 @@ use mathlib.Core.Path.{_≡_}
 use mathlib.Core.List.{List}
 use native.Mathlib.Nat.{sub-zero, zero-add}
 use native.Mathlib.Omega.{arith}
-use Rattle.table.specs.Answers.{entriesAt}
+use Rattle.table.specs.AnswerLaws.{entriesAt}
 use Rattle.plan_listing.specs.Listing.{busyTicks}
 use Rattle.plan_listing.specs.ListingLaws.{busy-turn, busy-end}
 use Rattle.plan_listing.proofs.rows.busy.Statement.{statement}

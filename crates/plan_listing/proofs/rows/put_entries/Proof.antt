@@ -5,7 +5,7 @@ use mathlib.Core.Path.{_≡_, refl, sym, _∙_}
 use native.Mathlib.Nat.{sub-zero}
 use native.Mathlib.Omega.{arith}
 use lib.ListN.{length}
-use Rattle.table.specs.Answers.{entriesAt}
+use Rattle.table.specs.AnswerLaws.{entriesAt}
 use Rattle.text.specs.Text.{filledTo, putAllOf}
 use Rattle.plan_listing.specs.Listing.{entryText, each}
 use Rattle.plan_listing.specs.ListingLaws.{entries-turn, entries-end}
@@ -25,16 +25,19 @@ loop-holds c = (omega arith, c .before .before .before .pre, refl, rw (sub-zero 
 
 loop-again : tie.Need-loop-again Inv-loop μ-loop
 loop-again c =
+    let s = c .before .before .before .before .before .before .before .before .before .args in
     let l = c .before .before .before .before .before .loop in
     let more = c .before .before .before .before .loop-test .taken in (
       omega (arith, more),
       l .inv .1,
       c .before .before .put-entry .kept .0 ∙ l .inv .2,
-      rw (c .before .before .put-entry .ensures) (entries-turn _ _ _ (l .i) entryText _ more) ∙ l .inv .3,
+      rw (c .before .before .put-entry .ensures) (entries-turn (s .row .tasks) (s .row .jobs) _ (l .i) entryText _ more) ∙ l .inv .3,
     )
 
 returns : tie.Need-returns Inv-loop μ-loop
-returns c = sym (entries-end _ _ _ (c .before .loop .i) entryText _ (c .loop-test .left)) ∙ c .before .loop .inv .3
+returns c =
+    let s = c .before .before .before .before .before .args in
+    sym (entries-end (s .row .tasks) (s .row .jobs) _ (c .before .loop .i) entryText _ (c .loop-test .left)) ∙ c .before .loop .inv .3
 
 pub put-entries-spec : {M : Type 1} → statement M
 put-entries-spec =

@@ -1,10 +1,10 @@
 -- Each way out is one case of the definition, at the bytes that the cursor's answers tell of.
 use mathlib.Core.Path.{_≡_, sym, _∙_}
+use mathlib.Core.Bool.{cond, _&&_}
 use native.Mathlib.Omega.{arith}
 use lib.ListN.{drop}
 use lib.Dec.{leb}
 use borrow.Author.Tests.{eq-eqb, ne-eqb, lt-leb, le-leb}
-use Rattle.cursor.specs.Choice.{pick, both}
 use Rattle.cursor.specs.Parsed.{got, refused, then}
 use Rattle.cursor.specs.Fields.{wordOf}
 use Rattle.cursor.specs.FieldLaws.{byte-taken, byte-missing, word-taken, word-missing}
@@ -44,7 +44,7 @@ enum-told-2 c = c .match2 .keys2
 marked : (c : tie.Else1) → let at = c .before .before .mark .given .0 .1 .0 .at in let s = c .before .before .before .before .before .before .args .s .now in
     sizesFrom s
     ≡ then (wordOf 12 (drop at s)) (λ f rest.
-    then (wordOf 12 rest) (λ h rest. pick (both (leb 1 h) (leb h 10000)) (got (record { f = f; h = h }) rest) (refused 12)))
+    then (wordOf 12 rest) (λ h rest. cond (leb 1 h && leb h 10000) (got (record { f = f; h = h }) rest) (refused 12)))
 unfolding sizesFrom
 marked c =
     let one = byte-taken 12 _ _ _ _ (sym (c .before .before .before .before .byte .ensures) ∙ c .before .before .mark .given .1) in
@@ -71,7 +71,7 @@ returns-4 c =
 -- both sizes are read, and the second is to be judged
 both-read : (c : tie.After-h) → let first = c .before .before .before .before in let f = first .f .given .0 .0 in
     let h = c .h .given .0 .0 in let s = first .before .before .before .before .before .before .before .before .before .args .s .now in
-    sizesFrom s ≡ pick (both (leb 1 h) (leb h 10000)) (got (record { f = f; h = h }) (drop (c .h .given .0 .1 .0 .at) s)) (refused 12)
+    sizesFrom s ≡ cond (leb 1 h && leb h 10000) (got (record { f = f; h = h }) (drop (c .h .given .0 .1 .0 .at) s)) (refused 12)
 both-read c =
     let first = c .before .before .before .before in
     let two = word-taken 12 _ _ _ _ (sym (first .before .before .word .ensures) ∙ first .f .given .1) in
