@@ -4,7 +4,7 @@
 use mathlib.Core.Path.{_≡_, refl, sym, _∙_}
 use mathlib.Core.Bool.{Bool, true, false, not, cond, _&&_, _||_, false≢true}
 use mathlib.Core.List.{List}
-use Prim.Native.Nat.{ℕ, zero, suc, _+_, _-_, _*_, _≤_, _<_}
+use Prim.Native.Nat.{ℕ, suc, _+_, _-_, _*_, _≤_, _<_}
 use native.Mathlib.Omega.{arith}
 use lib.ListN.{getD, set}
 use lib.Dec.{ltb, eqb}
@@ -64,18 +64,6 @@ module _ (u : Rules) (rows p : ℕ) (ps : List Bool) where
               let k : ltb p (u .first x) ≡ true = rw (us, un) at e in
               omega (arith, ltb-true p (u .first x) k, v .low x left us (omega arith))
 
-      -- row p is none of its rows
-      pub rest-away : (u .first x ≤ p → p < u .end x → ⊥) → Rest u rows p (x + 1) ps room → Rest u rows p x ps room
-      rest-away none f = record {
-        better = λ l g b begun r v t s.
-            let off = not-its r b begun v in
-            f .better l g b begun r v (trace-pass u r p x ps t off) (not-here r s off (u .sided x) refl);
-      }
-        where
-          not-its : (r : ℕ → ℕ) (b : ℕ) → b ≤ p → Rows u b rows r → u .sided x ≡ true → r x ≡ p → ⊥
-          not-its r b begun v us w =
-              none (omega (arith, v .low x left us (omega arith))) (omega (arith, v .high x left us (omega arith)))
-
       -- it is not passed over; putting it fails, and leaving it out, where it may be
       undecided : skips u p ps x ≡ false → Putting u rows p x ps room → (leaves u p ps x ≡ true → Rest u rows p (x + 1) ps room) → Rest u rows p x ps room
       undecided e put leave = record { better = λ l g b begun r v t s. go l g b begun r v t s (eqb (r x) p) refl }
@@ -120,12 +108,3 @@ module _ (u : Rules) (rows p : ℕ) (ps : List Bool) where
         -- leaving it out fails
         pub rest-left : Rest u rows p (x + 1) ps room → Rest u rows p x ps room
         rest-left f = undecided e a (λ t. f)
-
--- row p is no row of the k jobs from x on
-pub rest-beyond : (u : Rules) (rows p : ℕ) (ps : List Bool) (room k x : ℕ) → x + k ≤ u .n
-    → ((y : ℕ) → x ≤ y → y < x + k → u .first y ≤ p → p < u .end y → ⊥) → Rest u rows p (x + k) ps room → Rest u rows p x ps room
-rest-beyond u rows p ps room zero x h none f = let z : x + 0 ≡ x = omega arith in rw z at f
-rest-beyond u rows p ps room (suc k) x h none f =
-    let z : x + suc k ≡ x + 1 + k = omega arith in
-    rest-away u rows p ps x room (omega arith) (none x (omega arith) (omega arith))
-    (rest-beyond u rows p ps room k (x + 1) (omega arith) (λ y a b. none y (omega arith) (omega arith)) (rw z at f))

@@ -18,6 +18,11 @@ use Rattle.exact.specs.Words.{word, wordAt}
 use Rattle.searcher.specs.Arrays.{partIn}
 use Rattle.sweep.specs.Arrays.{rulesIn, bit, withBit, Begun, Beginning, Unfree}
 
+-- the first row of a job
+pub first-of : (g : List (List ℕ)) (links : List ℕ) (s : List (List ℕ)) (i : ℕ) → rulesIn g links s .first i ≡ getD (partIn s 0) i 0
+unfolding rulesIn
+first-of g links s i = refl
+
 -- the bits of the half
 half-bit : (n j : ℕ) → bit n (suc j) ≡ bit (n / 2) j
 half-bit n j = ap (λ (x : ℕ). n / x % 2) (pow-succ' 2 j) ∙ ap (λ (x : ℕ). x % 2) (sym (div-div-eq-div-mul n 2 (2 ^ j)))

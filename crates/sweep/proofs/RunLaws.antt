@@ -12,10 +12,10 @@ use lib.Seq.{set-set, set-getD}
 use Rattle.searcher.specs.Arrays.{partIn, jobsIn}
 use Rattle.exact.specs.Sweep.{Rules, any-below, more, skips, puts, leaves, From, Rest, Ordered, Fewer}
 use Rattle.exact.specs.WitnessLaws.{ordered-first, ordered-put, from-fewer}
-use Rattle.exact.specs.SweepLaws.{Putting, row-begun, rest-full, rest-next, rest-skip, rest-beyond, rest-stuck, rest-left}
+use Rattle.exact.specs.SweepLaws.{Putting, row-begun, rest-full, rest-next, rest-skip, rest-stuck, rest-left}
 use Rattle.exact.specs.Words.{word, wordAt}
 use Rattle.sweep.specs.Memo.{Knows, Noted, sound-first, sound-noted}
-use Rattle.sweep.specs.Arrays.{rulesIn, Spanned, Next, Due, addedAt, takenAt, Going, Failed, NotPut}
+use Rattle.sweep.specs.Arrays.{rulesIn, Next, Due, addedAt, takenAt, Going, Failed, NotPut}
 use Rattle.sweep.proofs.LateLaws.{due-has, due-taken, due-restored}
 
 -- the rules' numbers
@@ -57,43 +57,6 @@ run-start room g h l = record {
   whole = λ e. e;
   next = λ t e. absurd (omega arith);
 }
-
-module _ {u : Rules} {rows p i room : ℕ} {ps : List Bool} {due : List ℕ} {low high : ℕ} {kept : Bool} {ps′ : List Bool} {due′ marks′ words′ : List ℕ}
-    {row job space : ℕ} (v : Running u rows p i room ps due low high kept ps′ due′ marks′ words′ row job space) where
-  -- jobs that row `row` is none of the rows of are passed over
-  pub run-on : (k : ℕ) → job + k ≤ u .n → ((y : ℕ) → job ≤ y → y < job + k → u .first y ≤ row → row < u .end y → ⊥)
-      → Running u rows p i room ps due low high kept ps′ due′ marks′ words′ row (job + k) space
-  run-on k le none =
-      let back : Rest u rows row (job + k) ps space → Rest u rows row job ps space = rest-beyond u rows row ps space k job le none in
-      record {
-        going = v .going;
-        same = v .same;
-        same-due = v .same-due;
-        begun = v .begun;
-        inside = v .inside;
-        jobs = le;
-        whole = λ r. v .whole (back r);
-        next = λ t r. v .next t (back r);
-      }
-
-  module _ {s : List (List ℕ)} (spans : Spanned u rows s) where
-    -- the span of the row is at its end: so is the row
-    pub run-end : getD (partIn s 1) row 0 ≤ job → Running u rows p i room ps due low high kept ps′ due′ marks′ words′ row (u .n) space
-    run-end h =
-        let z : job + (u .n - job) ≡ u .n = omega (arith, v .jobs) in
-        subst (λ (j : ℕ). Running u rows p i room ps due low high kept ps′ due′ marks′ words′ row j space) z
-        (run-on (u .n - job) (omega arith) (λ y a b c d. omega (arith, spans .each row y (v .inside) (omega arith) c d .1)))
-
-    -- it begins with the first job of the span
-    pub run-first : job ≡ 0 → {k : ℕ} → k ≡ getD (partIn s 0) row 0 → Running u rows p i room ps due low high kept ps′ due′ marks′ words′ row k space
-    run-first e {k} is =
-        let le : k ≤ u .n = omega (arith, spans .first-most row) in
-        let z : job + k ≡ k = omega arith in
-        subst (λ (j : ℕ). Running u rows p i room ps due low high kept ps′ due′ marks′ words′ row j space) z
-        (run-on k (omega arith) (λ y a b c d. omega (arith, spans .each row y (v .inside) (omega arith) c d .0)))
-
-    pub in-span : job < getD (partIn s 1) row 0 → job < u .n
-    in-span h = omega (arith, spans .end-most row)
 
 -- the row is at its end
 module _ {u : Rules} {rows p i room : ℕ} {ps : List Bool} {due : List ℕ} {low high : ℕ} {kept : Bool} {ps′ : List Bool} {due′ marks′ words′ : List ℕ}
@@ -202,13 +165,28 @@ module _ {u : Rules} {rows p i room : ℕ} {ps : List Bool} {due : List ℕ} {lo
       subst (λ (j : ℕ). Running u rows p i room ps due low high kept ps′ due′ marks′ words′ row j space) e
       (run-skip (run-passed k (omega arith) (λ y a b. all y a (omega arith))) (omega arith) (all (job + k) (omega arith) (omega arith)))
 
-  pub run-next : {s : List (List ℕ)} → Spanned u rows s → {end j : ℕ} → end ≡ getD (partIn s 1) row 0 → Next u row ps′ job end j
-      → Running u rows p i room ps due low high kept ps′ due′ marks′ words′ row j space
-  run-next spans {end} {j} is next =
-      let most : j ≤ u .n = next .most (u .n) (v .jobs) (omega (arith, spans .end-most row)) in
+  pub run-next : {n j : ℕ} → u .n ≡ n → Next u row ps′ job n j → Running u rows p i room ps due low high kept ps′ due′ marks′ words′ row j space
+  run-next {n} {j} is next =
+      let most : j ≤ u .n = next .most (u .n) (v .jobs) (omega arith) in
       let e : job + (j - job) ≡ j = omega (arith, next .begun) in
       subst (λ (k : ℕ). Running u rows p i room ps due low high kept ps′ due′ marks′ words′ row k space) e
       (run-passed (j - job) (omega arith) (λ y a b. next .passed y a (omega arith)))
+
+  -- no job of the row is left
+  pub run-end : {n j : ℕ} → u .n ≡ n → Next u row ps′ job n j → n ≤ j
+      → Running u rows p i room ps due low high kept ps′ due′ marks′ words′ row (u .n) space
+  run-end is next h =
+      let at = run-next is next in
+      subst (λ (k : ℕ). Running u rows p i room ps due low high kept ps′ due′ marks′ words′ row k space) (omega (arith, at .jobs)) at
+
+-- job i has no row; c is its cost, and `end` one past its last row
+pub record Chosen (u : Rules) (ps : List Bool) (i end c : ℕ) : Type 0 where
+  pub job : i < u .n
+  pub few : u .n ≤ 128
+  pub unset : getD ps i false ≡ false
+  pub sided : u .sided i ≡ true
+  pub end-is : end ≡ u .end i
+  pub cost-is : c ≡ u .cost i
 
 -- one job is put
 module _ {u : Rules} {rows : ℕ} (p i room : ℕ) {ps : List Bool} {due marks words : List ℕ} {low high : ℕ} {kept : Bool}
@@ -216,23 +194,21 @@ module _ {u : Rules} {rows : ℕ} (p i room : ℕ) {ps : List Bool} {due marks w
   pub may-not : puts u ps room i ≡ false → NotPut u rows p i room ps due ps due marks words
   may-not e = record { fails = λ t. absurd (false≢true (sym e ∙ t)); same = refl; same-due = refl; memory = g .memory }
 
-  module _ (job : i < u .n) (few : u .n ≤ 128) (unset : getD ps i false ≡ false) (sided : u .sided i ≡ true)
-      {end c : ℕ} (end-is : end ≡ u .end i) (c-is : c ≡ u .cost i) where
+  module _ {end c : ℕ} (x : Chosen u ps i end c) where
     in-flags : i < length ps
-    in-flags = omega (arith, g .flags)
+    in-flags = omega (arith, g .flags, x .job, x .few)
+
+    less-due : Due u (set ps i true) (u .n) (takenAt due end c)
+    less-due = due-taken (g .times) (x .job) in-flags (x .unset) (x .sided) (x .end-is) (x .cost-is)
 
     pub time-there : end ≤ 256 → c ≤ getD due end 0
-    time-there = due-has (g .times) job in-flags unset sided end-is c-is
+    time-there = due-has (g .times) (x .job) in-flags (x .unset) (x .sided) (x .end-is) (x .cost-is)
 
     pub time-room : {due′ : List ℕ} → due′ ≡ takenAt due end c → c ≤ 65535 → getD due′ end 0 + c ≤ 4294967295
-    time-room e f = omega (
-      arith,
-      ap (λ (l : List ℕ). getD l end 0) e,
-      due-taken (g .times) job in-flags unset sided end-is c-is .small end,
-    )
+    time-room e f = omega (arith, ap (λ (l : List ℕ). getD l end 0) e, less-due .small end, x .few)
 
     pub put-ordered : {kept′ : Bool} → (kept′ ≡ true → (kept ≡ true) × (u .free ps i ≡ true)) → kept′ ≡ true → Ordered u (set ps i true)
-    put-ordered k e = ordered-put (g .order (k e .0)) i in-flags job (k e .1)
+    put-ordered k e = ordered-put (g .order (k e .0)) i in-flags (x .job) (k e .1)
 
     pub put-going : {low′ high′ : ℕ} {kept′ : Bool} → low′ ≡ wordAt (set ps i true) 0 → high′ ≡ wordAt (set ps i true) 64
         → (kept′ ≡ true → (kept ≡ true) × (u .free ps i ≡ true)) → {due′ : List ℕ} → due′ ≡ takenAt due end c
@@ -242,19 +218,19 @@ module _ {u : Rules} {rows : ℕ} (p i room : ℕ) {ps : List Bool} {due marks w
       lows = l;
       highs = h;
       order = put-ordered k;
-      times = rw d (due-taken (g .times) job in-flags unset sided end-is c-is);
+      times = rw d less-due;
       memory = g .memory;
     }
 
     module _ {due₁ : List ℕ} (taken : due₁ ≡ takenAt due end c) {e : ℕ} {ps′ : List Bool} {due′ marks′ words′ : List ℕ}
         (d : Failed u rows p (i + 1) (room - c) (set ps i true) due₁ e ps′ due′ marks′ words′) {due″ : List ℕ} (added : due″ ≡ addedAt due′ end c) where
       put-fails : Putting u rows p i ps room
-      put-fails t = rw c-is at (d .fails)
+      put-fails t = rw (x .cost-is) at (d .fails)
 
       restored : set ps′ i false ≡ ps
       restored =
           ap (λ (l : List Bool). set l i false) (d .same) ∙ set-set ps i true false
-          ∙ ap (λ (b : Bool). set ps i b) (sym unset) ∙ set-getD ps i false
+          ∙ ap (λ (b : Bool). set ps i b) (sym (x .unset)) ∙ set-getD ps i false
 
       times-restored : due″ ≡ due
       times-restored =
@@ -279,7 +255,7 @@ module _ {u : Rules} {rows : ℕ} (p i room : ℕ) {ps : List Bool} {due marks w
       }
         where
           size : u .n ≤ length (set ps i true)
-          size = omega (arith, length-set ps i true, g .flags)
+          size = omega (arith, length-set ps i true, g .flags, x .few)
 
           fewer : (qs : List Bool) → Fewer qs (set ps i true) → From u rows (p + 1) qs
           fewer qs f = from-fewer u rows (p + 1) (set ps i true) qs (omega arith) size (d .next t) (rw (d .same) at all) f
@@ -304,13 +280,6 @@ going-first u rows e {due} {words} d n = record {
 pub swept-false : {u : Rules} {rows : ℕ} → 0 < rows → {room e : ℕ} {due : List ℕ} {ps′ : List Bool} {due′ marks′ words′ : List ℕ} → room ≡ u .f
     → Failed u rows 0 0 room (replicate 128 false) due e ps′ due′ marks′ words′ → From u rows 0 (replicate 128 false)
 swept-false {u} {rows} h e d = row-begun u rows 0 (replicate 128 false) h (rw e at (d .fails))
-
--- a job is left in the row, or none
-pub is-left : {job n k : ℕ} → job ≤ n → n ≡ k → (job ≡ k → ⊥) → job < n
-is-left h e t = omega arith
-
-pub end-is : {job n k : ℕ} → n ≡ k → job ≡ k → job ≡ n
-end-is e t = t ∙ sym e
 
 -- a test that holds of all from i on below j, and of j
 pub all-from-more : (t : ℕ → Bool) {i j : ℕ} → ((y : ℕ) → i ≤ y → y < j → t y ≡ true) → t j ≡ true → (y : ℕ) → i ≤ y → y < j + 1 → t y ≡ true

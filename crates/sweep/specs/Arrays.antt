@@ -44,28 +44,6 @@ pub record Sweepable (g : List (List ℕ)) (links : List ℕ) : Type 0 where
   pub few-rows : rowsIn g ≤ 256
   pub back : (i : ℕ) → i < jobsIn g → LinksBack (countsIn g) links i
 
--- which jobs may stand in a row: part 0 has the first of them, part 1 one past the last
-pub record Spanned (u : Rules) (rows : ℕ) (s : List (List ℕ)) : Type 0 where
-  pub first-most : (q : ℕ) → getD (partIn s 0) q 0 ≤ u .n
-  pub end-most : (q : ℕ) → getD (partIn s 1) q 0 ≤ u .n
-  pub each : (q x : ℕ) → q < rows → x < u .n → u .first x ≤ q → q < u .end x → (getD (partIn s 0) q 0 ≤ x) × (x < getD (partIn s 1) q 0)
-
--- the same of the first i jobs, and of job i in the rows before b
-pub record Spanning (u : Rules) (rows i b : ℕ) (firsts ends : List ℕ) : Type 0 where
-  pub firsts-size : length firsts ≡ 256
-  pub ends-size : length ends ≡ 256
-  pub first-most : (q : ℕ) → getD firsts q 0 ≤ i
-  pub end-most : (q : ℕ) → getD ends q 0 ≤ u .n
-  pub each : (q x : ℕ) → q < rows → x < i → u .first x ≤ q → q < u .end x → (getD firsts q 0 ≤ x) × (x < getD ends q 0)
-  pub here : (q : ℕ) → q < rows → u .first i ≤ q → q < u .end i → q < b → (getD firsts q 0 ≤ i) × (i < getD ends q 0)
-
--- row q with job i
-abbrev pub firstsWith : List ℕ → List ℕ → ℕ → ℕ → List ℕ
-firstsWith firsts ends q i = cond (eqb (getD ends q 0) 0) (set firsts q i) firsts
-
-abbrev pub endsWith : List ℕ → ℕ → ℕ → List ℕ
-endsWith ends q i = set ends q (i + 1)
-
 -- bit j of a number
 abbrev pub bit : ℕ → ℕ → ℕ
 bit w j = w / 2 ^ j % 2

@@ -3,15 +3,15 @@
 // the rows, and `put` puts one job into the row and runs on from there, so calls are no deeper than there are jobs.
 //
 // The jobs' costs and links, their number and that of the rows stand in `given`, as for the search. `swept` has the first row of each job, one
-// past its last, its side, and whether a job with a higher number must not be later. `spans` has the jobs of each row, and `begun` has a bit for
-// each that has begun there. `flags` says which jobs have a row, `low` and `high` are the same as words, and `kept` is true only where each of them
+// past its last, its side, and whether a job with a higher number must not be later. `begun` has a bit for each job that has begun in a row, and
+// `least` the least cost of the jobs of each row. `flags` says which jobs have a row, `low` and `high` are the same as words, and `kept` is true only where each of them
 // has its row behind those that must not be later. `due` has the times of the jobs without a row, `marks` and `words` are the memory of states that
 // failed.
 mod begun;
 mod late;
+mod least;
 mod memory;
 mod order;
-mod spans;
 
 ghost use mathlib.Core.Path.{_≡_};
 ghost use mathlib.Core.Bool.{true, false};
@@ -20,7 +20,7 @@ ghost use lib.ListN.{replicate};
 ghost use Rattle.searcher.specs.Arrays.{countsIn, rowsIn, jobsIn, LinksBack};
 ghost use Rattle.exact.specs.Words.{wordAt};
 ghost use Rattle.exact.specs.Sweep.{any-below, more, skips, puts, leaves, From, Ordered};
-ghost use Rattle.sweep.specs.Arrays.{rulesIn, Sweepable, Spanned, Begun, Next, Going, Failed, NotPut, tiedIn};
+ghost use Rattle.sweep.specs.Arrays.{rulesIn, Sweepable, Begun, Next, Going, Failed, NotPut, tiedIn};
 
 // Job i is passed over in row p: it has a row, or its rows are later.
 fn is_skipped(
@@ -106,8 +106,8 @@ fn one_more(
     given: &[[u16; 128]; 5],
     links: &[u8; 2048],
     swept: &[[u16; 128]; 4],
-    spans: &[[u16; 256]; 3],
     begun: &[u64; 512],
+    least: &[u16; 256],
     flags: &[bool; 128],
     low: u64,
     high: u64,
@@ -117,18 +117,17 @@ fn one_more(
     requires { ⌜ Sweepable (now given) (now links) ⌝ }
     requires { ⌜ (p < rowsIn (now given)) × (low ≡ wordAt (now flags) 0) × (high ≡ wordAt (now flags) 64)
         × Begun (rulesIn (now given) (now links) (now swept)) (rowsIn (now given)) (now begun) ⌝ }
-    requires { ⌜ Spanned (rulesIn (now given) (now links) (now swept)) (rowsIn (now given)) (now spans) ⌝ }
     ensures { λ r. ⌜ (r ≡ true → any-below (more (rulesIn (now (given .entry)) (now (links .entry)) (now (swept .entry))) p (now (flags .entry)) room)
         (jobsIn (now (given .entry))) ≡ true) ⌝ }
 {
-    if room < spans::entry(spans, 2, p) {
+    if room < least[p as usize] {
         return false;
     }
-    let end = spans::entry(spans, 1, p) as usize;
-    let mut i = spans::entry(spans, 0, p) as usize;
-    while i < end {
+    let n = given[4][2] as usize;
+    let mut i = 0;
+    while i < n {
         i = begun::first_free(given, links, swept, begun, flags, low, high, p, i);
-        if i >= end {
+        if i >= n {
             return false;
         }
         if could_put(given, links, swept, flags, p, room, i) {
@@ -227,8 +226,8 @@ fn run(
     given: &[[u16; 128]; 5],
     links: &[u8; 2048],
     swept: &[[u16; 128]; 4],
-    spans: &[[u16; 256]; 3],
     begun: &[u64; 512],
+    least: &[u16; 256],
     flags: &mut [bool; 128],
     found: &mut [u16; 128],
     due: &mut [u32; 257],
@@ -244,7 +243,6 @@ fn run(
     reach: u16,
 ) -> u16
     requires { ⌜ Sweepable (now given) (now links) ⌝ }
-    requires { ⌜ Spanned (rulesIn (now given) (now links) (now swept)) (rowsIn (now given)) (now spans) ⌝ }
     requires { ⌜ (p < rowsIn (now given)) × (i ≤ jobsIn (now given))
         × Begun (rulesIn (now given) (now links) (now swept)) (rowsIn (now given)) (now begun) ⌝ }
     requires { ⌜ Going (rulesIn (now given) (now links) (now swept)) (rowsIn (now given)) (now flags) (now due) (now marks) (now words) low high kept ⌝ }
@@ -259,9 +257,8 @@ fn run(
     let mut ordered = kept;
     let mut far = reach;
     while row < rows {
-        let end = spans::entry(spans, 1, row) as usize;
-        job = next_job(given, links, swept, begun, flags, low, high, row, job, end);
-        if job >= end {
+        job = next_job(given, links, swept, begun, flags, low, high, row, job, n);
+        if job >= n {
             if row + 1 == rows {
                 return rows;
             }
@@ -269,8 +266,8 @@ fn run(
                 given,
                 links,
                 swept,
-                spans,
                 begun,
+                least,
                 flags,
                 low,
                 high,
@@ -287,7 +284,7 @@ fn run(
                 return row;
             }
             ordered = is_kept(given, links, swept, flags, ordered);
-            job = spans::entry(spans, 0, row) as usize;
+            job = 0;
             space = given[4][1];
             far = 0;
             continue;
@@ -296,8 +293,8 @@ fn run(
             given,
             links,
             swept,
-            spans,
             begun,
+            least,
             flags,
             found,
             due,
@@ -327,8 +324,8 @@ fn put(
     given: &[[u16; 128]; 5],
     links: &[u8; 2048],
     swept: &[[u16; 128]; 4],
-    spans: &[[u16; 256]; 3],
     begun: &[u64; 512],
+    least: &[u16; 256],
     flags: &mut [bool; 128],
     found: &mut [u16; 128],
     due: &mut [u32; 257],
@@ -344,7 +341,6 @@ fn put(
     reach: u16,
 ) -> bool
     requires { ⌜ Sweepable (now given) (now links) ⌝ }
-    requires { ⌜ Spanned (rulesIn (now given) (now links) (now swept)) (rowsIn (now given)) (now spans) ⌝ }
     requires { ⌜ (p < rowsIn (now given)) × (i < jobsIn (now given))
         × Begun (rulesIn (now given) (now links) (now swept)) (rowsIn (now given)) (now begun) ⌝ }
     requires { ⌜ Going (rulesIn (now given) (now links) (now swept)) (rowsIn (now given)) (now flags) (now due) (now marks) (now words) low high kept ⌝ }
@@ -369,8 +365,8 @@ fn put(
         given,
         links,
         swept,
-        spans,
         begun,
+        least,
         flags,
         found,
         due,
@@ -421,8 +417,8 @@ pub fn sweep(
     if words.len() != WORDS {
         return true;
     }
-    let spans = spans::spans_of(given, links, swept);
     let begun = begun::begun_of(given, links, swept);
+    let least = least::least_costs(given, swept);
     let mut flags = [false; 128];
     let mut due = late::due_times(given, links, swept);
     let mut marks = [0u16; 5120];
@@ -430,8 +426,8 @@ pub fn sweep(
         given,
         links,
         swept,
-        &spans,
         &begun,
+        &least,
         &mut flags,
         found,
         &mut due,

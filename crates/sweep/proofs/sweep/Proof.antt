@@ -22,11 +22,11 @@ returns c = λ e. absurd (false≢true (sym e))
 returns-2 : tie.Need-returns-2
 returns-2 c = λ e. absurd (false≢true (sym e))
 
-spans-of-requires : tie.Need-spans-of-requires
-spans-of-requires c κs = c .before .before .before .before .pre
-
 begun-of-requires : tie.Need-begun-of-requires
-begun-of-requires c κs = c .before .before .before .before .before .pre
+begun-of-requires c κs = c .before .before .before .before .pre
+
+least-costs-requires : tie.Need-least-costs-requires
+least-costs-requires c κs = c .before .before .before .before .before .pre .few
 
 due-times-requires : tie.Need-due-times-requires
 due-times-requires c κs = c .before .before .before .before .before .before .pre
@@ -53,11 +53,8 @@ run-requires c κs =
     let w = s .args .swept .now in (
       s .pre,
       (
-        made .before .before .spans-of .ensures,
-        (
-          (omega (arith, left .before .if1 .left), omega arith, made .before .begun-of .ensures),
-          going-first (rulesIn g l w) (rowsIn g) (n-is g l w) (made .due-times .ensures) (left .if2 .left),
-        ),
+        (omega (arith, left .before .if1 .left), omega arith, made .before .before .begun-of .ensures),
+        going-first (rulesIn g l w) (rowsIn g) (n-is g l w) (made .due-times .ensures) (left .if2 .left),
       ),
     )
 
@@ -80,8 +77,8 @@ sweep-spec =
     index-2-rows
     returns
     returns-2
-    spans-of-requires
     begun-of-requires
+    least-costs-requires
     due-times-requires
     index-1-run
     index-2-run

@@ -6,8 +6,7 @@ use mathlib.Core.Path.{sym, _∙_}
 use mathlib.Core.Logic.{⊎-elim}
 use Rattle.searcher.specs.Arrays.{rowsIn, jobsIn}
 use Rattle.sweep.specs.Arrays.{rulesIn, Beginning}
-use Rattle.sweep.proofs.SpanLaws.{first-of}
-use Rattle.sweep.proofs.BitLaws.{beginning-first, beginning-none, beginning-more, beginning-all}
+use Rattle.sweep.proofs.BitLaws.{first-of, beginning-first, beginning-none, beginning-more, beginning-all}
 use Rattle.sweep.proofs.begun.in_first_rows.Statement.{statement}
 use Rattle.sweep.proofs.begun.in_first_rows.Tie as tie
 
