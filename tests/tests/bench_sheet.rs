@@ -1,11 +1,9 @@
 //! The bench sheet P1 to P12 of the scope paper, on the reference and on the linked library.
 
-mod common;
-
+use crate::common::{checks_as, example, plan, plans_as, refused, subjects, table};
 use bus_tests::reference::model::plausible_lengths;
 use bus_tests::reference::{listing, read_cycle};
 use bus_tests::sheet;
-use common::{checks_as, example, plan, plans_as, refused, subjects, table};
 
 fn lengths(request: &[u8]) -> Vec<i64> {
     plausible_lengths(&read_cycle(request).expect("within the limits"))

@@ -1,8 +1,7 @@
 //! One task of a request cut in two: every byte of what is written, and which number is given when
 //! several would do.
 
-mod common;
-
+use crate::common::{example, plan, subject, subjects};
 use bus_tests::bus::Bus;
 use bus_tests::call::Call;
 use bus_tests::compare::compare;
@@ -10,7 +9,6 @@ use bus_tests::reference::cut::Cut;
 use bus_tests::reference::request::{read, write, Request};
 use bus_tests::rounds::cutting::call;
 use bus_tests::sheet::{self, request, silent_request, with_section, Short};
-use common::{example, plan, subject, subjects};
 
 /// The longest request has 1 + 16 · 8 + 1 + 16 · 2 + 2 bytes.
 const LONGEST: usize = 164;

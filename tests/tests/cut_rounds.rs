@@ -1,8 +1,7 @@
 //! Seeded requests cut by the subject and by the reference, flights of what was written, and tools
 //! that only look right when they cut, which the comparison must catch.
 
-mod common;
-
+use crate::common::{subject, tell, tell_left_out};
 use bus_tests::bus::Bus;
 use bus_tests::comparison::{Seeded, Tally, MOST_TRIES};
 use bus_tests::reference::cut::{cut, Cut};
@@ -11,7 +10,6 @@ use bus_tests::reference::{read_cycle, Reference};
 use bus_tests::rounds::cutting;
 use bus_tests::shams::Hunt;
 use bus_tests::simulate::cut::fly_cut;
-use common::{subject, tell, tell_left_out};
 
 const REQUESTS: u64 = if cfg!(feature = "linked") { 3_000 } else { 600 };
 const FLIGHTS: u64 = if cfg!(feature = "linked") { 2_000 } else { 300 };

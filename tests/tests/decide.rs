@@ -1,8 +1,7 @@
 //! Decisions: the bench sheet, the stored requests that 10,000,000 tries leave open, random requests
 //! beside planning with a limit, and buffers of every length.
 
-mod common;
-
+use crate::common::{subject, subjects, table, tell};
 use bus_tests::bus::{Bus, TRIES_LEN};
 use bus_tests::call::hex;
 use bus_tests::generate;
@@ -10,7 +9,6 @@ use bus_tests::left_open::{stored, Stored};
 use bus_tests::random::Random;
 use bus_tests::reference::PROGRAM_TRIES;
 use bus_tests::sheet::{self, pigeons, request};
-use common::{subject, subjects, table, tell};
 
 const REQUESTS: u64 = if cfg!(feature = "linked") {
     20_000

@@ -1,8 +1,7 @@
 //! Seeded requests decided by the subject and by the reference, and tools that only look right when
 //! they decide, which the comparison must catch.
 
-mod common;
-
+use crate::common::{subject, tell};
 use bus_tests::bus::Bus;
 use bus_tests::comparison::{Seeded, Tally, MOST_TRIES};
 use bus_tests::reference::cycle::{self, Cycle};
@@ -13,7 +12,6 @@ use bus_tests::reference::table::{encode, of_plan, Table};
 use bus_tests::reference::{exact, read_cycle, tries};
 use bus_tests::rounds::deciding;
 use bus_tests::shams::Hunt;
-use common::{subject, tell};
 
 const REQUESTS: u64 = if cfg!(feature = "linked") { 2_000 } else { 400 };
 

@@ -2,11 +2,9 @@
 //! the feature `linked` the subject is the library; without it the reference stands in, in
 //! fewer rounds, so that the harness itself is exercised.
 
-mod common;
-
+use crate::common::{subject, tell_cut};
 use bus_tests::comparison::{Seeded, Tally, MOST_TRIES};
 use bus_tests::rounds::planning;
-use common::{subject, tell_cut};
 
 const REQUESTS: u64 = if cfg!(feature = "linked") { 6_000 } else { 600 };
 

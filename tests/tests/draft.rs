@@ -1,8 +1,8 @@
 //! Jobs moved by hand: every byte of a draft after every move, and which number is given when several
 //! would do.
 
-mod common;
-
+use crate::common::drafts::{draft, made, moved, started, written};
+use crate::common::{example, subject, subjects, table};
 use bus_tests::bus::DRAFT_LEN;
 use bus_tests::call::Call;
 use bus_tests::compare::compare;
@@ -12,8 +12,6 @@ use bus_tests::reference::table::encode;
 use bus_tests::reference::{planned, read_cycle};
 use bus_tests::rounds::drafting::{call, Move};
 use bus_tests::sheet::{self, request, silent_request, with_section};
-use common::drafts::{draft, made, moved, started, written};
-use common::{example, subject, subjects, table};
 use Move::{Lift, Put};
 
 fn starts_as(request: &[u8], table: &[u8], expected: Result<Draft, i32>) {

@@ -1,8 +1,7 @@
 //! Seeded drafts and moves made by the subject and by the reference, and tools that only look right
 //! when a job is moved by hand, which the comparison must catch.
 
-mod common;
-
+use crate::common::{subject, tell_left_out};
 use bus_tests::bus::{Bus, BAD_BUFFER, DRAFT_LEN};
 use bus_tests::comparison::{Seeded, Tally, MOST_TRIES};
 use bus_tests::reference::cycle::{Cycle, Job};
@@ -12,7 +11,6 @@ use bus_tests::reference::table::{decode, encode, of_plan, Table};
 use bus_tests::reference::{answer, check, planned, read_cycle, Reference};
 use bus_tests::rounds::drafting;
 use bus_tests::shams::Hunt;
-use common::{subject, tell_left_out};
 
 const REQUESTS: u64 = if cfg!(feature = "linked") { 2_000 } else { 400 };
 const CALLS: [&str; 4] = ["draft_start", "draft_lift", "draft_put", "draft_write"];

@@ -1,10 +1,10 @@
 //! Lists of moves by hand, held against the words of a plan: all placings of small requests, reached
 //! from each other, and long random walks.
 
-mod common;
-
 use std::collections::{BTreeSet, VecDeque};
 
+use crate::common::drafts::{moved, started, written};
+use crate::common::subject;
 use bus_tests::comparison::MOST_TRIES;
 use bus_tests::generate;
 use bus_tests::random::Random;
@@ -15,8 +15,6 @@ use bus_tests::reference::table::{decode, encode, of_plan};
 use bus_tests::reference::{check, read_cycle, tries_within};
 use bus_tests::rounds::drafting::{some_move, Move};
 use bus_tests::sheet::{self, request, silent_request};
-use common::drafts::{moved, started, written};
-use common::subject;
 use Move::{Lift, Put};
 
 /// Whether the frames, none for a lifted job, keep window, capacity and order, in the words of a plan.

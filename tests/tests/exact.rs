@@ -1,8 +1,7 @@
 //! The exact planner of the reference: beside the plain search wherever that comes to its end, and the
 //! stored requests that the tries of the programs leave open.
 
-mod common;
-
+use crate::common::tell;
 use bus_tests::call::hex;
 use bus_tests::generate;
 use bus_tests::hard;
@@ -12,7 +11,6 @@ use bus_tests::random::Random;
 use bus_tests::reference::check::plan_in;
 use bus_tests::reference::table::{decode, encode};
 use bus_tests::reference::{decided, planned, read_cycle, tries_within, PROGRAM_TRIES};
-use common::tell;
 
 const REQUESTS: u64 = 6_000;
 const MOST_TRIES: u64 = 30_000;

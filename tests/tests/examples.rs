@@ -1,13 +1,11 @@
 //! Worked examples of source documents 000 to 004 whose answers are known, and the files of the
 //! folder `examples`.
 
-mod common;
-
+use crate::common::{checks_as, example, examples, plans_as, refused, table};
 use bus_tests::given_tries;
 use bus_tests::reference::model::plausible_lengths;
 use bus_tests::reference::{listing, planned, read_cycle, PROGRAM_TRIES};
 use bus_tests::sheet::{self, request, silent_request, with_section, Short};
-use common::{checks_as, example, examples, plans_as, refused, table};
 
 fn lengths(request: &[u8]) -> Vec<i64> {
     plausible_lengths(&read_cycle(request).expect("within the limits"))

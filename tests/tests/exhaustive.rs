@@ -1,8 +1,7 @@
 //! Small worlds tried whole: every request of one or two short tasks, and every value of every
 //! byte of a request and of a table.
 
-mod common;
-
+use crate::common::{subject, tell_cut};
 use bus_tests::bus::{ENTRIES_LEN, STATE_LEN, TRIES_LEN};
 use bus_tests::call::Call;
 use bus_tests::compare::compare;
@@ -12,7 +11,6 @@ use bus_tests::reference::cycle::Cycle;
 use bus_tests::reference::table::{encode, of_plan};
 use bus_tests::reference::{planned, read_cycle, tries_within};
 use bus_tests::sheet::{self, request, silent_request, Short};
-use common::{subject, tell_cut};
 
 fn same(call: &Call) -> i32 {
     match compare(subject(), call) {

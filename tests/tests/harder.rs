@@ -1,8 +1,7 @@
 //! Requests whose search is too long for the reference: planned beside the plain version, which
 //! agrees with the reference wherever both are tried.
 
-mod common;
-
+use crate::common::{subject, tell_cut};
 use bus_tests::bus::{Bus, TRIES_LEN};
 use bus_tests::call::hex;
 use bus_tests::comparison::MOST_TRIES;
@@ -12,7 +11,6 @@ use bus_tests::plain;
 use bus_tests::random::Random;
 use bus_tests::reference::PROGRAM_TRIES;
 use bus_tests::sheet;
-use common::{subject, tell_cut};
 
 const MOST: u64 = if cfg!(feature = "linked") {
     3_000_000

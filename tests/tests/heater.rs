@@ -1,8 +1,7 @@
 //! The heater link: worked lists of frames, every pattern of losses over short lists, every byte of a
 //! heater, and which number is given when several would do.
 
-mod common;
-
+use crate::common::{plan, subject, subjects, table, tell};
 use bus_tests::bus::{Bus, ENTRIES_LEN, HEATER_LEN, LINK_BYTES};
 use bus_tests::call::Call;
 use bus_tests::compare::compare;
@@ -11,7 +10,6 @@ use bus_tests::reference::table::{decode, encode, Entry, Table};
 use bus_tests::rounds::heater::call;
 use bus_tests::sheet::{self, request, with_section};
 use bus_tests::simulate::heater::Link;
-use common::{plan, subject, subjects, table, tell};
 
 const FRESH: [u8; 4] = [0, 1, 0, 0];
 

@@ -1,8 +1,7 @@
 //! Lists of frames that a heater link serves, by the subject and by the reference; long lists judged by
 //! R-13's words; and tools that only look right, which the comparison must catch.
 
-mod common;
-
+use crate::common::{subject, tell, tell_left_out};
 use bus_tests::bus::{
     Bus, ENTRIES_LEN, HEATER_LEN, HEATER_USED, LINK_BYTES, STATE_LEN, STATE_USED,
 };
@@ -14,7 +13,6 @@ use bus_tests::reference::Reference;
 use bus_tests::rounds::heater;
 use bus_tests::shams::Hunt;
 use bus_tests::simulate::heater::play_many;
-use common::{subject, tell, tell_left_out};
 
 const REQUESTS: u64 = if cfg!(feature = "linked") { 1_500 } else { 400 };
 const LISTS: u64 = if cfg!(feature = "linked") { 2_000 } else { 300 };

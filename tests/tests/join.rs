@@ -1,15 +1,13 @@
 //! Two requests joined: every byte of what is written, and which number is given when several
 //! would do.
 
-mod common;
-
+use crate::common::{plan, subject, subjects};
 use bus_tests::bus::Bus;
 use bus_tests::call::Call;
 use bus_tests::compare::compare;
 use bus_tests::reference::request::{read, Request};
 use bus_tests::reference::Reference;
 use bus_tests::sheet::{self, request, silent_request, with_section, Short};
-use common::{plan, subject, subjects};
 
 /// The longest request has 1 + 16 · 8 + 1 + 16 · 2 + 2 bytes.
 const LONGEST: usize = 164;

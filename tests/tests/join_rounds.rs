@@ -1,8 +1,7 @@
 //! Seeded pairs of requests joined by the subject and by the reference, and tools that only look
 //! right when they join, which the comparison must catch.
 
-mod common;
-
+use crate::common::{subject, tell};
 use bus_tests::bus::Bus;
 use bus_tests::comparison::{Seeded, Tally, MOST_TRIES};
 use bus_tests::reference::join::joined;
@@ -10,7 +9,6 @@ use bus_tests::reference::request::{read, write};
 use bus_tests::reference::{read_cycle, Reference};
 use bus_tests::rounds::joining;
 use bus_tests::shams::Hunt;
-use common::{subject, tell};
 
 const PAIRS: u64 = if cfg!(feature = "linked") { 6_000 } else { 600 };
 

@@ -1,14 +1,12 @@
 //! Time for a one-off transfer: worked cases, edges, and which number is given when several would
 //! do.
 
-mod common;
-
+use crate::common::{plan, subject, subjects, table};
 use bus_tests::call::Call;
 use bus_tests::compare::compare;
 use bus_tests::reference::read_cycle;
 use bus_tests::reference::table::decode;
 use bus_tests::sheet::{self, request, silent_request};
-use common::{plan, subject, subjects, table};
 
 /// A request with a table that is accepted.
 struct Planned {
@@ -18,7 +16,7 @@ struct Planned {
 
 impl Planned {
     fn new(request: Vec<u8>, table: Vec<u8>) -> Planned {
-        common::checks_as(&request, &table, 0);
+        crate::common::checks_as(&request, &table, 0);
         Planned { request, table }
     }
 

@@ -1,8 +1,7 @@
 //! Seeded one-off transfers asked of the subject and of the reference, flights that send them, and
 //! tools that only look right when they are asked for one, which the comparison must catch.
 
-mod common;
-
+use crate::common::{subject, tell_left_out};
 use bus_tests::bus::{Bus, ENTRIES_LEN, STATE_LEN};
 use bus_tests::comparison::{Seeded, Tally, MOST_TRIES};
 use bus_tests::generate;
@@ -13,7 +12,6 @@ use bus_tests::reference::table::{decode, encode, Table};
 use bus_tests::reference::{check, planned, read_cycle, tries_within, Reference};
 use bus_tests::rounds::one_off::{self, asked};
 use bus_tests::shams::Hunt;
-use common::{subject, tell_left_out};
 
 const REQUESTS: u64 = if cfg!(feature = "linked") { 2_000 } else { 300 };
 

@@ -1,8 +1,10 @@
 //! Which phases still fit: worked cases, edges, which number is given when several would do, small
 //! requests whole, and the time that it takes.
 
-mod common;
-
+use crate::common::phases::{counted, planned_ends};
+#[cfg(feature = "linked")]
+use crate::common::tell;
+use crate::common::{subject, subjects};
 use bus_tests::bus::COUNTS_LEN;
 use bus_tests::call::Call;
 #[cfg(feature = "linked")]
@@ -10,10 +12,6 @@ use bus_tests::clock::seconds_used;
 use bus_tests::compare::compare;
 use bus_tests::reference::phases::{counts, with_phase};
 use bus_tests::sheet::{self, request, silent_request, Short};
-use common::phases::{counted, planned_ends};
-#[cfg(feature = "linked")]
-use common::tell;
-use common::{subject, subjects};
 
 /// The phases of the task, with so many tries allowed, lead to a table, to 9, to 10 and to 23 so often;
 /// and so they do if the subject plans them one by one.

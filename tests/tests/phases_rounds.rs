@@ -2,10 +2,10 @@
 //! subject's own planning, and tools that only look right when they count, which the comparison must
 //! catch.
 
-mod common;
-
 use std::collections::BTreeMap;
 
+use crate::common::phases::{counted, planned_ends};
+use crate::common::{subject, tell};
 use bus_tests::bus::{put_counts, Bus, COUNTS_LEN};
 use bus_tests::comparison::{Seeded, Tally};
 use bus_tests::generate;
@@ -19,8 +19,6 @@ use bus_tests::reference::search::{plan_of_length, Direction, Effort, Found};
 use bus_tests::reference::tries::Tests;
 use bus_tests::rounds::phases;
 use bus_tests::shams::Hunt;
-use common::phases::{counted, planned_ends};
-use common::{subject, tell};
 
 const REQUESTS: u64 = if cfg!(feature = "linked") { 2_500 } else { 500 };
 

@@ -342,7 +342,12 @@ fn a_folder_in_place_of_a_file() {
     let there = file("beside-a-folder.req", &sheet::p1());
     let expected = unread(&folder.display().to_string());
     for files in [[folder, &there], [&there, folder]] {
-        same("check_table", &given("check_table", &files), &expected, "a folder");
+        same(
+            "check_table",
+            &given("check_table", &files),
+            &expected,
+            "a folder",
+        );
     }
 }
 

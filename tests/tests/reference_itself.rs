@@ -1,7 +1,6 @@
 //! The reference judged by itself: backtracking beside the list of all plans, tables read back.
 
-mod common;
-
+use crate::common::tell_cut;
 use bus_tests::bus::Bus;
 use bus_tests::call::hex;
 use bus_tests::comparison::MOST_TRIES;
@@ -18,7 +17,6 @@ use bus_tests::reference::table::{decode, encode, of_plan};
 use bus_tests::reference::tries::{within, Tests};
 use bus_tests::reference::{planned, planned_within, read_cycle, tries_within, Reference};
 use bus_tests::rounds::planning::allowances;
-use common::tell_cut;
 
 fn random_cycles(seed: u64, count: usize) -> Vec<Cycle> {
     let mut rng = Random::new(seed);

@@ -1,10 +1,8 @@
 //! Which number is given when several would do, and what a refusal leaves unchanged.
 
-mod common;
-
+use crate::common::{checks_as, plan, refused, subjects, table};
 use bus_tests::bus::{count_bytes, counts, Bus, STATE_USED, TASKS};
 use bus_tests::sheet::{self, request, silent_request, with_section};
-use common::{checks_as, plan, refused, subjects, table};
 
 /// Planner and check refuse the request with this number.
 fn check_refuses_like_plan(bytes: &[u8], number: i32) {
@@ -161,7 +159,7 @@ fn three_ways_to_write_no_silent_ticks() {
     let good = table(20, 40, "0.0 1.0 2.0 / 0.1 1.1");
     for section in [&[][..], &[0], &[1, 0]] {
         let bytes = with_section(sheet::p1(), section);
-        common::plans_as(&bytes, 20, 40, "0.0 1.0 2.0 / 0.1 1.1");
+        crate::common::plans_as(&bytes, 20, 40, "0.0 1.0 2.0 / 0.1 1.1");
         checks_as(&bytes, &good, 0);
         check_refuses_like_plan(&with_section(sheet::p11(), section), 8);
         for (name, bus) in subjects() {
@@ -177,7 +175,7 @@ fn the_longest_request_has_164_bytes() {
     let mut bytes = silent_request(&[(1, 160, 160, 0); 16], &[(0, 1); 16], 9);
     assert_eq!(bytes.len(), 164);
     let row: Vec<String> = (0..16).map(|task| format!("{task}.0")).collect();
-    common::plans_as(&bytes, 160, 160, &row.join(" "));
+    crate::common::plans_as(&bytes, 160, 160, &row.join(" "));
     bytes.push(0);
     all_refuse(&bytes, 6);
 }
@@ -188,7 +186,7 @@ fn silent_ticks_count_for_every_transfer_of_a_row() {
     for g in 0..=15 {
         let f = 10 + 2 * g;
         let tasks = [(5, f, f, 0), (5, f, f, 0)];
-        common::plans_as(&silent_request(&tasks, &[], g), f, f, "0.0 1.0");
+        crate::common::plans_as(&silent_request(&tasks, &[], g), f, f, "0.0 1.0");
         let shorter = [(5, f - 1, f - 1, 0), (5, f - 1, f - 1, 0)];
         let bytes = silent_request(&shorter, &[], g);
         refused(&bytes, 10);
@@ -201,7 +199,7 @@ fn silent_ticks_count_for_every_transfer_of_a_row() {
 fn silent_ticks_count_in_the_frame_length() {
     for g in 0..=15 {
         let t = 5 + g;
-        common::plans_as(&silent_request(&[(5, t, t, 0)], &[], g), t, t, "0.0");
+        crate::common::plans_as(&silent_request(&[(5, t, t, 0)], &[], g), t, t, "0.0");
         let short = silent_request(&[(5, t - 1, t - 1, 0)], &[], g);
         if g == 0 {
             check_refuses_like_plan(&short, 3);
@@ -226,7 +224,7 @@ fn silent_ticks_count_nowhere_else() {
     }
     // 2f - gcd(f, T) is 4 for f 4 and T 8: the deadline needs no tick more for g.
     let exact = silent_request(&[(1, 8, 4, 0)], &[], 3);
-    common::plans_as(&exact, 4, 8, "0.0 / ");
+    crate::common::plans_as(&exact, 4, 8, "0.0 / ");
 }
 
 #[test]
@@ -251,7 +249,7 @@ fn exactly_128_jobs_are_planned() {
     let rows: Vec<String> = (1..127).map(|j| format!("0.{j}")).collect();
     let rows = format!("0.0 1.0 / {}", rows.join(" / "));
     let bytes = request(&[(1, 64, 64, 0), (40, 8_128, 8_128, 0)], &[]);
-    common::plans_as(&bytes, 64, 8_128, &rows);
+    crate::common::plans_as(&bytes, 64, 8_128, &rows);
     let more = request(
         &[(1, 64, 64, 0), (1, 8_128, 8_128, 0), (1, 8_128, 8_128, 0)],
         &[],
@@ -373,7 +371,7 @@ fn tables_that_are_no_plan_give_14() {
 #[test]
 fn a_pair_may_be_placed_second_task_first() {
     let bytes = request(&[(2, 12, 6, 6), (2, 12, 12, 0)], &[(0, 1)]);
-    common::plans_as(&bytes, 6, 12, " / 0.0 1.0");
+    crate::common::plans_as(&bytes, 6, 12, " / 0.0 1.0");
     let bytes = request(&[(4, 12, 6, 6), (4, 12, 12, 0)], &[(0, 1)]);
     // In frames of 4 the first job of task 0 needs frame 2, so task 1 cannot come by frame 2.
     refused(&bytes, 10);

@@ -1,7 +1,5 @@
 //! Tools that only look right, and that the comparison or a flight must catch.
 
-mod common;
-
 use bus_tests::bus::{count_bytes, Bus, STATE_USED, TASKS};
 use bus_tests::random::Random;
 use bus_tests::reference::cycle::{self, Cycle, Job};
@@ -625,7 +623,7 @@ fn flights_catch_a_table_that_breaks_a_pair() {
 #[test]
 fn flights_catch_a_row_without_silent_ticks() {
     let tasks = [(5, 20, 20, 0), (5, 20, 20, 0), (10, 20, 20, 0)];
-    let table = common::table(20, 20, "0.0 1.0 2.0");
+    let table = crate::common::table(20, 20, "0.0 1.0 2.0");
     let careless = Careless(Lie::PassesEveryTable);
     for (g, late) in [(0, false), (1, true)] {
         let request = sheet::silent_request(&tasks, &[], g);

@@ -1,12 +1,10 @@
 //! Flights of planned tables: release, deadline, order of pairs, silent ticks, exactly once, spacing
 //! of successive jobs, state and counts.
 
-mod common;
-
+use crate::common::{subject, tell_left_out};
 use bus_tests::comparison::MOST_TRIES;
 use bus_tests::sheet;
 use bus_tests::simulate::{fly_long, fly_many, spaced};
-use common::{subject, tell_left_out};
 
 const FLIGHTS: u64 = if cfg!(feature = "linked") { 4_000 } else { 400 };
 

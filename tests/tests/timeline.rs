@@ -1,8 +1,7 @@
 //! The timeline of a plan: worked cases, limits, lists of every length, and which number is given when
 //! several would do.
 
-mod common;
-
+use crate::common::{plan, subject, subjects, table};
 use bus_tests::bus::Bus;
 use bus_tests::call::Call;
 use bus_tests::compare::compare;
@@ -10,7 +9,6 @@ use bus_tests::reference::table::decode;
 use bus_tests::reference::timeline::printed;
 use bus_tests::reference::{planned, PROGRAM_TRIES};
 use bus_tests::sheet::{self, request, silent_request};
-use common::{plan, subject, subjects, table};
 
 /// Task, job, release, due and frame.
 type Five = (u8, u8, u16, u16, u16);

@@ -1,8 +1,7 @@
 //! Seeded timelines of the subject and of the reference, the records beside the table's own entries, and
 //! tools that only look right, which the comparison must catch.
 
-mod common;
-
+use crate::common::{subject, tell_left_out};
 use bus_tests::bus::{Bus, RECORD_LEN};
 use bus_tests::comparison::{Seeded, Tally, MOST_TRIES};
 use bus_tests::generate;
@@ -13,7 +12,6 @@ use bus_tests::reference::timeline::{printed, records, Record};
 use bus_tests::reference::{listing, planned, read_cycle, tries_within, Reference};
 use bus_tests::rounds::timeline;
 use bus_tests::shams::Hunt;
-use common::{subject, tell_left_out};
 
 const REQUESTS: u64 = if cfg!(feature = "linked") { 2_000 } else { 300 };
 

@@ -1,13 +1,11 @@
 //! The bus timer: what each register reads and takes, events, servings, reports and the line, by the words
 //! of R-12; and which number is given when several would do.
 
-mod common;
-
+use crate::common::{subjects, table};
 use bus_tests::bus::{Bus, ENTRIES_LEN, STATE_LEN, TASKS, TIMER_LEN, TIMER_USED};
 use bus_tests::bus::{CONTROL_AT, STATUS_AT};
 use bus_tests::registers::put_counts;
 use bus_tests::sheet;
-use common::{subjects, table};
 
 /// P1 on a tool: its request, its table, a timer with other bytes behind it, and entries.
 struct Board {

@@ -1,8 +1,7 @@
 //! Seeded lists of register calls made on the subject and on the reference, the registers beside what the
 //! list alone says, flights by the timer, and tools that only look right, which must be caught.
 
-mod common;
-
+use crate::common::{subject, tell_left_out};
 use bus_tests::bus::{counts, Bus, BAD_BUFFER, ENTRIES_LEN, STATE_LEN, TIMER_LEN, TIMER_USED};
 use bus_tests::bus::{CONTROL_AT, STATUS_AT};
 use bus_tests::comparison::{Seeded, Tally, MOST_TRIES};
@@ -13,7 +12,6 @@ use bus_tests::registers::told::run_many;
 use bus_tests::rounds::timer;
 use bus_tests::shams::Hunt;
 use bus_tests::simulate::timer::fly_by_timer;
-use common::{subject, tell_left_out};
 
 const REQUESTS: u64 = if cfg!(feature = "linked") { 2_000 } else { 300 };
 const PROGRAMS: u64 = if cfg!(feature = "linked") { 4_000 } else { 400 };

@@ -1,8 +1,7 @@
 //! The limit on tries: worked cases and edges, and tools that only look right, each of which the
 //! comparison must catch.
 
-mod common;
-
+use crate::common::{plan, subjects, table};
 use bus_tests::bus::{Bus, TRIES_LEN};
 use bus_tests::comparison::MOST_TRIES;
 use bus_tests::generate;
@@ -15,7 +14,6 @@ use bus_tests::reference::{read_cycle, tries_within, Reference};
 use bus_tests::rounds::planning;
 use bus_tests::shams::Hunt;
 use bus_tests::sheet::{self, request};
-use common::{plan, subjects, table};
 
 /// The answer and the count, with room enough, after a look at the bytes beside them.
 fn planned(bus: &dyn Bus, request: &[u8], allowance: u64) -> (i32, u64) {
