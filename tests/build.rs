@@ -18,8 +18,11 @@ fn link_library() {
 fn link_in_c(name: &str, programs: &[&str]) {
     let source = &format!("../bench/{name}.c");
     let object = Path::new(&env::var("OUT_DIR").expect("cargo sets it")).join(format!("{name}.o"));
+    // Where a function begins within a line of the cache changes its time by up to a fifth, so each
+    // begins with one, whatever is linked beside it.
     let compiled = Command::new("gcc")
-        .args(["-std=c99", "-O2", "-Wall", "-Wextra", "-Werror"])
+        .args(["-std=c99", "-O2", "-falign-functions=64"])
+        .args(["-Wall", "-Wextra", "-Werror"])
         .args(["-c", source, "-o"])
         .arg(&object)
         .status()

@@ -17,10 +17,12 @@ use bus_tests::timing::{least, measure, median, quantile, Turns};
 /// More than the longest table.
 const TABLE_LEN: usize = 600;
 
-/// Turns of most calls, of a hard request, of the longest search, and of ten thousand phases.
-const TURNS: usize = 40;
-const TURNS_OF_HARD: usize = 10;
-const TURNS_OF_LONGEST: usize = 12;
+/// Turns of most calls, of a hard request, of the longest search, and of ten thousand phases. They
+/// are many because the search in C has two speeds on some requests, a tenth apart, and may keep to
+/// the slower one for long.
+const TURNS: usize = 200;
+const TURNS_OF_HARD: usize = 40;
+const TURNS_OF_LONGEST: usize = 40;
 const TURNS_OF_PHASES: usize = 12;
 
 const LEGEND: &str = "\
