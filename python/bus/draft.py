@@ -20,7 +20,7 @@ class Draft:
     """A draft that starts from a table, which the library accepts for the request.
 
     Request and table may be given as to `check`. A job is called by its task and its number, as `camera.0`, `5.0` or
-    ("camera", 0). What the library refuses leaves the draft as it was.
+    `("camera", 0)`. What the library refuses leaves the draft as it was.
     """
 
     def __init__(self, request: RequestLike, table: TableLike):

@@ -28,7 +28,7 @@ LEFT_OUT = {".git", "target", "__pycache__"}
 
 
 def _section(name):
-    """The texts of one section of pyproject.toml: lines KEY = "TEXT". Python 3.9 and 3.10 cannot read TOML."""
+    """The texts of one section of pyproject.toml: lines `KEY = "TEXT"`. Python 3.9 and 3.10 cannot read TOML."""
     text = (ROOT / "pyproject.toml").read_text(encoding="utf-8")
     lines = re.search(rf"^\[{re.escape(name)}\]\n((?:(?!\[).*\n)*)", text, re.MULTILINE).group(1)
     return dict(re.findall(r'^([\w-]+) = "(.*)"$', lines, re.MULTILINE))

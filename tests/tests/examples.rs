@@ -82,7 +82,7 @@ fn document_000_example_2() {
     assert_eq!(lengths(&sheet::p3()), [4]);
 }
 
-/// 000, example 3: both lengths keep the rules, and "only segmentation of task 3" helps:
+/// 000, example 3: both lengths keep the rules, and only segmentation of task 3 helps:
 /// cut into two pieces of 5, with the pieces in order, it has a table.
 #[test]
 fn document_000_example_3() {
@@ -156,8 +156,8 @@ fn document_002_first_table() {
 }
 
 /// 002, second table: the fourth task now takes 17 ticks, more than the shortest deadline, so no
-/// length is plausible. "Tasks have to be 'manually' split, in order to fit into available
-/// slots": the pieces are not given; 7, 3 and 7, in order, have a table in which no tick is left.
+/// length is plausible. The task has to be split by hand to fit into the slots. The pieces are not
+/// given; 7, 3 and 7, in order, have a table in which no tick is left.
 #[test]
 fn document_002_second_table() {
     let around = |pieces: &[Short]| {

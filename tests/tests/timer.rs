@@ -152,7 +152,7 @@ fn a_driver_s_day() {
     }
 }
 
-/// "0: control, bit 0 run, bit 1 interrupt enable. Unnamed bits read 0."
+/// "0: control, bit 0 run, bit 1 interrupt enable.", "Unnamed bits read 0."
 #[test]
 fn every_byte_written_to_control() {
     for (board, _, status) in every_board() {

@@ -15,7 +15,7 @@ use Rattle.bus.specs.Reply.{refusedReply, reply, writtenReply, after}
 unfoldable pub draftedReply : Drafted → List ℕ → ℤ
 draftedReply made draft = cond (ltb (length draft) 770) (refusedReply 99) (reply (made .refusal) 0)
 
--- the lent draft after it: a refusedReply call leaves it as it was
+-- the lent draft after it: a refused call leaves it as it was
 unfoldable pub draftedBytes : Drafted → List ℕ → List ℕ
 draftedBytes made draft = cond (ltb (length draft) 770) draft (after (made .refusal) (draftBytes (made .draft) draft) draft)
 

@@ -18,13 +18,13 @@ use Rattle.bus.specs.Reply.{refusedReply, reply, after}
 unfoldable pub heaterFreshReply : List ℕ → ℤ
 heaterFreshReply bytes = cond (ltb (length bytes) 72) (refusedReply 99) (pos 0)
 
--- it "sets all 72 bytes"
+-- it sets all 72 bytes
 unfoldable pub heaterFreshBytes : List ℕ → List ℕ
 heaterFreshBytes bytes = cond (ltb (length bytes) 72) bytes (heaterBytes freshLink false false (zeros 72 ++ drop 72 bytes))
 
 -- bus_heater_serve
 
--- "`lost` bit 0 the command, bit 1 the reply, other bits mean nothing"
+-- of `lost` bit 0 is the command, bit 1 the reply; other bits mean nothing
 abbrev pub lossesIn : ℕ → Losses
 lossesIn lost = record { command = eqb (lost % 2) 1; reply = eqb (lost / 2 % 2) 1 }
 

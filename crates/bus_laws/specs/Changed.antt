@@ -11,11 +11,11 @@ use Rattle.bus.specs.Dispatch.{frameState, reportState}
 abbrev pub ChangesOnly : (ℕ → Type 0) → List ℕ → List ℕ → Type 0
 ChangesOnly Named old new = (length new ≡ length old) × ((k : ℕ) → (Named k → ⊥) → getD new k 0 ≡ getD old k 0)
 
--- "bytes 0 and 1 the row .., byte 2 the mark"
+-- bytes 0 and 1 are the row, byte 2 the mark
 abbrev pub RowOrMark : ℕ → Type 0
 RowOrMark k = k < 3
 
--- "bytes 3 + 2i and 4 + 2i the number of overruns of task i; i goes from 0 to 15"
+-- bytes 3 + 2i and 4 + 2i are the number of overruns of task i, for i from 0 to 15
 abbrev pub OwnCount : ℕ → ℕ → Type 0
 OwnCount task k = ((k ≡ 3 + 2 * task) ⊎ (k ≡ 4 + 2 * task)) × (task < 16)
 

@@ -1,4 +1,4 @@
--- The check, in the words of 01's 'Checking' and 'A plan': what it answers to a request's cycle and a decoded table.
+-- The check, in the words of 01's "Checking" and "A plan": what it answers to a request's cycle and a decoded table.
 use Prim.Native.Nat.{ℕ, _+_}
 use mathlib.Core.Bool.{Bool, true, cond, _&&_}
 use mathlib.Core.List.{List, [], _∷_, map}

@@ -1,4 +1,4 @@
--- The one list that every "n of them, from i on" goes over: a list of such is a map over it, a sum or a test a fold.
+-- The n numbers from i on: a list with one element for each is a map over them, a sum or a test of all is a fold.
 use Prim.Native.Nat.{ℕ, zero, suc, _+_}
 use mathlib.Core.List.{List, [], _∷_}
 

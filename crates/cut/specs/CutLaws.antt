@@ -148,7 +148,7 @@ room bytes x o n16 m16 = let few = counts-few bytes x o in (omega (arith, few .0
 -- The ways out
 
 module _ (request out : List ℕ) (i u : ℕ) where
-  -- what is requestAnswered, and left in the buffer, is what the cut comes to
+  -- what is answered, and left in the buffer, is what the cut comes to
   abbrev pub Hands : Written → List ℕ → Type 0
   Hands w out′ = (w ≡ requestAnswer (cut i u (reading request)) out) × (out′ ≡ requestBuffer (cut i u (reading request)) out)
 

@@ -47,7 +47,7 @@ pub as-read-cycle : {r : Request} (a : AsRead r) → cycleFor r ≡ afterReading
 unfolding cycleFor
 as-read-cycle a = ap afterReading (as-read-is a)
 
--- the request is refusedCycle
+-- the request is refused
 pub not-read : {r : Request} → AsRead r → (r .refusal ≡ 0 → ⊥) → refusedCycle (r .refusal) ≡ cycleAnswered (cycleFor r)
 not-read {r} a ne = go (a .read) (a .is) ∙ ap cycleAnswered (sym (as-read-cycle a))
   where

@@ -59,7 +59,7 @@ around s = record { row = 0; first = false; counts = s .counts }
 unfoldable pub moved : ℕ → State → State
 moved height s = cond (eqb (s .row + 1) height) (around s) (onward s)
 
--- 12: not a table; 15: row not below F
+-- 12: not a table; 15: "row not below F"
 unfoldable pub nextFrame : Decoded → State → Frame
 nextFrame (table t) s =
     cond (ltb (s .row) (length (t .rows))) (shown (served (s .first) (rowOf t (s .row))) (moved (length (t .rows)) s)) (noFrame 15 s)
@@ -91,7 +91,7 @@ reportTaken s = record { refusal = 0; state = s }
 abbrev pub reportRefused : ℕ → State → Reported
 reportRefused number s = record { refusal = number; state = s }
 
--- 1 to 6 and 17: not a request; 16: task number not below n
+-- 1 to 6 and 17: not a request; 16: "task number not below n"
 unfoldable pub reported : Reading → ℕ → ℕ → State → Reported
 reported (readable tasks pairs g) task ticks s = cond (ltb task (length tasks)) (reportTaken (counted (exceeds tasks task ticks) task s)) (reportRefused 16 s)
 reported (unreadable number) task ticks s = reportRefused number s

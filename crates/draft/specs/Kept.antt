@@ -1,4 +1,4 @@
--- What a draft keeps, as facts in the words of 02's R-10 and of 01's 'A plan', over the jobs that are placed.
+-- What a draft keeps, as facts in the words of 02's R-10 and of 01's "A plan", over the jobs that are placed.
 use Prim.Native.Nat.{ℕ, _+_, _*_, _≤_, _<_}
 use mathlib.Core.Path.{_≡_}
 use mathlib.Core.Bool.{true}

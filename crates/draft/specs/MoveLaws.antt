@@ -286,7 +286,7 @@ unfolding write
 write-in request d c t = ap (λ (z : Cycle). writeOf z d) (t .within)
 
 module _ (request : List ℕ) (d : Draft) (out : List ℕ) where
-  -- what is cycleAnswered, and left in the buffer
+  -- what is answered, and left in the buffer
   abbrev pub Hands : Written → List ℕ → Type 0
   Hands w out′ = (w ≡ outcomeAnswer (write request d) out) × (out′ ≡ outcomeBuffer (write request d) out)
 

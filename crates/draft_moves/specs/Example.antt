@@ -1,4 +1,4 @@
--- Drafts at work: P1's table moveAnswer by hand, P3's with its pair, P7's carried job, and damaged drafts: computed.
+-- Drafts at work: P1's table moved by hand, P3's with its pair, P7's carried job, and damaged drafts: computed.
 use Prim.Native.Nat.{ℕ}
 use mathlib.Core.Path.{_≡_, refl}
 use mathlib.Core.List.{List, [], _∷_, _++_, map, flatMap}

@@ -1,7 +1,7 @@
 -- The row sweep: the sided jobs, each with the rows from `first` to before `end`, are put into rows, a row after the other and in a row a job
 -- after the other; each is put into the row or left out of it. The state at a row is one flag for each job: it has a row already.
--- The witness is a row for each job, `Rows`; where the sweep stands at row p and job x, the flag of y is "its row is before p, or it is p and
--- y < x" (`Trace`). No witness comes through a state that fails; or, as a row is closed only if no job left out could still be put into it
+-- The witness is a row for each job, `Rows`; where the sweep stands at row p and job x, the flag of y says that its row is before p, or is p and
+-- y < x (`Trace`). No witness comes through a state that fails; or, as a row is closed only if no job left out could still be put into it
 -- (`more`), where a witness comes through there is one with a smaller sum of rows (`Better`): moving the job there. `From` and `Rest` say so of a
 -- state where a row begins and of one within a row; SweepLaws has a law for each turn of the sweep, WitnessLaws what follows where a state fails.
 -- Assumes nothing.

@@ -1,5 +1,5 @@
 -- The sweep as a loop that goes through the jobs of a row and on through the rows, and calls itself only to put a job: one law for each turn
--- and each way out. `Rest` and `From` say that a state fails, and only that says anything: there is no law for the answer "perhaps". Each law
+-- and each way out. `Rest` and `From` say that a state fails, and only that says anything: there is no law for the answer 'perhaps'. Each law
 -- follows the witness: x is put if its row is p, left out if it is later. Assumes nothing.
 use mathlib.Core.Path.{_≡_, refl, sym, _∙_}
 use mathlib.Core.Bool.{Bool, true, false, not, cond, _&&_, _||_, false≢true}

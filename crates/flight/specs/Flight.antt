@@ -69,7 +69,7 @@ module _ (x : Instance) (tableBytes : List ℕ) (t : Table) (calls : List Call) 
     pub frames-are : length (framesFlown tableBytes calls) ≡ plainAfter t calls .m
     -- every entry served stands for a job of the request, of some cycle: nothing else runs
     pub each-stands : (m p : ℕ) → Served (framesFlown tableBytes calls) m p → StandsForSome x (height t) (framesFlown tableBytes calls) m p
-    -- "each later entry of a frame startTime[s] g ticks after the one before ended"
+    -- "each later entry of a frame start[s] g ticks after the one before ended"
     pub silent-between : (m p : ℕ) → Served (framesFlown tableBytes calls) m (suc p) → starts m (suc p) ≡ ends m p + x .g
     -- each transfer ends in its frame, with the silent ticks after it
     pub ends-in-frame : (m p : ℕ) → Served (framesFlown tableBytes calls) m p → ends m p + x .g ≤ (m + 1) * t .f
@@ -78,7 +78,7 @@ module _ (x : Instance) (tableBytes : List ℕ) (t : Table) (calls : List Call) 
     pub by-deadline : (i j q m p : ℕ) → Started i j q m p → ends m p ≤ dueIn x q i j
     -- and it leaves time for its C before its deadline, however little it takes
     pub leaves-time : (i j q m p : ℕ) → Started i j q m p → starts m p + taskAt x i .c ≤ dueIn x q i j
-    -- "for a pair a, b, whenever job j of b in some cycle has started, job j of a in the same cycle had ended by that startTime"
+    -- "for a pair a, b, whenever job j of b in some cycle has started, job j of a in the same cycle had ended by that start"
     pub pairs-keep-order : (u : ℕ) → u < length (x .pairs) → (j q m p : ℕ) → Started (pairAt x u .b) j q m p
         → EndedBy (height t) (framesFlown tableBytes calls) ends (pairAt x u .a) j q (starts m p)
     -- every job of every cycle that is due by "the end of the last frame served", m·f, has run exactly once

@@ -28,7 +28,7 @@ pub record Served (frames : List (List Entry)) (m p : ℕ) : Type 0 where
 abbrev pub KeepToC : Instance → List (List Entry) → (ℕ → ℕ → ℕ) → Type 0
 KeepToC x frames actual = (m p : ℕ) → Served frames m p → actual m p ≤ taskAt x (servedAt frames m p .task) .c
 
--- "In frame m (from 0) the first entry served starts at m·f", and "each later entry of a frame startTime[s] g ticks after the one before ended"
+-- "In frame m (from 0) the first entry served starts at m·f", and "each later entry of a frame start[s] g ticks after the one before ended"
 unfoldable pub startTime : ℕ → ℕ → (ℕ → ℕ → ℕ) → ℕ → ℕ → ℕ
 startTime g f actual m zero = m * f
 startTime g f actual m (suc p) = startTime g f actual m p + actual m p + g

@@ -41,7 +41,7 @@ module _ (actual : ℕ → ℕ → ℕ) (k n took : ℕ) where
       go true q false w = refl
       go false q b w = refl
 
-  -- a startTime hangs on the times before it alone
+  -- a start depends on the times before it alone
   same-start : (g f m p : ℕ) → (m ≡ k → p ≤ n) → startTime g f (withExtra actual k n took) m p ≡ startTime g f actual m p
   unfolding startTime
   same-start g f m zero h = refl

@@ -1,5 +1,5 @@
--- The bounds where only what was served before the later startTime kept to its C. Cut all times at C: then all keep to it, and the flight's claim holds. Nothing that
--- was served before the later startTime is cut, so both starts stay.
+-- The bounds where only what was served before the later start kept to its C. Cut all times at C: then all keep to it, and the flight's claim holds. Nothing that
+-- was served before the later start is cut, so both starts stay.
 use mathlib.Core.Path.{_≡_, refl, sym}
 use mathlib.Core.Logic.{_⊎_, inl, inr, ⊎-elim}
 use mathlib.Core.List.{List, []}
@@ -53,7 +53,7 @@ module _ (x : Instance) (frames : List (List Entry)) (actual : ℕ → ℕ → �
   cut-keeps m p s = omega arith
 
   module _ (n o : ℕ) (keep : KeepBefore x frames actual n o) where
-    -- a startTime up to the later one is not cut
+    -- a start up to the later one is not cut
     same-start : (f m p : ℕ) → m < length frames → p ≤ length (getD frames m []) → (m < n) ⊎ ((m ≡ n) × (p ≤ o))
         → startTime (x .g) f cutAtC m p ≡ startTime (x .g) f actual m p
     unfolding startTime

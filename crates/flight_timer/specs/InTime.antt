@@ -113,7 +113,7 @@ module _ (x : Instance) (tableBytes : List ℕ) (t : Table) (calls : List Regist
     pub same-answers : heardIn calls ≡ flown.answersGiven tableBytes (dispatcherCalls calls)
     -- and the dispatcher in the timer stands where it does after them
     pub same-state : timerAfter calls .state ≡ flown.stateAfter tableBytes (dispatcherCalls calls)
-    -- "a frame starting at its event": as many starts as frames, and frame m starts when the flight has it startTime
+    -- "a frame starting at its event": as many starts as frames, and frame m starts when the flight has it start
     pub each-starts : length (frameStarts (t .f) calls) ≡ length (flown.framesFlown tableBytes (dispatcherCalls calls))
     pub at-its-event : (m : ℕ) → m < length (flown.framesFlown tableBytes (dispatcherCalls calls)) → getD (frameStarts (t .f) calls) m 0 ≡ startTime (x .g) (t .f) actual m 0
     -- no frame is missed

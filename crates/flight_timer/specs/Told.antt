@@ -18,7 +18,7 @@ use Rattle.timer.specs.declared.Timer.{Timer}
 use Rattle.timer.specs.Registers.{isSet, sumShown, freshTimer, registerRead, afterWrite, changed, dueServed, noneServed, serving, reporting, lineOn}
 use Rattle.flight_timer.specs.Calls.{RegisterCall, event, line, onWrite, onEvent, onServe, onReport, nothing, turn, registerAnswers, timerAfter, numberAnswered}
 
--- Control: as it was last afterWrite, and 0 if it never was
+-- Control: as it was last written, and 0 if it never was
 
 abbrev pub controlThen : ℕ → RegisterCall → ℕ
 controlThen last c = onWrite (λ address value. cond (eqb address 0) value last) last c

@@ -142,7 +142,7 @@ module _ (a b : ℕ) (lost : Losses) (frame : Frame) (s : Link) where
   pub frame-exchanged : frame .refusal ≡ 0 → servedIn a b lost frame s ≡ exchangedIn a b lost frame s
   frame-exchanged z = rw (eq-eqb (frame .refusal) 0 z)
 
--- A call is refusedExchange, or what passes the check and is a pair gets its frame served: what holds of both holds of its answer.
+-- A call is refused, or what passes the check and is a pair gets its frame served: what holds of both holds of its answer.
 module _ (a b : ℕ) (lost : Losses) (request bytes : List ℕ) (s : Link) where
   abbrev frame : Frame
   frame = nextFrame (decode bytes) (s .state)

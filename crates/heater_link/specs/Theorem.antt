@@ -1,4 +1,4 @@
--- The law of the heater link holds over every list of calls. Call by call the two ends take what arrives, and a refusedExchange call is a frame in which nothing does:
+-- The law of the heater link holds over every list of calls. Call by call the two ends take what arrives, and a refused call is a frame in which nothing does:
 -- so their law is the link's.
 use Prim.Native.Nat.{ℕ, zero, suc, _≤_, _<_}
 use mathlib.Core.Path.{_≡_, refl, sym, ap, _∙_}
@@ -174,6 +174,6 @@ module _ (asks : List Ask) where
       ⊎-elim (λ v. absurd (omega (arith, ordered m .rise p q v l)))
       (λ v. ⊎-elim (λ u. absurd (omega (arith, ordered m .rise q p u h))) (λ u. omega arith) (lt-or-ge q p)) (lt-or-ge p q)
 
--- THE THEOREM: for every list of calls, refusedExchange ones among them, and every pattern of losses.
+-- THE THEOREM: for every list of calls, refused ones among them, and every pattern of losses.
 pub link-law : LinkHolds
 link-law asks = record { lawful = lawful asks; command-before = command-before asks; once-served = once-served asks }

@@ -1,5 +1,5 @@
 -- Three boards: it is the same request whether the first two are joined first or the last two, as far as one of the two ways comes to a request.
--- Both ways come to the three lists of tasks one behind the other, and the third's pairs are raisedBy by the tasks of the first and the second.
+-- Both ways come to the three lists of tasks one behind the other, and the third's pairs are raised by the tasks of the first and the second.
 use Prim.Native.Nat.{ℕ, _+_}
 use mathlib.Core.Path.{_≡_, refl, sym, ap, ap₂, _∙_}
 use mathlib.Core.List.{List, [], _∷_, _++_, map, map-append, append-assoc}

@@ -84,7 +84,7 @@ unless-refused zero r ne = absurd (ne refl)
 unless-refused (suc number) r ne = refl
 
 module _ (first second out : List ℕ) where
-  -- what is requestAnswered, and left in the buffer, is what joining comes to
+  -- what is answered, and left in the buffer, is what joining comes to
   abbrev pub Hands : Written → List ℕ → Type 0
   Hands w out′ = (w ≡ requestAnswer (joined (reading first) (reading second)) out) × (out′ ≡ requestBuffer (joined (reading first) (reading second)) out)
 

@@ -8,11 +8,11 @@ use Rattle.request.specs.Request.{Reading, readable, unreadable}
 use Rattle.request.specs.declared.Task.{Task}
 use Rattle.request.specs.declared.Pair.{Pair}
 
--- "with numbers raisedBy by the first's n"
+-- "with numbers raised by the first's n"
 abbrev pub raisedBy : ℕ → Pair → Pair
 raisedBy n q = record { a = q .a + n; b = q .b + n }
 
--- "the first's tasks, then the second's with numbers raisedBy by the first's n, pairs likewise"
+-- "the first's tasks, then the second's with numbers raised by the first's n, pairs likewise"
 abbrev pub joinedTasks : List Task → List Task → List Task
 joinedTasks tasks tasks′ = tasks ++ tasks′
 

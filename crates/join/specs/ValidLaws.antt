@@ -1,6 +1,6 @@
 -- R-4: what joining writes is the joined file, and it reads as valid; 164 bytes are enough for it.
 -- A task keeps its rule wherever it stands. A pair of the first request names the same tasks as before, and one of the second too, since both its
--- numbers are raisedBy by the number of tasks in front.
+-- numbers are raised by the number of tasks in front.
 use Prim.Native.Nat.{ℕ, zero, suc, _+_, _-_, _≤_, _<_}
 use mathlib.Core.Path.{_≡_, refl, sym, ap, subst₂, _∙_}
 use mathlib.Core.Logic.{_⊎_, inl, inr, _≢_}

@@ -1,4 +1,4 @@
--- The chosen plan, in the words of 01's 'Choosing', with the tries that the choice takes, and what it is to be right. One recursion answers the
+-- The chosen plan, in the words of 01's "Choosing", with the tries that the choice takes, and what it is to be right. One recursion answers the
 -- choice and the tries, those of each length that was tried up to the chosen one. Nothing in it depends on how many tries are allowed.
 use mathlib.Core.Path.{_≡_}
 use mathlib.Core.Bool.{Bool, true, false, cond, _&&_}
@@ -36,7 +36,7 @@ problemAt x f = record {
   f = f;
 }
 
--- the length and the frames of the chosen plan; or 10: some plausible f, no plan; or 9: no plausible f
+-- the length and the frames of the chosen plan; or 10: "some plausible f, no plan"; or 9: "no plausible f"
 pub data Choice : Type 0 where
   chosen : ℕ → List ℕ → Choice
   noPlan : Choice

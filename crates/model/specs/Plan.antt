@@ -1,4 +1,4 @@
--- A plan of a request, in the words of 01's 'A plan'. A plan gives each job of the cycle its frame; jobs are named by their place in
+-- A plan of a request, in the words of 01's "A plan". A plan gives each job of the cycle its frame; jobs are named by their place in
 -- planning order, so the frames of a plan are a list of numbers, the frame of the first job first.
 use mathlib.Core.Path.{_≡_}
 use mathlib.Core.List.{List, map}

@@ -1,4 +1,4 @@
--- Plausible frame lengths, in the words of 01's 'Choosing' and of R-5; and what it is that they are necessary and that the rule is exact.
+-- Plausible frame lengths, in the words of 01's "Choosing" and of R-5; and what it is that they are necessary and that the rule is exact.
 use mathlib.Core.Path.{_≡_}
 use mathlib.Core.Bool.{Bool, true, cond, _&&_}
 use mathlib.Core.List.{List, [], _∷_}

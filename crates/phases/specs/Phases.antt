@@ -12,7 +12,7 @@ use Rattle.plan_writer.specs.Outcome.{Outcome, handed, refusal}
 use Rattle.planner.specs.Outcome.{outcomeWithin}
 use Rattle.phases.specs.declared.PhaseCounts.{PhaseCounts}
 
--- The request with the phase p for task i: "n records of four u16: C, T, D, P" stand behind the first byte, so that its P is the two bytes at 7 + 8·i.
+-- The request with the phase p for task i: "n records of four u16: C .., T .., D .., P .." stand behind the first byte, so that its P is the two bytes at 7 + 8·i.
 -- All other bytes are the request's own.
 unfoldable pub withPhase : List ℕ → ℕ → ℕ → List ℕ
 withPhase request i p = take (7 + 8 * i) request ++ wordBytes p ++ drop (9 + 8 * i) request

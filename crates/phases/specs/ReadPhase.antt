@@ -60,7 +60,7 @@ pub record Held (r : Request) : Type 0 where
 pub held : {r : Request} {i : ℕ} → Countable r i → Held r
 held {r} {i} c = go (c .as-read .read) (c .as-read .is) (c .as-read .kept) (as-read-cycle (c .as-read))
   where
-    -- 7 and 8 are not cycleAnswered
+    -- 7 and 8 are not answered
     by-tests : (tasks : List Task) (pairs : List Pair) (g : ℕ) → r ≡ request.requestAnswered (readable tasks pairs g) → KeptReading (readable tasks pairs g)
         → (s t : Bool) → ltb 10000 (hyperperiod tasks) ≡ s → ltb 128 (length (allJobs tasks (hyperperiod tasks))) ≡ t
         → cycleFor r ≡ cond s (noCycle 7) (cond t (noCycle 8) (cycle tasks pairs g (hyperperiod tasks) (planned tasks (hyperperiod tasks)))) → Held r

@@ -1,4 +1,4 @@
--- The ways out of the functions: one count raised, a request refused, an unknown task, and the phases phaseCounts.
+-- The ways out of the functions: one count raised, a request refused, an unknown task, and the phases counted.
 use Prim.Native.Nat.{ℕ, _+_, _≤_, _<_}
 use mathlib.Core.Path.{_≡_, sym, ap, _∙_}
 use mathlib.Core.List.{List}
@@ -64,7 +64,7 @@ module _ (counts : PhaseCounts) (number : ℕ) where
         pub no-more : (number ≡ 23 → ⊥) → Raises (counts .tables) (counts .nines) (counts .tens) (counts .ended)
         no-more end = parts (omega (arith, no 0 table)) (omega (arith, no 9 nine)) (omega (arith, no 10 ten)) (omega (arith, no 23 end))
 
--- The whole call: what the reader and the cycle cycleAnswered for the bytes
+-- The whole call: what the reader and the cycle answered for the bytes
 
 module _ (bytes : List ℕ) (r : Request) (read : r ≡ request.requestAnswered (reading bytes)) (d : answer.Cycle) (is : d ≡ cycleAnswered (cycleFor r)) (i : ℕ) where
   cycle-is : d ≡ cycleAnswered (cycleOf bytes)

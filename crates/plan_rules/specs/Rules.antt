@@ -1,4 +1,4 @@
--- The rules of a plan as tests, in the words of 01's 'A plan', of the frames of its jobs.
+-- The rules of a plan as tests, in the words of 01's "A plan", of the frames of its jobs.
 use Prim.Native.Nat.{ℕ, _+_, _*_}
 use mathlib.Core.Bool.{Bool, true, cond, _&&_}
 use mathlib.Core.List.{List}

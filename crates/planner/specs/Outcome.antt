@@ -14,7 +14,7 @@ use Rattle.model.specs.Described.{planTable}
 use Rattle.plan_writer.specs.Outcome.{Outcome, handed, refusal, outcomeAnswer}
 use Rattle.planner.specs.declared.Searched.{Searched}
 
--- 9: no plausible f; 10: some plausible f, no plan
+-- 9: "no plausible f"; 10: "some plausible f, no plan"
 abbrev pub byChoice : Instance → Choice → Outcome
 byChoice x (chosen f frames) = handed (planTable x f frames)
 byChoice x noPlan = refusal 10

@@ -1,4 +1,4 @@
--- The bytes of a request, in the words of 01's 'Request file'.
+-- The bytes of a request, in the words of 01's "Request file".
 use Prim.Native.Nat.{ℕ, zero, suc}
 use mathlib.Core.Path.{_≡_}
 use mathlib.Core.List.{List, [], _∷_, _++_, flatMap}

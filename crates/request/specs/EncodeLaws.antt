@@ -222,7 +222,7 @@ module _ (bytes : List ℕ) (tasks : List Task) (pairs : List Pair) (g : ℕ) (e
   kept : Readable tasks pairs
   kept = readable-kept bytes tasks pairs g e
 
-  -- 1: bytes end inside a section or before its count; the third section alone may be left out
+  -- 1: "bytes end inside a section or before its count"; the third section alone may be left out
   pub cut-short : (j : ℕ) → j < length bytes → (j ≡ length (twoSections tasks pairs) → ⊥) → reading (take j bytes) ≡ unreadable 1
   cut-short j h ne = let w = encode-read in rw (← w .whole) (go (w .third) (w .says) (omega (arith, ap length (w .whole), length-append two (w .third))) (lt-or-ge j (length two)))
     where

@@ -1,4 +1,4 @@
--- What a readable request keeps: the form under 01's 'Request file', as facts; and which numbers a refusal has.
+-- What a readable request keeps: the form under 01's "Request file", as facts; and which numbers a refusal has.
 use Prim.Native.Nat.{ℕ, _≤_, _<_}
 use mathlib.Core.Path.{_≡_}
 use mathlib.Core.List.{List}

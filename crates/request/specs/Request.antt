@@ -19,7 +19,7 @@ noPair = record { a = 0; b = 0 }
 unfoldable pub taskRule : Task → Bool
 taskRule x = leb 1 (x .c) && (leb (x .c) (x .d) && (leb (x .d) (x .t) && ltb (x .p) (x .t)))
 
--- "records of four u16: C (worst transfer time), T (period), D (deadline after release), P (phase)"; 3: a task breaks its inequalities
+-- "records of four u16: C (worst transfer time), T (period), D (deadline after release), P (phase)"; 3: "a task breaks its inequalities"
 unfoldable pub judgedTask : Task → List ℕ → Parsed Task
 judgedTask x rest = cond (taskRule x) (got x rest) (refused 3)
 
@@ -31,11 +31,11 @@ taskOf bytes =
     then (wordOf 1 rest) (λ p rest. judgedTask (record { c = c; t = t; d = d; p = p }) rest))))
 
 -- "Sections stand in a fixed order, each after its count.": a count that `test` lets through, or `number`, and then as many records;
--- 1: bytes end inside a section or before its count
+-- 1: "bytes end inside a section or before its count"
 abbrev pub section : {A : Type 0} → (ℕ → Bool) → (List ℕ → Parsed A) → ℕ → List ℕ → Parsed (List A)
 section test one number bytes = then (byteOf 1 bytes) (λ n rest. cond (test n) (records one n [] rest) (refused number))
 
--- "First: task count n (one byte, 1 to 16), then n records"; 2: n is 0 or above 16
+-- "First: task count n (one byte, 1 to 16), then n records"; 2: "n is 0 or above 16"
 abbrev pub taskCount : ℕ → Bool
 taskCount n = leb 1 n && leb n 16
 
@@ -50,14 +50,14 @@ periodOf tasks i = getD tasks i noTask .t
 unfoldable pub pairRule : List Task → ℕ → ℕ → Bool
 pairRule tasks a b = ltb a b && (ltb b (length tasks) && eqb (periodOf tasks a) (periodOf tasks b))
 
--- "pairs of bytes a, b"; 5: a pair breaks its rule
+-- "pairs of bytes a, b"; 5: "a pair breaks its rule"
 unfoldable pub judgedPair : List Task → ℕ → ℕ → List ℕ → Parsed Pair
 judgedPair tasks a b rest = cond (pairRule tasks a b) (got (record { a = a; b = b }) rest) (refused 5)
 
 unfoldable pub pairOf : List Task → List ℕ → Parsed Pair
 pairOf tasks bytes = then (byteOf 1 bytes) (λ a rest. then (byteOf 1 rest) (λ b rest. judgedPair tasks a b rest))
 
--- "Second: pair count (one byte, 0 to 16), then pairs"; 4: pair count above 16
+-- "Second: pair count (one byte, 0 to 16), then pairs"; 4: "pair count above 16"
 abbrev pub pairCount : ℕ → Bool
 pairCount m = leb m 16
 

@@ -1,4 +1,4 @@
--- Demand 2 over the answers of the public calls: "a written table reads back as the same plan". The bytes that planning hands out pass the check, are read as
+-- Demand 2 over the answers of the public calls: a written table reads back as the same plan. The bytes that planning hands out pass the check, are read as
 -- the chosen plan, and are written again as they are.
 use Prim.Native.Nat.{ℕ, _≤_}
 use mathlib.Core.Path.{_≡_}

@@ -31,7 +31,7 @@ module _ (request bytes : List ℕ) where
   unfolding rewritten
   rewritten-refused n is = ap (planRead (cycleOf request)) is
 
-  -- what is cycleAnswered, and left in the buffer, is the outcome's
+  -- what is answered, and left in the buffer, is the outcome's
   abbrev pub Hands : List ℕ → Written → List ℕ → Type 0
   Hands out w out′ = (w ≡ outcomeAnswer (rewritten request bytes) out) × (out′ ≡ outcomeBuffer (rewritten request bytes) out)
 

@@ -106,7 +106,7 @@ pub record Going (u : Rules) (rows : ℕ) (ps : List Bool) (due marks words : Li
   pub times : Due u ps (u .n) due
   pub memory : Memory u rows marks words
 
--- what an answer "no" of `run` says: the rest of row p fails; if the next row was begun, that fails too; and flags and times are as before
+-- what the answer no of `run` says: the rest of row p fails; if the next row was begun, that fails too; and flags and times are as before
 pub record Failed (u : Rules) (rows p i room : ℕ) (ps : List Bool) (due : List ℕ) (e : ℕ) (ps′ : List Bool) (due′ marks′ words′ : List ℕ) : Type 0 where
   pub fails : Rest u rows p i ps room
   pub next : p < e → From u rows (p + 1) ps
@@ -114,7 +114,7 @@ pub record Failed (u : Rules) (rows p i room : ℕ) (ps : List Bool) (due : List
   pub same-due : due′ ≡ due
   pub memory : Memory u rows marks′ words′
 
--- what an answer "no" of `put` says: putting job i into row p fails
+-- what the answer no of `put` says: putting job i into row p fails
 pub record NotPut (u : Rules) (rows p i room : ℕ) (ps : List Bool) (due : List ℕ) (ps′ : List Bool) (due′ marks′ words′ : List ℕ) : Type 0 where
   pub fails : Putting u rows p i ps room
   pub same : ps′ ≡ ps

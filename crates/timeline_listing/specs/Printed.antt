@@ -59,7 +59,7 @@ module _ (request : List ℕ) (t : Table) where
 pub record PrintedExact (request : List ℕ) : Type 0 where
   -- "prints `refused N`": where planning is refused, and only there
   pub refused-line : (number : ℕ) → programOutcome request ≡ outcome.refusal number → timelineText request ≡ refusedLine number
-  -- "or the records one a line .., then `busy B`, where B is the sum of C over the printedTimeline jobs"
+  -- "or the records one a line .., then `busy B`, where B is the sum of C over the printed jobs"
   pub never-refused : (t : Table) → programOutcome request ≡ outcome.handed t → filledAll request t .refusal ≡ 0
   pub lines-are : (t : Table) → programOutcome request ≡ outcome.handed t → timelineText request ≡ timelineLines (tasksIn (reading request)) (recordsFilled request t)
   -- "and equals the busy ticks of all rows added up": of the rows that `plan` prints

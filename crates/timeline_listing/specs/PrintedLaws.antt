@@ -1,4 +1,4 @@
--- What is printedTimeline for a planned table is what `fill` leaves for it: the table describes a plan, so the check accepts it, and 128 places are enough.
+-- What is printed for a planned table is what `fill` leaves for it: the table describes a plan, so the check accepts it, and 128 places are enough.
 use Prim.Native.Nat.{ℕ, _≤_}
 use mathlib.Core.Path.{_≡_, refl, sym, ap, subst}
 use mathlib.Core.List.{List}

@@ -217,7 +217,7 @@ module _ (t : Timer) where
 
 -- serve
 
--- a frame as it is requestAnswered, with the timer after it
+-- a frame as it is answered, with the timer after it
 abbrev pub answeredWith : Frame → Timer → FrameServed
 answeredWith a t = record { refusal = a .refusal; count = a .count; tasks = a .tasks; jobs = a .jobs; timer = t }
 
@@ -237,7 +237,7 @@ module _ (d : Decoded) (t : Timer) where
     unfolding serving
     serve-made e = rw (due, eq-eqb (nextFrame d (t .state) .refusal) 0 e)
 
--- the status after a serving that was requestAnswered with this number
+-- the status after a serving that was answered with this number
 abbrev pub servedStatus : ℕ → Status → Status
 servedStatus number s = record { due = s .due && not (eqb number 0); overrun = s .overrun; missed = s .missed }
 

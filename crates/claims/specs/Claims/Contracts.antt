@@ -127,7 +127,7 @@ contracts-met = record {
   bus-timeline = Rattle.bus.proofs.timeline.bus_timeline.Met.met;
 }
 
--- R-3's test of a job in a frame, `place::may_stand`, is no call of a user. It requires what R-3 says: Testing of searcher/specs/Arrays, which has LoadsKept.
+-- R-3's test of a job in a frame, `searcher::may_stand`, is no call of a user. It requires what R-3 says: Testing of searcher/specs/Arrays, which has LoadsKept.
 abbrev pub Tested : Type 1 → Type 2
 Tested M = Rattle.searcher.proofs.may_stand.Statement.statement M
 

@@ -1,4 +1,4 @@
--- The loop keeps that the array holds the first's pairs, then the second's before pair i, raisedBy, and nothing behind.
+-- The loop keeps that the array holds the first's pairs, then the second's before pair i, raised, and nothing behind.
 use borrow.Author.Needs.{needs}
 use Prim.Native.Nat.{_≤_, _-_, _+_}
 use mathlib.Core.Path.{_≡_}

@@ -1,4 +1,4 @@
--- The timer is read and afterWrite to, and only an answer without a refusal is stored.
+-- The timer is read and written to, and only an answer without a refusal is stored.
 use mathlib.Core.Path.{_≡_, sym, _∙_}
 use mathlib.Core.Bool.{true}
 use borrow.Author.Tests.{not-true, not-false}
