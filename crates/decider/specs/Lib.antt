@@ -1,7 +1,5 @@
 -- To be believed:
 pub mod Decided
--- How answers stand in types:
-pub mod Choices
 -- Theorems:
 pub mod DecidedLaws
 -- Laws:

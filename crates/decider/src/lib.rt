@@ -1,9 +1,10 @@
 // The exact planner: every request within the limits is decided, with no allowance. A request becomes the table of its chosen plan, or the
 // number that says why there is none: what the full search comes to. The plain search goes first, for a few tries; where they do not suffice, the
-// exact search is made.
+// exact search is made, of the same lengths.
 use cursor::Written;
 use cycle::Cycle;
 use exact_searcher::FirstPlacing;
+use planner::choose::ChosenPlan;
 use problem::JobLinks;
 ghost use mathlib.Core.Path.{_≡_};
 ghost use mathlib.Core.List.{[]};
@@ -14,16 +15,8 @@ ghost use Rattle.model.specs.Chosen.{problemAt};
 ghost use Rattle.model.specs.Chosen as chosen;
 ghost use Rattle.plan_writer.specs.Outcome.{outcomeAnswer, outcomeBuffer};
 ghost use Rattle.planner.specs.Outcome.{outcome};
-ghost use Rattle.planner.specs.Choices.{Searchable};
+ghost use Rattle.planner.specs.Choices.{Searchable, choiceAnswer};
 ghost use Rattle.exact_searcher.specs.Arrays.{foundAnswer};
-ghost use Rattle.decider.specs.Choices.{noneDecided, decision};
-
-// The frame length and the frame of each job of the chosen plan; or 9 or 10.
-struct Decision {
-    refusal: u8,
-    f: u16,
-    frames: [u16; 128],
-}
 
 // The first plan with frames of length f.
 fn plan_with(cycle: Cycle, cost: [u32; 128], links: JobLinks, f: u16) -> FirstPlacing
@@ -34,47 +27,46 @@ fn plan_with(cycle: Cycle, cost: [u32; 128], links: JobLinks, f: u16) -> FirstPl
     exact_searcher::place_all(given)
 }
 
-fn none_decided(refusal: u8) -> Decision
-    ensures { λ r. ⌜ r ≡ noneDecided refusal ⌝ }
-{
-    Decision {
-        refusal,
-        f: 0,
-        frames: [0; 128],
-    }
-}
-
-// The chosen plan: that of the first length with a plan.
-fn choose(cycle: Cycle) -> Decision
+// The chosen plan by the exact search: that of the first length with a plan. It counts no tries.
+fn choose_exactly(cycle: Cycle) -> ChosenPlan
     requires { ⌜ InLimits cycle ⌝ }
-    ensures { λ r. ⌜ r ≡ decision (chosen.choose (instanceOf cycle)) ⌝ }
+    ensures { λ r. ⌜ r ≡ choiceAnswer (chosen.choose (instanceOf cycle)) 0 ⌝ }
 {
     let cost = problem::costs(cycle);
     let links = problem::links(cycle);
     let mut some = false;
-    let mut rows: u16 = 1;
-    while rows <= 256 {
-        if !planner::choose::is_tried(cycle, rows) {
-            rows += 1;
-            continue;
-        }
+    let mut rows = planner::choose::next_tried(cycle, 0);
+    while rows <= planner::choose::MOST_ROWS {
         some = true;
         let f = cycle.h / rows;
         let plan = plan_with(cycle, cost, links, f);
         if plan.found {
             let frames = plan.frames;
-            return Decision {
+            return ChosenPlan {
                 refusal: 0,
                 f,
                 frames,
+                tries: 0,
             };
         }
-        rows += 1;
+        rows = planner::choose::next_tried(cycle, rows);
     }
-    if some {
-        return none_decided(10);
+    planner::choose::none_left(some, 0)
+}
+
+// What the plain search is allowed before the exact one begins: so a request that is planned at once costs what `plan` costs.
+pub const EASY_TRIES: u64 = 10_000;
+
+// The chosen plan: as the plain search chooses, if a few tries suffice; else as the exact one does.
+fn choose(cycle: Cycle) -> ChosenPlan
+    requires { ⌜ InLimits cycle ⌝ }
+    ensures { λ r. ⌜ r ≡ choiceAnswer (chosen.choose (instanceOf cycle)) (r .tries) ⌝ }
+{
+    let easy = planner::choose::choose(cycle, EASY_TRIES);
+    if easy.refusal != 23 {
+        return easy;
     }
-    none_decided(9)
+    choose_exactly(cycle)
 }
 
 fn refused(number: u8) -> Written
@@ -86,8 +78,8 @@ fn refused(number: u8) -> Written
     }
 }
 
-// The chosen plan by the exact search, written into `out`.
-fn decide_exactly(request: &[u8], out: &mut [u8]) -> Written
+// The table of the request's chosen plan, written into `out`; or a refusal, from 1 to 11 or 17, which leaves `out` as it was.
+pub fn decide(request: &[u8], out: &mut [u8]) -> Written
     ensures { λ r. ⌜ (r ≡ outcomeAnswer (outcome (now (request .entry))) (now (out .entry)))
         × (now (out .exit) ≡ outcomeBuffer (outcome (now (request .entry))) (now (out .entry))) ⌝ }
 {
@@ -101,22 +93,4 @@ fn decide_exactly(request: &[u8], out: &mut [u8]) -> Written
     }
     let frames = chosen.frames;
     plan_writer::write(cycle, chosen.f, frames, out)
-}
-
-// What the plain search is allowed before the exact one begins: so a request that is planned at once costs what `plan` costs.
-pub const EASY_TRIES: u64 = 10_000;
-
-// The table of the request's chosen plan, written into `out`; or a refusal, from 1 to 11 or 17, which leaves `out` as it was.
-pub fn decide(request: &[u8], out: &mut [u8]) -> Written
-    ensures { λ r. ⌜ (r ≡ outcomeAnswer (outcome (now (request .entry))) (now (out .entry)))
-        × (now (out .exit) ≡ outcomeBuffer (outcome (now (request .entry))) (now (out .entry))) ⌝ }
-{
-    let easy = planner::plan(request, EASY_TRIES, out);
-    if easy.refusal != 23 {
-        return Written {
-            refusal: easy.refusal,
-            length: easy.length,
-        };
-    }
-    decide_exactly(request, out)
 }

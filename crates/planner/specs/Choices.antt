@@ -1,17 +1,17 @@
 -- The answers of the functions that choose, and what they ask of their arguments.
-use Prim.Native.Nat.{ℕ}
+use Prim.Native.Nat.{ℕ, _≤_, _<_}
 use mathlib.Core.Path.{_≡_}
-use mathlib.Core.Bool.{true, cond}
+use mathlib.Core.Bool.{true, false, cond}
 use mathlib.Core.List.{List}
 use lib.ListN.{replicate}
 use lib.Dec.{ltb}
 use Rattle.cursor.specs.Padded.{padded}
 use Rattle.cycle.specs.declared.Cycle.{Cycle}
-use Rattle.model.specs.Plan.{costs}
+use Rattle.model.specs.Plan.{Instance, costs}
 use Rattle.model.specs.Answers.{instanceOf}
 use Rattle.model.specs.Within.{InLimits}
 use Rattle.model.specs.Plausible.{plausible}
-use Rattle.model.specs.Chosen.{Choice, chosen, noPlan, noPlausible, ChoiceWalk}
+use Rattle.model.specs.Chosen.{Choice, chosen, noPlan, noPlausible, isTried, ChoiceWalk}
 use Rattle.problem.specs.Answers.{linksAnswer}
 use Rattle.problem.specs.declared.JobLinks.{JobLinks}
 use Rattle.planner.specs.declared.choose.ChosenPlan.{ChosenPlan}
@@ -35,3 +35,10 @@ pub record Searchable (c : Cycle) (cost : List ℕ) (links : JobLinks) (f : ℕ)
   pub plausible-is : plausible (instanceOf c) f ≡ true
   pub cost-is : cost ≡ padded 128 0 (costs (instanceOf c))
   pub links-are : links ≡ linksAnswer (instanceOf c)
+
+-- the number of rows that is tried next after this one; 257 where none is left
+pub record NextTried (x : Instance) (rows next : ℕ) : Type 0 where
+  pub most : next ≤ 257
+  pub behind : rows ≤ 256 → rows < next
+  pub tried : next ≤ 256 → isTried x next ≡ true
+  pub passed : (k : ℕ) → rows < k → k < next → isTried x k ≡ false

@@ -11,6 +11,7 @@ pub mod Moved
 -- Laws:
 pub mod HandedBytesLaws
 pub mod LengthLaws
+pub mod TriedLaws
 pub mod ChoiceLaws
 pub mod PlanLaws
 pub mod TableLaws

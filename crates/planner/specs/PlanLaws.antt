@@ -54,6 +54,13 @@ not-within a s number e =
     let none : requestTries s ≡ 0 = ap triesIn e in
     refusal-handed a s number 0 (within-reached a s (omega arith) ∙ ap inCycle e) (omega arith)
 
+-- an answer has the tries that were counted
+pub counted-tries : (o : Choice) {p : ChosenPlan} {tries : ℕ} → p ≡ choiceAnswer o tries → p .tries ≡ tries
+unfolding choiceAnswer
+counted-tries (chosen f frames) q = ap (λ (y : ChosenPlan). y .tries) q
+counted-tries noPlan q = ap (λ (y : ChosenPlan). y .tries) q
+counted-tries noPlausible q = ap (λ (y : ChosenPlan). y .tries) q
+
 -- it is within the limits
 module _ (s : List ℕ) (d : c.Cycle) (t : Taken s d) where
   abbrev x : Instance
@@ -67,62 +74,72 @@ module _ (s : List ℕ) (d : c.Cycle) (t : Taken s d) where
   unfolding requestTries
   tries-are = ap triesIn (t .within)
 
+  -- the choice was searched to its end, however many tries were counted: it is a refusal
+  pub choice-refused : {p : ChosenPlan} (tries : ℕ) → p ≡ choiceAnswer (choose x) tries → (p .refusal ≡ 0 → ⊥) → outcome s ≡ refusal (p .refusal)
+  unfolding choiceAnswer
+  choice-refused {p} tries p-is ne = outcome-is ∙ go (choose x) p-is
+    where
+      go : (o : Choice) → p ≡ choiceAnswer o tries → byChoice x o ≡ refusal (p .refusal)
+      go (chosen f frames) q = absurd (ne (ap (λ (y : ChosenPlan). y .refusal) q))
+      go noPlan q = ap refusal (sym (ap (λ (y : ChosenPlan). y .refusal) q))
+      go noPlausible q = ap refusal (sym (ap (λ (y : ChosenPlan). y .refusal) q))
+
+  -- or a plan, and it is written
+  pub choice-written : {p : ChosenPlan} (tries : ℕ) → p ≡ choiceAnswer (choose x) tries → p .refusal ≡ 0 → (out : List ℕ) {w : Written} {out′ : List ℕ}
+      → w ≡ planWritten x (p .f) (p .frames) out → out′ ≡ planBuffer x (p .f) (p .frames) out
+      → (w ≡ outcomeAnswer (outcome s) out) × (out′ ≡ outcomeBuffer (outcome s) out)
+  unfolding choiceAnswer RightBy
+  choice-written {p} tries p-is z out {w} {out′} w-is out-is = rw outcome-is (go (choose x) p-is (choose-right x (t .limits .good)))
+    where
+      go : (o : Choice) → p ≡ choiceAnswer o tries → RightChoice x o → (w ≡ outcomeAnswer (byChoice x o) out) × (out′ ≡ outcomeBuffer (byChoice x o) out)
+      go (chosen f frames) q r =
+          let written = plan-written x (t .limits .good) f frames out (r .is-plan .all) in
+          let table = planTable x f frames in
+          (w-is ∙ rw q (written .0) ∙ sym (table-answer table out), out-is ∙ rw q (written .1) ∙ sym (table-buffer table out))
+      go noPlan q r = absurd (omega (arith, ap (λ (y : ChosenPlan). y .refusal) q))
+      go noPlausible q r = absurd (omega (arith, ap (λ (y : ChosenPlan). y .refusal) q))
+
   module _ (a : ℕ) (p : ChosenPlan) (p-is : p ≡ choiceWithin a (chooseWalk x)) where
-    -- the choice was searched to its end
-    reached-is : fullTries x ≤ a → p ≡ choiceAnswer (choose x) (fullTries x)
+    -- the tries ended first, or they did not
+    exceeded-is : ltb a (fullTries x) ≡ true → p ≡ noneChosen 23 a
     unfolding choiceWithin
-    reached-is h = p-is ∙ rw (le-ltb a (fullTries x) h)
+    exceeded-is e = p-is ∙ rw e
+
+    reached-is : ltb a (fullTries x) ≡ false → p ≡ choiceAnswer (choose x) (fullTries x)
+    unfolding choiceWithin
+    reached-is e = p-is ∙ rw e
 
     -- 9, 10 or 23
     pub none-chosen : (p .refusal ≡ 0 → ⊥) → (r : Searched) → (r .refusal ≡ p .refusal) × (r .length ≡ 0) × (r .tries ≡ p .tries)
         → (out : List ℕ) → Hands a s out r out
-    unfolding choiceAnswer choiceWithin
     none-chosen ne = go (ltb a (fullTries x)) refl
       where
-        by-choice : fullTries x ≤ a → (o : Choice) → p ≡ choiceAnswer o (fullTries x)
-            → (byChoice x o ≡ refusal (p .refusal)) × (p .tries ≡ fullTries x)
-        by-choice h (chosen f frames) q = absurd (ne (ap (λ (y : ChosenPlan). y .refusal) q))
-        by-choice h noPlan q = (ap refusal (sym (ap (λ (y : ChosenPlan). y .refusal) q)), ap (λ (y : ChosenPlan). y .tries) q)
-        by-choice h noPlausible q = (ap refusal (sym (ap (λ (y : ChosenPlan). y .refusal) q)), ap (λ (y : ChosenPlan). y .tries) q)
-
         go : (b : Bool) → ltb a (fullTries x) ≡ b → (r : Searched) → (r .refusal ≡ p .refusal) × (r .length ≡ 0) × (r .tries ≡ p .tries)
             → (out : List ℕ) → Hands a s out r out
         go true e =
             let h = ltb-true a (fullTries x) e in
-            let q : p ≡ noneChosen 23 a = p-is ∙ rw e in
+            let q = exceeded-is e in
             refusal-handed a s (p .refusal) (p .tries)
             (within-exceeded a s (omega (arith, tries-are)) ∙ ap refusal (sym (ap (λ (y : ChosenPlan). y .refusal) q)))
             (omega (arith, ap (λ (y : ChosenPlan). y .tries) q, tries-are))
         go false e =
             let h = ltb-false a (fullTries x) e in
-            let o = by-choice h (choose x) (reached-is h) in
-            refusal-handed a s (p .refusal) (p .tries) (within-reached a s (omega (arith, tries-are)) ∙ outcome-is ∙ o .0) (omega (arith, o .1, tries-are))
+            let q = reached-is e in
+            refusal-handed a s (p .refusal) (p .tries) (within-reached a s (omega (arith, tries-are)) ∙ choice-refused (fullTries x) q ne)
+            (omega (arith, counted-tries (choose x) q, tries-are))
 
     -- the chosen plan is written
     pub plan-chosen : p .refusal ≡ 0 → (out : List ℕ) {w : Written} {out′ : List ℕ} → w ≡ planWritten x (p .f) (p .frames) out
         → out′ ≡ planBuffer x (p .f) (p .frames) out → Hands a s out (record { refusal = w .refusal; length = w .length; tries = p .tries }) out′
-    unfolding choiceAnswer choiceWithin searchedAnswer RightBy
+    unfolding searchedAnswer
     plan-chosen z out {w} {out′} w-is out-is = go (ltb a (fullTries x)) refl
       where
-        by-choice : (o : Choice) → p ≡ choiceAnswer o (fullTries x) → RightChoice x o
-            → (w ≡ outcomeAnswer (byChoice x o) out) × (out′ ≡ outcomeBuffer (byChoice x o) out) × (p .tries ≡ fullTries x)
-        by-choice (chosen f frames) q r =
-            let written = plan-written x (t .limits .good) f frames out (r .is-plan .all) in
-            let table = planTable x f frames in (
-              w-is ∙ rw q (written .0) ∙ sym (table-answer table out),
-              out-is ∙ rw q (written .1) ∙ sym (table-buffer table out),
-              ap (λ (y : ChosenPlan). y .tries) q,
-            )
-        by-choice noPlan q r = absurd (omega (arith, ap (λ (y : ChosenPlan). y .refusal) q))
-        by-choice noPlausible q r = absurd (omega (arith, ap (λ (y : ChosenPlan). y .refusal) q))
-
         go : (b : Bool) → ltb a (fullTries x) ≡ b → Hands a s out (record { refusal = w .refusal; length = w .length; tries = p .tries }) out′
-        go true e =
-            let q : p ≡ noneChosen 23 a = p-is ∙ rw e in
-            absurd (omega (arith, ap (λ (y : ChosenPlan). y .refusal) q))
+        go true e = absurd (omega (arith, ap (λ (y : ChosenPlan). y .refusal) (exceeded-is e)))
         go false e =
             let h = ltb-false a (fullTries x) e in
-            let o = by-choice (choose x) (reached-is h) (choose-right x (t .limits .good)) in
-            let is : outcomeWithin a s ≡ byChoice x (choose x) = within-reached a s (omega (arith, tries-are)) ∙ outcome-is in
-            let tries : p .tries ≡ min a (requestTries s) = omega (arith, o .2, tries-are) in
-            rw is (λ i. record { refusal = o .0 i .refusal; length = o .0 i .length; tries = tries i }, o .1)
+            let q = reached-is e in
+            let o = choice-written (fullTries x) q z out w-is out-is in
+            let tries : p .tries ≡ min a (requestTries s) = omega (arith, counted-tries (choose x) q, tries-are) in
+            rw (within-reached a s (omega (arith, tries-are)))
+            (λ i. record { refusal = o .0 i .refusal; length = o .0 i .length; tries = tries i }, o .1)

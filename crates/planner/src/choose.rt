@@ -1,18 +1,18 @@
 // The choice of the frame length: plausible lengths are tried from the largest down, that is by 1, 2, .. 256 rows. One allowance of tries goes
-// through all of them.
+// through all of them. The exact planner goes through the same lengths (`next_tried`), with the same numbers for the search (`given_at`).
 use cycle::Cycle;
 use problem::JobLinks;
 use searcher::Given;
 use searcher::Placed;
 ghost use mathlib.Core.Path.{_≡_};
+ghost use mathlib.Core.Bool.{cond};
 ghost use mathlib.Core.List.{[]};
-ghost use Prim.Native.Nat.{min};
 ghost use Rattle.model.specs.Answers.{instanceOf};
 ghost use Rattle.model.specs.Within.{InLimits};
-ghost use Rattle.model.specs.Chosen.{problemAt, isTried, chooseWalk};
+ghost use Rattle.model.specs.Chosen.{problemAt, noPlan, noPlausible, isTried, chooseWalk};
 ghost use Rattle.search.specs.Placing.{planWalk};
 ghost use Rattle.searcher.specs.Arrays.{Placeable, problemOf, placedWithin};
-ghost use Rattle.planner.specs.Choices.{Searchable, choiceWithin, noneChosen};
+ghost use Rattle.planner.specs.Choices.{Searchable, NextTried, choiceAnswer, choiceWithin, noneChosen};
 
 // The frame length and the frame of each job of the chosen plan; or 9, 10 or 23. And the tries that were made.
 pub struct ChosenPlan {
@@ -53,7 +53,7 @@ fn plan_with(cycle: Cycle, cost: [u32; 128], links: JobLinks, f: u16, allowed: u
 }
 
 // Whether H/rows is a plausible length.
-pub fn is_tried(cycle: Cycle, rows: u16) -> bool
+fn is_tried(cycle: Cycle, rows: u16) -> bool
     ensures { λ r. ⌜ r ≡ isTried (instanceOf cycle) rows ⌝ }
 {
     if rows == 0 {
@@ -65,11 +65,23 @@ pub fn is_tried(cycle: Cycle, rows: u16) -> bool
     model::plausible(cycle, cycle.h / rows)
 }
 
-// The most rows that a length is tried with: no length has more rows than the cycle has ticks.
-fn most_rows(h: u16) -> u16
-    ensures { λ r. ⌜ r ≡ min h 256 ⌝ }
+// The most rows of a table.
+pub const MOST_ROWS: u16 = 256;
+
+// The next number of rows after this one whose length is plausible; one above the most, if there is none. No length has more rows than the cycle
+// has ticks.
+pub fn next_tried(cycle: Cycle, rows: u16) -> u16
+    ensures { λ r. ⌜ NextTried (instanceOf cycle) rows r ⌝ }
 {
-    if h < 256 { h } else { 256 }
+    let most = arith::at_most(cycle.h as usize, MOST_ROWS as usize) as u16;
+    let mut next = rows;
+    while next < most {
+        next += 1;
+        if is_tried(cycle, next) {
+            return next;
+        }
+    }
+    MOST_ROWS + 1
 }
 
 fn none_chosen(refusal: u8, tries: u64) -> ChosenPlan
@@ -83,6 +95,16 @@ fn none_chosen(refusal: u8, tries: u64) -> ChosenPlan
     }
 }
 
+// No length has a plan: 10, if some length was tried; else 9.
+pub fn none_left(some: bool, tries: u64) -> ChosenPlan
+    ensures { λ r. ⌜ r ≡ choiceAnswer (cond some noPlan noPlausible) tries ⌝ }
+{
+    if some {
+        return none_chosen(10, tries);
+    }
+    none_chosen(9, tries)
+}
+
 // The chosen plan of a cycle: that of the first length with a plan; or 23, where the search takes more tries than are allowed.
 pub fn choose(cycle: Cycle, allowed: u64) -> ChosenPlan
     requires { ⌜ InLimits cycle ⌝ }
@@ -90,15 +112,10 @@ pub fn choose(cycle: Cycle, allowed: u64) -> ChosenPlan
 {
     let cost = problem::costs(cycle);
     let links = problem::links(cycle);
-    let most = most_rows(cycle.h);
     let mut some = false;
     let mut left = allowed;
-    let mut rows: u16 = 1;
-    while rows <= most {
-        if !is_tried(cycle, rows) {
-            rows += 1;
-            continue;
-        }
+    let mut rows = next_tried(cycle, 0);
+    while rows <= MOST_ROWS {
         some = true;
         let f = cycle.h / rows;
         let plan = plan_with(cycle, cost, links, f, left);
@@ -115,10 +132,7 @@ pub fn choose(cycle: Cycle, allowed: u64) -> ChosenPlan
                 tries: allowed - left,
             };
         }
-        rows += 1;
+        rows = next_tried(cycle, rows);
     }
-    if some {
-        return none_chosen(10, allowed - left);
-    }
-    none_chosen(9, allowed - left)
+    none_left(some, allowed - left)
 }

@@ -2,7 +2,7 @@
 use mathlib.Core.Path.{sym, _∙_}
 use borrow.Author.Tests.{eq-eqb, ne-eqb}
 use Rattle.model.specs.Chosen.{isTriedBy}
-use Rattle.planner.specs.ChoiceLaws.{no-rows}
+use Rattle.planner.specs.TriedLaws.{no-rows}
 use borrow.Author.Needs.{needs}
 use Rattle.planner.proofs.choose.is_tried.Statement.{statement}
 use Rattle.planner.proofs.choose.is_tried.Tie as tie
