@@ -25,7 +25,7 @@ class Documents(unittest.TestCase):
     def test_names(self):
         for document in DOCUMENTS:
             with self.subTest(document):
-                self.assertEqual(faults(NAMES, NAMES.text(document)), [])
+                self.assertEqual(faults(NAMES, NAMES.text(document)), [], "names.py says how a name is given, and lists what is none")
 
     def planted(self, document, old, new, *found):
         """What is found where the document has other words in one place."""

@@ -1,4 +1,4 @@
-"""`bus c`: a table and its dispatcher as C source for any controller, compared with the library in every state."""
+"""`bus c`: a table and its dispatcher as C source for any controller, compared with the library."""
 
 import argparse
 import os

@@ -2,10 +2,10 @@
 
     source       the two files as text, from the templates
     c_names      tasks by names that C takes
-    comparison   what was written, compiled and compared with the library in every state
+    comparison   what was written, compiled and compared with the library
 
-The folder harness has the C of the comparison: states.c makes every call in every state, and both.c compares each with
-the library.
+The folder harness has the C of the comparison: states.c makes the calls, in the states that docs/CONTROLLER.md tells,
+and both.c compares each with the library.
 """
 
 from .c_names import is_prefix

@@ -1,4 +1,4 @@
-"""A controller's files, compiled by the host's C compiler and compared with the proved library in every state."""
+"""A controller's files, compiled by the host's C compiler and compared with the proved library."""
 
 import ctypes
 import hashlib

@@ -1,5 +1,5 @@
 /*
- * Compares controllers that `bus c` wrote with the proved library: every call in every state, and every
+ * Compares controllers that `bus c` wrote with the proved library: every call, in many states, and every
  * constant. `both` compares all subjects of the program, `both NUMBER` one of them. For each it prints a
  * line: NAME STATES CALLS, the states of next_frame and all calls; or NAME and what differs.
  */

@@ -1,4 +1,4 @@
-/* Every call in every state: each row and mark, rows that are too high, and what the registers may hold. */
+/* The calls in the states that are compared: each row and some marks, and what the registers may hold. */
 #include "states.h"
 
 #include <string.h>

@@ -1,5 +1,5 @@
 /*
- * The calls of a controller that `bus c` wrote, in every state: states.c makes them, and `visit` says what is
+ * The calls of a controller that `bus c` wrote, in many states: states.c makes them, and `visit` says what is
  * done with each. both.c compares it with the library; tests/digest.c sums up the answers where there is none.
  *
  * State and timer stand in the library's 72 bytes, and the entries in its 32, whoever is called.
@@ -54,7 +54,7 @@ struct subject {
 extern const struct subject *const subjects[];
 extern const size_t subject_count;
 
-/* Makes every call in every state. */
+/* Makes every call, in the states that are compared. */
 void all_states(const struct subject *subject);
 
 /* One call in the state of these bytes, which stay as they are. */
