@@ -30,8 +30,10 @@ demand-1 = contracts-met
 
 -- DEMAND 2: reading, cycle, jobs, lengths, table, check and dispatcher are the papers'.
 pub record Demand2 : Type 0 where
-  -- 01: "A task has 1 ≤ C ≤ D ≤ T and P < T. A pair has a < b < n and equal T"
-  pub request-keeps-form : (bytes : List ℕ) (tasks : List Task) (pairs : List Pair) (g : ℕ) → reading bytes ≡ readable tasks pairs g → Readable tasks pairs
+  -- 01: "Places are visited in this order; reading judges each count and record as it is met, from the front."
+  -- Which number, exactly, or what the bytes say; and no other answer.
+  pub request-answers : (bytes : List ℕ) → ReadExact bytes (requestAnswered (reading bytes))
+      × ((r : Request) → ReadExact bytes r → r ≡ requestAnswered (reading bytes))
   -- 01: "Sections stand in a fixed order, each after its count."
   pub request-read-back : (tasks : List Task) (pairs : List Pair) (g : ℕ) → Readable tasks pairs → g ≤ 15
       → reading (requestBytes tasks pairs g) ≡ readable tasks pairs g
@@ -41,8 +43,7 @@ pub record Demand2 : Type 0 where
       × ((j : ℕ) → j < length bytes → (j ≡ two → ⊥) → reading (take j bytes) ≡ unreadable 1) × (reading (take two bytes) ≡ readable tasks pairs 0)
       × (two < length bytes → (b : ℕ) (rest : List ℕ) → reading (bytes ++ (b ∷ rest)) ≡ unreadable 6)
   -- 01, "Where a number is given": 1 to 6 and 17 for the bytes of a request, with 7 and 8 for its cycle
-  pub request-numbers : ((bytes : List ℕ) (number : ℕ) → reading bytes ≡ unreadable number → UnreadNumber number)
-      × ((bytes : List ℕ) (number : ℕ) → cycleOf bytes ≡ noCycle number → RequestNumber number)
+  pub cycle-numbers : (bytes : List ℕ) (number : ℕ) → cycleOf bytes ≡ noCycle number → RequestNumber number
   -- 01: "the greatest common divisor (gcd) falls to the remainder pair until one is 0", "least common multiple"
   pub gcd-is : (a b d : ℕ) → ((gcdOf a b ∣ a) × (gcdOf a b ∣ b)) × (d ∣ a → d ∣ b → d ∣ gcdOf a b) × (0 < a → d ∣ a → d ∣ b → d ≤ gcdOf a b)
       × (gcdOf a 0 ≡ a) × (gcdOf a b ≡ gcdOf b a)
@@ -76,10 +77,10 @@ pub record Demand2 : Type 0 where
 
 pub demand-2 : Demand2
 demand-2 = record {
-  request-keeps-form = readable-kept;
+  request-answers = λ bytes. (read-exact bytes, read-alone bytes);
   request-read-back = read-encode;
   request-bytes-are = λ b ts ps g e are. (encode-read b ts ps g e are, cut-short b ts ps g e are, cut-before-third b ts ps g e are, too-long b ts ps g e are);
-  request-numbers = (unreadable-number, no-cycle-number);
+  cycle-numbers = no-cycle-number;
   gcd-is = λ a b d. (gcd-dvd a b, dvd-gcd d a b, gcd-greatest d a b, gcd-zero a, gcd-comm a b);
   lcm-is = λ a b m. (dvd-lcm-left a b, dvd-lcm-right a b, lcm-dvd a b m, lcm-least a b m);
   hyperperiod-is-least = λ b ts ps g e. (hyperperiod-divides ts, λ m some. hyperperiod-least ts m some (readable-periodic ts ps (readable-kept b ts ps g e)));

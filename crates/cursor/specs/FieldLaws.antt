@@ -19,21 +19,21 @@ use Rattle.cursor.specs.declared.ByteRead.the-variants.{Byte, NoByte}
 use Rattle.cursor.specs.declared.WordRead.the-variants.{Word, NoWord}
 
 module _ (short : ℕ) (s : List ℕ) (at : ℕ) where
-  byte-here : at < length s → byteOf short (drop at s) ≡ got (getD s at 0) (drop (at + 1) s)
+  pub byte-here : at < length s → byteOf short (drop at s) ≡ got (getD s at 0) (drop (at + 1) s)
   unfolding byteOf
   byte-here h = rw (drop-cons s at 0 h, add-one at)
 
-  byte-none : length s ≤ at → byteOf short (drop at s) ≡ refused short
+  pub byte-none : length s ≤ at → byteOf short (drop at s) ≡ refused short
   unfolding byteOf
   byte-none h = rw (drop-of-length-le s h)
 
 -- and for two bytes
 module _ (short : ℕ) (s : List ℕ) (at : ℕ) where
-  word-here : at + 1 < length s → wordOf short (drop at s) ≡ got (getD s at 0 + getD s (at + 1) 0 * 256) (drop (at + 1 + 1) s)
+  pub word-here : at + 1 < length s → wordOf short (drop at s) ≡ got (getD s at 0 + getD s (at + 1) 0 * 256) (drop (at + 1 + 1) s)
   unfolding wordOf
   word-here h = rw (byte-here short s at (omega arith)) (rw (byte-here short s (at + 1) h))
 
-  word-none : length s ≤ at + 1 → wordOf short (drop at s) ≡ refused short
+  pub word-none : length s ≤ at + 1 → wordOf short (drop at s) ≡ refused short
   unfolding wordOf
   word-none h = go (lt-or-ge at (length s))
     where

@@ -44,7 +44,7 @@ use Rattle.request.specs.Readable.{TaskKept, PairKept, Readable, UnreadN
 use Rattle.request.specs.declared.Task.{Task}
 use Rattle.request.specs.declared.Pair.{Pair}
 
-rule-kept : (x : Task) → taskRule x ≡ true → TaskKept x
+pub rule-kept : (x : Task) → taskRule x ≡ true → TaskKept x
 unfolding taskRule
 rule-kept x e =
     let one = both-true (leb 1 (x .c)) _ e in
@@ -82,7 +82,7 @@ task-read bytes x rest e =
           front-then (front-then (front-then c t) d) p;
     })
 
-pair-rule-kept : (tasks : List Task) (a b : ℕ) → pairRule tasks a b ≡ true → PairKept tasks (record { a = a; b = b })
+pub pair-rule-kept : (tasks : List Task) (a b : ℕ) → pairRule tasks a b ≡ true → PairKept tasks (record { a = a; b = b })
 unfolding pairRule
 pair-rule-kept tasks a b e =
     let one = both-true (ltb a b) _ e in

@@ -13,10 +13,14 @@ pub use Rattle.cursor.specs.Fields.{Bytes}
 pub use Rattle.cursor.specs.Choice.{bit}
 pub use Rattle.request.specs.declared.Task.{Task}
 pub use Rattle.request.specs.declared.Pair.{Pair}
+pub use Rattle.request.specs.declared.Request.{Request}
 pub use Rattle.request.specs.Request.{periodOf, Reading, readable, unreadable, reading}
 pub use Rattle.request.specs.Encode.{twoSections, requestBytes, SaysRequest}
-pub use Rattle.request.specs.Readable.{Readable, UnreadNumber}
-pub use Rattle.request.specs.ReadableLaws.{readable-kept, unreadable-number}
+pub use Rattle.request.specs.Answers.{requestAnswered}
+pub use Rattle.request.specs.Exactly.{ReadExact}
+pub use Rattle.request.specs.Theorem.{read-exact, read-alone}
+pub use Rattle.request.specs.Readable.{Readable}
+pub use Rattle.request.specs.ReadableLaws.{readable-kept}
 pub use Rattle.request.specs.EncodeLaws.{read-encode, encode-read, cut-short, cut-before-third, too-long}
 pub use Rattle.request.specs.Written.{requestAnswer, requestBuffer, ownNumber, fileOf}
 -- Cycle and jobs
