@@ -23,6 +23,13 @@ abbrev pub OfCalls : (Instance → List ℕ → Table → List Call → (ℕ →
 OfCalls Says = (request bytes : List ℕ) (x : Instance) (t : Table) → Within request x → decode bytes ≡ table t → Accepted x t
     → (calls : List Call) (actual : ℕ → ℕ → ℕ) → Says x bytes t calls actual
 
+-- 01: "this paper leaves no answer free.": what is said so is true of one answer only, or of one answer and one buffer
+abbrev pub OneAnswer : {A : Type 0} → (A → Type 0) → Type 0
+OneAnswer {A} Says = (x y : A) → Says x → Says y → x ≡ y
+
+abbrev pub OneWritten : (Written → List ℕ → Type 0) → Type 0
+OneWritten Says = (x y : Written) (b c : List ℕ) → Says x b → Says y c → (x ≡ y) × (b ≡ c)
+
 -- DEMAND 1: every entry point ends, stays inside its buffers, refuses by the papers' numbers, and leaves a lent buffer unchanged when it refuses.
 -- 01: "every public call states an equation for its answer and for the bytes and state afterwards, refusals included; this paper leaves no answer free."
 pub demand-1 : {M : Type 1} → EveryContract M
@@ -142,16 +149,10 @@ pub record Requests : Type 0 where
       → hasRoom (getD load (k % rowsAt x f) 0) f (getD (costs x) (length frames) 0) ≡ true → Capacity x f (frames ++ (k ∷ []))
   pub capacity-is-by-loads : (x : Instance) (f : ℕ) (frames load : List ℕ) → LoadsKept (problemAt x f) frames load
       → Capacity x f frames ↔ ((r : ℕ) → r < rowsAt x f → getD load r 0 ≤ f)
-  -- R-4: "The joined file always reads as valid, and its tasks and pairs are those of the two and no others. Bytes behind .. keep their content."
-  pub joining-is-valid : (first second out : List ℕ) → let r = joined (reading first) (reading second) in let end = requestAnswer r out .length in
-      requestAnswer r out .refusal ≡ 0 → Joins first second (fileOf r out) × (drop end (requestBuffer r out) ≡ drop end out)
-  -- R-4: "A short buffer gives 11 last.": 164 bytes never are; "18 more than 16 tasks, then 19 more than 16 pairs, then 20 differing g"
-  pub joining-has-room : (first second out : List ℕ) → 164 ≤ length out → let r = joined (reading first) (reading second) in
-      (requestAnswer r out .refusal ≡ ownNumber r) × (requestAnswer r out .refusal ≢ 11)
-  pub joining-refuses : (first second : List ℕ) (number : ℕ) → joined (reading first) (reading second) ≡ unreadable number → JoinNumber number
-  -- R-4, three boards: joined from the left or from the right
-  pub joining-three : (a b c : Reading) (tasks : List Task) (pairs : List Pair) (g : ℕ)
-      → (joined (joined a b) c ≡ readable tasks pairs g) ↔ (joined a (joined b c) ≡ readable tasks pairs g)
+  -- R-4: "It refuses with 18 more than 16 tasks, then 19 more than 16 pairs, then 20 differing g.": each number, every task, pair and byte of the file
+  pub joining-answers : (first second out : List ℕ) → let r = joined (reading first) (reading second) in
+      JoinExact first second out (requestAnswer r out) (requestBuffer r out) × OneWritten (JoinExact first second out)
+  pub joining-has-room : (first second out : List ℕ) → 164 ≤ length out → requestAnswer (joined (reading first) (reading second)) out .refusal ≡ 11 → ⊥
   -- R-5: "For an f that divides H, a task passes exactly if each of its windows holds a whole frame."
   pub frame-test-is-exact : OfWithin (λ request x. (f : ℕ) → f ∣ x .h → (i : ℕ) → i < length (x .tasks)
       → (phaseRule f (taskAt x i) ≡ true) ↔ WindowsHold x f i)
@@ -213,10 +214,8 @@ requests = record {
   frame-raises-none = frame-counts;
   tested-by-load = capacity-put;
   capacity-is-by-loads = capacity-by-loads;
-  joining-is-valid = join-valid;
+  joining-answers = λ first second out. (join-exact first second out, join-alone first second out);
   joining-has-room = join-enough;
-  joining-refuses = join-number;
-  joining-three = λ a b c tasks pairs g. (joined-right a b c tasks pairs g, joined-left a b c tasks pairs g);
   frame-test-is-exact = λ request x w. phase-exact x (within-good request x w);
   planning-moved = λ request. (outcome-now request, outcome-moved request);
   check-moved = verdict-moved;

@@ -1,10 +1,11 @@
+-- Joining two requests.
 -- To be believed:
+pub mod Exactly
+-- what is computed, which JoinExact pins down:
 pub mod Joined
-pub mod Parts
-pub mod Valid
 -- Theorems:
-pub mod ValidLaws
-pub mod Associative
+pub mod Theorem
 -- Laws:
 pub mod JoinLaws
-pub mod PartsLaws
+pub mod Places
+pub mod Valid

@@ -11,10 +11,11 @@ pub use lib.Dec.{eqb}
 -- Request
 pub use Rattle.cursor.specs.Fields.{Bytes}
 pub use Rattle.cursor.specs.Choice.{bit}
+pub use Rattle.cursor.specs.declared.Written.{Written}
 pub use Rattle.request.specs.declared.Task.{Task}
 pub use Rattle.request.specs.declared.Pair.{Pair}
 pub use Rattle.request.specs.declared.Request.{Request}
-pub use Rattle.request.specs.Request.{periodOf, Reading, readable, unreadable, reading}
+pub use Rattle.request.specs.Request.{periodOf, readable, unreadable, reading}
 pub use Rattle.request.specs.Encode.{twoSections, requestBytes, SaysRequest}
 pub use Rattle.request.specs.Answers.{requestAnswered}
 pub use Rattle.request.specs.Exactly.{ReadExact}
@@ -22,7 +23,7 @@ pub use Rattle.request.specs.Theorem.{read-exact, read-alone}
 pub use Rattle.request.specs.Readable.{Readable}
 pub use Rattle.request.specs.ReadableLaws.{readable-kept}
 pub use Rattle.request.specs.EncodeLaws.{read-encode, encode-read, cut-short, cut-before-third, too-long}
-pub use Rattle.request.specs.Written.{requestAnswer, requestBuffer, ownNumber, fileOf}
+pub use Rattle.request.specs.Written.{requestAnswer, requestBuffer}
 -- Cycle and jobs
 pub use Rattle.arith.specs.Gcd.{gcdOf}
 pub use Rattle.arith.specs.GcdLaws.{gcd-dvd, dvd-gcd, gcd-greatest, gcd-zero, gcd-comm}
@@ -99,9 +100,8 @@ pub use Rattle.fly_listing.specs.Flown.{flightListing}
 pub use Rattle.fly_listing.specs.ShortLaws.{flight-short, flight-whole}
 -- R-4, R-6, R-8, R-9
 pub use Rattle.join.specs.Joined.{joined}
-pub use Rattle.join.specs.Valid.{Joins, JoinNumber}
-pub use Rattle.join.specs.ValidLaws.{join-valid, join-enough, join-number}
-pub use Rattle.join.specs.Associative.{joined-right, joined-left}
+pub use Rattle.join.specs.Exactly.{JoinExact}
+pub use Rattle.join.specs.Theorem.{join-exact, join-alone, join-enough}
 pub use Rattle.one_off.specs.Exactly.{OneOffExact}
 pub use Rattle.one_off.specs.ExactlyLaws.{one-off-exact}
 pub use Rattle.flight_one_off.specs.Sent.{OneOffSent}
