@@ -255,6 +255,8 @@ pub record After : Type 0 where
   -- From C: what is handed out passes bus_check; and the whole flight of every table to which bus_check answers 0, and of the bytes that bus_plan hands out.
   pub handed-out-passes-in-c : PlanPasses × DecidePasses
   pub accepted-flies-in-c : CheckedInC × PlannedInC
+  -- From C, over every list of calls, those that lend too few bytes among them: what the caller gets is what the calls below give on what the bytes say.
+  pub timer-told-in-c : TimerInC
   -- From C: bytes are read as they were written, both ways; and a call changes none but those named.
   pub bytes-read-back : StateRoundTrip × DraftRoundTrip × TimerRoundTrip × HeaterRoundTrip × TriesBack × PhasesBack × RecordsBack
   pub bytes-changed : FrameChanges × ReportChanges × DraftsRead
@@ -268,6 +270,7 @@ after = record {
   deciding-in-c = (same-answered, same-reached);
   handed-out-passes-in-c = (plan-passes, decide-passes);
   accepted-flies-in-c = (flight-in-c, planned-in-c);
+  timer-told-in-c = timer-in-c;
   bytes-read-back = (state-round-trip, draft-round-trip, timer-round-trip, heater-round-trip, tries-back, phases-told, records-back);
   bytes-changed = (frame-changes, report-changes, drafts-read);
 }

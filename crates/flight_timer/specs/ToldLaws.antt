@@ -110,7 +110,7 @@ not-set false ne = refl
 
 -- A refused call changes nothing
 
-still : (t : Timer) (c : RegisterCall) → (numberAnswered (turn t c .answer) ≡ 0 → ⊥) → turn t c .after ≡ t
+pub still : (t : Timer) (c : RegisterCall) → (numberAnswered (turn t c .answer) ≡ 0 → ⊥) → turn t c .after ≡ t
 unfolding turn
 still t (read address) ne = refl
 still t (write address value) ne = write-refused-still address value t ne

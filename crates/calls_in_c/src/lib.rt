@@ -1,0 +1,1 @@
+// Lists of calls from C on a timer. It has no code.
