@@ -4,7 +4,10 @@
 pub mod Runs
 -- timer
 pub mod TimerInC
+-- heater
+pub mod HeaterInC
 -- Theorems:
 pub mod TimerInCLaws
+pub mod HeaterInCLaws
 -- Laws:
 pub mod RunLaws

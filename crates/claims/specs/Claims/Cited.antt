@@ -88,6 +88,8 @@ pub use Rattle.flight_in_c.specs.CallsInC.{CheckedInC, PlannedInC}
 pub use Rattle.flight_in_c.specs.InC.{flight-in-c, planned-in-c}
 pub use Rattle.calls_in_c.specs.TimerInC.{TimerInC}
 pub use Rattle.calls_in_c.specs.TimerInCLaws.{timer-in-c}
+pub use Rattle.calls_in_c.specs.HeaterInC.{HeaterInC}
+pub use Rattle.calls_in_c.specs.HeaterInCLaws.{heater-in-c}
 -- Bench sheet and what the programs print
 pub use Rattle.bench_sheet.specs.Sheet.{SheetHolds, SheetMoved, SheetTries}
 pub use Rattle.bench_sheet.specs.SheetLaws.{sheet-holds}
