@@ -6,8 +6,11 @@ pub mod Runs
 pub mod TimerInC
 -- heater
 pub mod HeaterInC
+-- draft
+pub mod DraftInC
 -- Theorems:
 pub mod TimerInCLaws
 pub mod HeaterInCLaws
+pub mod DraftInCLaws
 -- Laws:
 pub mod RunLaws

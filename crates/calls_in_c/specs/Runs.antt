@@ -1,4 +1,4 @@
--- Lists of calls from C on bytes that the caller keeps, and lists of the calls below them on what the bytes say.
+-- Lists of calls from C on bytes that the caller keeps, and lists of the calls below them on what the bytes say. It is said once, for timers, heaters and drafts.
 use Prim.Native.Nat.{ℕ, _≤_}
 use mathlib.Core.Path.{_≡_}
 use mathlib.Core.Bool.{Bool, true, false, cond, _&&_}

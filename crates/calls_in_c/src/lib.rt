@@ -1,1 +1,1 @@
-// Lists of calls from C on a timer and a heater. It has no code.
+// Lists of calls from C on a timer, a heater and a draft. It has no code.

@@ -258,6 +258,7 @@ pub record After : Type 0 where
   -- From C, over every list of calls, those that lend too few bytes among them: what the caller gets is what the calls below give on what the bytes say.
   pub timer-told-in-c : TimerInC
   pub link-holds-in-c : HeaterInC
+  pub drafts-keep-in-c : DraftInC
   -- From C: bytes are read as they were written, both ways; and a call changes none but those named.
   pub bytes-read-back : StateRoundTrip × DraftRoundTrip × TimerRoundTrip × HeaterRoundTrip × TriesBack × PhasesBack × RecordsBack
   pub bytes-changed : FrameChanges × ReportChanges × DraftsRead
@@ -273,6 +274,7 @@ after = record {
   accepted-flies-in-c = (flight-in-c, planned-in-c);
   timer-told-in-c = timer-in-c;
   link-holds-in-c = heater-in-c;
+  drafts-keep-in-c = draft-in-c;
   bytes-read-back = (state-round-trip, draft-round-trip, timer-round-trip, heater-round-trip, tries-back, phases-told, records-back);
   bytes-changed = (frame-changes, report-changes, drafts-read);
 }

@@ -90,6 +90,8 @@ pub use Rattle.calls_in_c.specs.TimerInC.{TimerInC}
 pub use Rattle.calls_in_c.specs.TimerInCLaws.{timer-in-c}
 pub use Rattle.calls_in_c.specs.HeaterInC.{HeaterInC}
 pub use Rattle.calls_in_c.specs.HeaterInCLaws.{heater-in-c}
+pub use Rattle.calls_in_c.specs.DraftInC.{DraftInC}
+pub use Rattle.calls_in_c.specs.DraftInCLaws.{draft-in-c}
 -- Bench sheet and what the programs print
 pub use Rattle.bench_sheet.specs.Sheet.{SheetHolds, SheetMoved, SheetTries}
 pub use Rattle.bench_sheet.specs.SheetLaws.{sheet-holds}
