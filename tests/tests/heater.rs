@@ -215,6 +215,34 @@ fn a_reply_behind_the_next_command() {
     plays_as(&carried_beside_the_next(), "r..c...", &told);
 }
 
+/// One heater over a list in which calls are refused: each refused call changes nothing. 30 for the pair
+/// turned round and for a task twice, 14 before it, 1 before all, 12 before 30, and 15 of next-frame.
+#[test]
+fn refused_in_a_list() {
+    let (one, late) = (in_one_frame(), reply_carried());
+    let list: [(&[u8], &[u8], u8, u8, (i32, u8, u8)); 9] = [
+        (&one.request, &one.table, 1, 0, (-30, 0, 0)),
+        (&one.request, &one.table, 0, 0, (-30, 0, 0)),
+        (&one.request, &one.table, 0, 1, (2, 1, 1)),
+        (&one.request, &late.table, 1, 0, (-14, 1, 1)),
+        (&[], &[], 0, 1, (-1, 1, 1)),
+        (&one.request, &[], 5, 6, (-12, 1, 1)),
+        (&one.request, &one.table, 0, 1, (2, 1, 1)),
+        (&late.request, &late.table, 0, 1, (1, 0, 0)),
+        (&one.request, &one.table, 0, 1, (-15, 0, 0)),
+    ];
+    for (name, bus) in subjects() {
+        let mut heater = fresh(bus);
+        for (call, (request, table, a, b, expected)) in list.into_iter().enumerate() {
+            let before = heater.clone();
+            let mut entries = [0; ENTRIES_LEN];
+            let count = bus.heater_serve(request, table, a, b, 0, &mut heater, &mut entries);
+            assert_eq!((count, heater[66], heater[67]), expected, "{name}: {call}");
+            assert!(count >= 0 || heater == before, "{name}: {call}");
+        }
+    }
+}
+
 /// The numbers of commands, without bits: a copy that arrives has the number of the current command,
 /// and a reply has the highest number that arrived.
 #[derive(Default)]

@@ -38,12 +38,14 @@ fn refused(request: &[u8], task: u8, number: i32) {
 }
 
 /// (3,10,5,2) of R-5. A frame of 5 ticks holds the transfer, and lies whole in the window if that
-/// begins with a frame, at 0 or at 5.
+/// begins with a frame, at 0 or at 5. With silent ticks behind the transfer it is too short.
 #[test]
 fn frames_begin_at_two_phases() {
     counts_freely(&sheet::p8_long(), 0, [2, 8, 0, 0]);
     counts_within(&sheet::p8_long(), 0, 1, [2, 8, 0, 0]);
     counts_within(&sheet::p8_long(), 0, 0, [0, 8, 0, 2]);
+    let silent = silent_request(&[(3, 10, 5, 2)], &[], 3);
+    counts_freely(&silent, 0, [0, 10, 0, 0]);
 }
 
 /// Two transfers that fill more than the one frame that there is: 10 at phase 0. At phase 1 no frame of
@@ -76,6 +78,8 @@ fn the_planning_order_turns() {
     ] {
         counts_within(&turned, 1, allowance, four);
     }
+    let ends = planned_ends(subject(), &turned, 1, u64::MAX);
+    assert_eq!(ends, [10, 0, 0, 0, 0, 0, 0, 0]);
 }
 
 /// P1: another phase of task 0 or 1 rules frames of 20 ticks out, and those of 10 have a plan; task 2

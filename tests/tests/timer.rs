@@ -152,6 +152,57 @@ fn a_driver_s_day() {
     }
 }
 
+/// A report at C and a refused one mark nothing. Bits are cleared one by one. The line needs the enable
+/// bit and any one status bit.
+#[test]
+fn bits_one_by_one() {
+    for mut board in boards() {
+        let status = |board: &Board, bits| assert_eq!(board.read(1), bits, "{}", board.name);
+        assert_eq!(board.write(0, 1), 0);
+        assert_eq!(board.report(0, 5), 0);
+        assert_eq!(board.bus.timer_report(&[], 0, 9, &mut board.timer), -1);
+        status(&board, 0);
+        board.event();
+        assert_eq!(board.line(), 0);
+        board.event();
+        assert_eq!(board.report(2, 11), 0);
+        assert_eq!(board.write(1, 4), 0);
+        status(&board, 3);
+        board.event();
+        assert_eq!(board.write(1, 2), 0);
+        status(&board, 5);
+        assert_eq!(board.serve(), 3);
+        status(&board, 4);
+        assert_eq!(board.line(), 0);
+        assert_eq!(board.write(0, 2), 0);
+        assert_eq!(board.line(), 1);
+        assert_eq!(board.write(1, 4), 0);
+        assert_eq!(board.line(), 0);
+    }
+}
+
+/// Each frame is served before the next event, also if a serving was refused or nothing was due: the
+/// entries are those of the flight, and no frame is missed.
+#[test]
+fn a_punctual_list() {
+    for mut board in boards() {
+        assert_eq!(board.serve_with(&[]), 0);
+        assert_eq!(board.write(0, 1), 0);
+        board.event();
+        assert_eq!(board.bus.timer_report(&[], 0, 0, &mut board.timer), -1);
+        assert_eq!(board.serve_with(&[]), -12);
+        assert_eq!((board.serve(), board.serve()), (3, 0));
+        assert_eq!(board.read(9), -29);
+        assert_eq!(board.write(0, 3), 0);
+        for entries in [2, 3] {
+            board.event();
+            assert_eq!(board.serve(), entries, "{}", board.name);
+        }
+        board.event();
+        board.reads([3, 1, 1, 0, 0, 0, 0, 0]);
+    }
+}
+
 /// "0: control, bit 0 run, bit 1 interrupt enable.", "Unnamed bits read 0."
 #[test]
 fn every_byte_written_to_control() {

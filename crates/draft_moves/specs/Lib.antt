@@ -12,4 +12,3 @@ pub mod MoveTheorem
 pub mod StepLaws
 pub mod Decided
 pub mod Ways
-pub mod Example

@@ -3,6 +3,3 @@
 pub mod Flown
 -- Theorems:
 pub mod FlownLaws
--- Laws:
--- computed:
-pub mod Examples

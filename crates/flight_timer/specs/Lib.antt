@@ -12,5 +12,3 @@ pub mod InTimeLaws
 pub mod SinceLaws
 pub mod StepLaws
 pub mod SumLaws
--- computed:
-pub mod Examples

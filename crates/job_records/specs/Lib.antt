@@ -10,5 +10,3 @@ pub mod Theorem
 pub mod KnownLaws
 pub mod FillLaws
 pub mod BusyLaws
--- computed:
-pub mod Example

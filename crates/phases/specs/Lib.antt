@@ -15,5 +15,3 @@ pub mod PhasePlaces
 pub mod PhaseCycle
 pub mod ReadPhase
 pub mod Ways
--- computed:
-pub mod Example

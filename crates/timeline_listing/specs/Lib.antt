@@ -7,5 +7,3 @@ pub mod ShortLaws
 -- Laws:
 pub mod PutLaws
 pub mod PrintedLaws
--- computed:
-pub mod Example
