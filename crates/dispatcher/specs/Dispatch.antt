@@ -1,6 +1,6 @@
 -- The dispatcher: its answers and its state after them, of what the bytes of a table or a request say. 01, "Dispatching".
 use Prim.Native.Nat.{ℕ, _+_, _%_}
-use mathlib.Core.Bool.{Bool, true, false, not, cond}
+use mathlib.Core.Bool.{Bool, true, false, not, cond, _&&_}
 use mathlib.Core.List.{List, [], _∷_}
 use lib.ListN.{length, getD, set, replicate}
 use lib.Dec.{ltb, eqb}
@@ -84,17 +84,24 @@ withCounts counts s = record { row = s .row; first = s .first; counts = counts }
 abbrev pub counted : Bool → ℕ → State → State
 counted over task s = withCounts (raisedAt over task (s .counts)) s
 
--- a report that is taken, with the state after it; and one that gives its number
-abbrev pub reportTaken : State → Reported
-reportTaken s = record { refusal = 0; state = s }
+-- a report that is taken, with whether it was above C and the state after it; and one that gives its number
+abbrev pub reportTaken : Bool → State → Reported
+reportTaken over s = record { refusal = 0; over = over; state = s }
 
 abbrev pub reportRefused : ℕ → State → Reported
-reportRefused number s = record { refusal = number; state = s }
+reportRefused number s = record { refusal = number; over = false; state = s }
 
 -- 1 to 6 and 17: not a request; 16: "task number not below n"
 unfoldable pub reported : Reading → ℕ → ℕ → State → Reported
-reported (readable tasks pairs g) task ticks s = cond (ltb task (length tasks)) (reportTaken (counted (exceeds tasks task ticks) task s)) (reportRefused 16 s)
+reported (readable tasks pairs g) task ticks s =
+    let over = exceeds tasks task ticks in
+    cond (ltb task (length tasks)) (reportTaken over (counted over task s)) (reportRefused 16 s)
 reported (unreadable number) task ticks s = reportRefused number s
+
+-- "accepted reports above C" (02, R-2): the report is accepted, and its ticks exceed C
+unfoldable pub overran : Reading → ℕ → ℕ → Bool
+overran (readable tasks pairs g) task ticks = ltb task (length tasks) && exceeds tasks task ticks
+overran (unreadable number) task ticks = false
 
 -- what a frame's answer shows, and the entries that it says
 abbrev pub rowShown : Frame → Row

@@ -12,12 +12,12 @@ use Rattle.cursor.specs.Choice.{bit}
 use Rattle.request.specs.Request.{Reading, readable, unreadable}
 use Rattle.request.specs.declared.Task.{Task}
 use Rattle.request.specs.declared.Pair.{Pair}
-use Rattle.dispatcher.specs.Dispatch.{exceeds, raised, raisedAt, counted, reportTaken, reportRefused, reported}
+use Rattle.dispatcher.specs.Dispatch.{exceeds, raised, raisedAt, counted, reportTaken, reportRefused, reported, overran}
 use Rattle.dispatcher.specs.declared.State.{State}
 
 module _ (r : Reading) (task ticks : ℕ) (s : State) where
   module _ (tasks : List Task) (pairs : List Pair) (g : ℕ) (is : r ≡ readable tasks pairs g) where
-    pub report-counted : task < length tasks → reported r task ticks s ≡ reportTaken (counted (exceeds tasks task ticks) task s)
+    pub report-counted : task < length tasks → reported r task ticks s ≡ reportTaken (exceeds tasks task ticks) (counted (exceeds tasks task ticks) task s)
     unfolding reported
     report-counted h = rw (is, lt-ltb task (length tasks) h)
 
@@ -37,8 +37,35 @@ unfolding reported
 report-refused-still (unreadable number) task ticks s ne = refl
 report-refused-still (readable tasks pairs g) task ticks s ne = go (ltb task (length tasks)) ne
   where
-    go : (b : Bool) → (cond b (reportTaken (counted (exceeds tasks task ticks) task s)) (reportRefused 16 s) .refusal ≡ 0 → ⊥)
-        → cond b (reportTaken (counted (exceeds tasks task ticks) task s)) (reportRefused 16 s) .state ≡ s
+    over : Bool
+    over = exceeds tasks task ticks
+
+    go : (b : Bool) → let a = cond b (reportTaken over (counted over task s)) (reportRefused 16 s) in (a .refusal ≡ 0 → ⊥) → a .state ≡ s
+    go true ne = absurd (ne refl)
+    go false ne = refl
+
+-- the answer tells whether the report was above C; a refused one was not
+pub report-over : (r : Reading) (task ticks : ℕ) (s : State) → reported r task ticks s .over ≡ overran r task ticks
+unfolding reported overran
+report-over (unreadable number) task ticks s = refl
+report-over (readable tasks pairs g) task ticks s = go (ltb task (length tasks))
+  where
+    over : Bool
+    over = exceeds tasks task ticks
+
+    go : (b : Bool) → cond b (reportTaken over (counted over task s)) (reportRefused 16 s) .over ≡ b && over
+    go true = refl
+    go false = refl
+
+pub report-refused-below : (r : Reading) (task ticks : ℕ) (s : State) → (reported r task ticks s .refusal ≡ 0 → ⊥) → reported r task ticks s .over ≡ false
+unfolding reported
+report-refused-below (unreadable number) task ticks s ne = refl
+report-refused-below (readable tasks pairs g) task ticks s ne = go (ltb task (length tasks)) ne
+  where
+    over : Bool
+    over = exceeds tasks task ticks
+
+    go : (b : Bool) → let a = cond b (reportTaken over (counted over task s)) (reportRefused 16 s) in (a .refusal ≡ 0 → ⊥) → a .over ≡ false
     go true ne = absurd (ne refl)
     go false ne = refl
 
@@ -51,7 +78,7 @@ report-as-many (readable tasks pairs g) task ticks s = go (ltb task (length task
     over : Bool
     over = exceeds tasks task ticks
 
-    go : (b : Bool) → length (cond b (reportTaken (counted over task s)) (reportRefused 16 s) .state .counts) ≡ length (s .counts)
+    go : (b : Bool) → length (cond b (reportTaken over (counted over task s)) (reportRefused 16 s) .state .counts) ≡ length (s .counts)
     go true = length-set (s .counts) task (raised over (getD (s .counts) task 0))
     go false = refl
 

@@ -122,6 +122,6 @@ module _ (bytes : List ℕ) (task ticks : ℕ) (s : State) (r : Request) (w : Wa
     task-placed = omega (arith, below, w .kept .few-tasks)
 
     pub task-known : (count : ℕ) → count ≡ raised (ltb (getD (r .tasks) task noTask .c) ticks) (getD (s .counts) task 0)
-        → reportTaken (withCounts (set (s .counts) task count) s) ≡ reported (reading bytes) task ticks s
+        → reportTaken (ltb (getD (r .tasks) task noTask .c) ticks) (withCounts (set (s .counts) task count) s) ≡ reported (reading bytes) task ticks s
     unfolding raisedAt
     task-known count e = rw (e, w .task-is task below) (sym (report-counted (reading bytes) task ticks s (w .tasks) (w .pairs) (w .g) (w .is) below))

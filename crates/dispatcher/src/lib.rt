@@ -23,8 +23,10 @@ pub struct Frame {
     pub state: State,
 }
 
+// Whether the report was above C, and the state for the next call; or the number of its refusal, and the state as it was.
 pub struct Reported {
     pub refusal: u8,
+    pub over: bool,
     pub state: State,
 }
 
@@ -140,12 +142,17 @@ pub fn report(request: &[u8], task: u8, ticks: u32, state: State) -> Reported
     if read.refusal != 0 {
         return Reported {
             refusal: read.refusal,
+            over: false,
             state,
         };
     }
     let i = task as usize;
     if read.n <= i {
-        return Reported { refusal: 16, state };
+        return Reported {
+            refusal: 16,
+            over: false,
+            state,
+        };
     }
     let tasks = read.tasks;
     let x = tasks[i];
@@ -154,6 +161,7 @@ pub fn report(request: &[u8], task: u8, ticks: u32, state: State) -> Reported
     counts[i] = count_overrun(over, counts[i]);
     Reported {
         refusal: 0,
+        over,
         state: State {
             row: state.row,
             first: state.first,

@@ -11,12 +11,12 @@ use Rattle.cursor.specs.Choice.{bit}
 use Rattle.cursor.specs.PaddedLaws.{getD-blanks}
 use Rattle.request.specs.Request.{Reading, readable, unreadable, reading}
 use Rattle.table.specs.Table.{decode}
-use Rattle.dispatcher.specs.Dispatch.{noOverruns, freshState, exceeds, reported}
+use Rattle.dispatcher.specs.Dispatch.{noOverruns, freshState, exceeds, reported, overran}
 use Rattle.dispatcher.specs.FrameLaws.{frame-counts}
 use Rattle.dispatcher.specs.ReportLaws.{report-counted, report-unknown, report-unreadable, report-as-many, raised-only}
 use Rattle.dispatcher.specs.declared.State.{State}
 use Rattle.flight.specs.Calls.{Call, next-frame, report, dispatch, final}
-use Rattle.flight.specs.Overruns.{overran, overrunIn, overruns}
+use Rattle.flight.specs.Overruns.{overrunIn, overruns}
 
 pub as-many : (bytes : List ℕ) (s : State) (c : Call) → length (dispatch bytes s c .after .counts) ≡ length (s .counts)
 unfolding dispatch

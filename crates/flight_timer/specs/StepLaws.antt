@@ -7,24 +7,18 @@ use mathlib.Core.List.{List, [], _++_}
 use lib.Dec.{eqb}
 use borrow.Author.Tests.{eqb-true, eq-eqb}
 use Rattle.cursor.specs.Choice.{keep}
-use Rattle.request.specs.Request.{Reading, readable, unreadable, reading}
+use Rattle.request.specs.Request.{reading}
 use Rattle.table.specs.Table.{decode}
-use Rattle.dispatcher.specs.Dispatch.{nextFrame}
+use Rattle.dispatcher.specs.Dispatch.{nextFrame, overran}
+use Rattle.dispatcher.specs.ReportLaws.{report-over}
 use Rattle.dispatcher.specs.declared.State.{State}
 use Rattle.flight.specs.Calls as flight
-use Rattle.flight.specs.Overruns.{overran}
-use Rattle.timer.specs.Registers.{isSet, controlOf, clearedBy, dueOrMissed, serving, aboveC}
+use Rattle.timer.specs.Registers.{isSet, controlOf, clearedBy, dueOrMissed, serving}
 use Rattle.timer.specs.RegisterLaws.{write-parts, event-parts, serve-parts}
 use Rattle.timer.specs.declared.Timer.{Timer}
 use Rattle.timer.specs.declared.Status.{Status}
 use Rattle.flight_timer.specs.Calls.{RegisterCall, read, write, event, serve, report, line, onWrite, onEvent, onServe, onReport, turn}
 use Rattle.flight_timer.specs.Told.{controlThen, askedBy, dispatched, Asked}
-
--- the timer's "above C" is the flight's
-pub above-is : (r : Reading) (task ticks : ℕ) → aboveC r task ticks ≡ overran r task ticks
-unfolding aboveC overran
-above-is (readable tasks pairs g) task ticks = refl
-above-is (unreadable number) task ticks = refl
 
 -- The tests of a call
 
@@ -135,7 +129,7 @@ overrun-step t event = ap (λ (s : Status). s .overrun) (event-parts t .1) ∙ g
     go true = stays (t .status .overrun)
     go false = stays (t .status .overrun)
 overrun-step t (serve bytes) = ap (λ (s : Status). s .overrun) (serve-parts (decode bytes) t .1) ∙ stays (t .status .overrun)
-overrun-step t (report bytes task ticks) = rw (above-is (reading bytes) task ticks) (ap (_||_ (overran (reading bytes) task ticks)) (stays (t .status .overrun)))
+overrun-step t (report bytes task ticks) = rw (report-over (reading bytes) task ticks (t .state)) (ap (_||_ (overran (reading bytes) task ticks)) (stays (t .status .overrun)))
 overrun-step t (read address) = stays (t .status .overrun)
 overrun-step t line = stays (t .status .overrun)
 

@@ -14,12 +14,12 @@ use Rattle.cursor.specs.ChoiceLaws.{lt-or-ge}
 use Rattle.request.specs.Request.{Reading, readable, unreadable, reading}
 use Rattle.request.specs.ReadableLaws.{readable-kept}
 use Rattle.table.specs.Table.{decode}
-use Rattle.dispatcher.specs.Dispatch.{freshState, nextFrame, exceeds, reported}
+use Rattle.dispatcher.specs.Dispatch.{freshState, nextFrame, exceeds, reported, overran}
 use Rattle.dispatcher.specs.FrameLaws.{frame-counts}
 use Rattle.dispatcher.specs.ReportLaws.{report-counted, report-unknown, report-unreadable}
 use Rattle.dispatcher.specs.declared.State.{State}
 use Rattle.flight.specs.Calls as flight
-use Rattle.flight.specs.Overruns.{overran, overruns}
+use Rattle.flight.specs.Overruns.{overruns}
 use Rattle.flight.specs.Counted.{overruns-counted}
 use Rattle.timer.specs.Registers.{sumShown, freshTimer}
 use Rattle.timer.specs.RegisterLaws.{sumFrom, sum-is, write-parts, event-parts, serve-parts}

@@ -10,10 +10,10 @@ use lib.Dec.{eqb}
 use Rattle.cursor.specs.Choice.{keep, bit}
 use Rattle.request.specs.Request.{reading}
 use Rattle.table.specs.Table.{decode}
-use Rattle.dispatcher.specs.Dispatch.{freshState, nextFrame, reported}
+use Rattle.dispatcher.specs.Dispatch.{freshState, nextFrame, reported, overran}
 use Rattle.dispatcher.specs.declared.State.{State}
 use Rattle.flight.specs.Calls as flight
-use Rattle.flight.specs.Overruns.{overran, overruns}
+use Rattle.flight.specs.Overruns.{overruns}
 use Rattle.timer.specs.declared.Timer.{Timer}
 use Rattle.timer.specs.Registers.{isSet, sumShown, freshTimer, registerRead, afterWrite, changed, dueServed, noneServed, serving, reporting, lineOn}
 use Rattle.flight_timer.specs.Calls.{RegisterCall, event, line, onWrite, onEvent, onServe, onReport, nothing, turn, registerAnswers, timerAfter, numberAnswered}

@@ -11,14 +11,14 @@ use Rattle.cursor.specs.Choice.{bit}
 use Rattle.request.specs.Request.{reading}
 use Rattle.table.specs.Table.{decode}
 use Rattle.dispatcher.specs.Dispatch.{reported}
-use Rattle.dispatcher.specs.ReportLaws.{report-refused-still}
+use Rattle.dispatcher.specs.ReportLaws.{report-refused-still, report-refused-below}
 use Rattle.dispatcher.specs.declared.State.{State}
 use Rattle.timer.specs.Registers.{controlByte, controlOf, sumShown, freshTimer}
 use Rattle.timer.specs.Registers.{serving}
 use Rattle.timer.specs.RegisterLaws.{status-few, read-eight, read-no-more, write-no-more, event-ignored}
 use Rattle.timer.specs.RegisterLaws.{serve-none, serve-refused, serve-made}
 use Rattle.timer.specs.ShownLaws.{control-shown, status-shown, row-shown, sum-is-shown, free-shown, due-bit, overrun-bit, missed-bit, line-shown}
-use Rattle.timer.specs.ShownLaws.{fresh-read, write-eight, write-above, write-refused-still, serve-due, refused-below}
+use Rattle.timer.specs.ShownLaws.{fresh-read, write-eight, write-above, write-refused-still, serve-due}
 use Rattle.timer.specs.declared.Timer.{Timer}
 use Rattle.flight_timer.specs.Calls.{RegisterCall, read, write, event, serve, report, line, nothing, turn, registerAnswersFrom, timerFrom, timerAfter, numberAnswered}
 use Rattle.flight_timer.specs.Told.{controlThen, controlFrom, controlAfter, RunSet, MakesDue, Serves, FrameDue, Clears, Overruns, OverrunMarked}
@@ -121,7 +121,7 @@ still t (serve bytes) ne = go (t .status .due) refl
     go true e = rw (serve-refused (decode bytes) t e (λ z. ne (rw (serve-made (decode bytes) t e z) z)))
     go false e = absurd (ne (rw (serve-none (decode bytes) t e)))
 still t (report bytes task ticks) ne =
-    rw (refused-below (reading bytes) task ticks (t .state) ne, report-refused-still (reading bytes) task ticks (t .state) ne)
+    rw (report-refused-below (reading bytes) task ticks (t .state) ne, report-refused-still (reading bytes) task ticks (t .state) ne)
 still t line ne = refl
 
 -- THE THEOREM: for every list of calls.

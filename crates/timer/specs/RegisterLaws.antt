@@ -4,24 +4,20 @@ use mathlib.Core.Path.{_≡_, refl, sym}
 use mathlib.Core.Bool.{Bool, true, false, not, cond, _&&_}
 use mathlib.Core.List.{List, [], _∷_, map, foldr}
 use native.Mathlib.Omega.{arith}
-use lib.ListN.{length, getD}
+use lib.ListN.{getD}
 use lib.Dec.{ltb, eqb}
 use borrow.Author.Tests.{lt-ltb, le-ltb, eq-eqb, ne-eqb, ltb-false, eqb-true, eqb-false}
 use mir.Val.{boolByte}
 use Rattle.cursor.specs.Choice.{bit}
 use Rattle.cursor.specs.Range.{range}
 use Rattle.cursor.specs.WordBytesLaws.{word-parts}
-use Rattle.request.specs.Request.{noTask, reading}
-use Rattle.request.specs.AnswerLaws.{WasRead, not-read}
-use Rattle.request.specs.Answers.{requestAnswered}
-use Rattle.request.specs.declared.Request.{Request}
 use Rattle.table.specs.Left.{less-one, none-left}
 use Rattle.table.specs.Table.{Decoded, decode}
 use Rattle.dispatcher.specs.Dispatch.{nextFrame}
 use Rattle.dispatcher.specs.FrameLaws.{frame-few, frame-refused-still}
 use Rattle.dispatcher.specs.declared.Frame.{Frame}
 use Rattle.timer.specs.Registers.{controlByte, statusByte, sumOf, sumShown, registers, registerRead, withControl, withStatus, controlOf, statusOf, clearedBy, changed, afterWrite}
-use Rattle.timer.specs.Registers.{dueOrMissed, afterEvent, servedOnce, dueServed, noneServed, serving, aboveC}
+use Rattle.timer.specs.Registers.{dueOrMissed, afterEvent, servedOnce, dueServed, noneServed, serving}
 use Rattle.timer.specs.declared.Control.{Control}
 use Rattle.timer.specs.declared.Status.{Status}
 use Rattle.timer.specs.declared.Timer.{Timer}
@@ -268,23 +264,3 @@ serve-few bytes t = go (t .status .due)
     go : (b : Bool) → cond b (dueServed (nextFrame (decode bytes) (t .state)) t) (noneServed t) .count ≤ 16
     go true = frame-few bytes (t .state)
     go false = omega arith
-
--- report
-
--- not a request
-pub above-unread : (bytes : List ℕ) (task ticks : ℕ) (r : Request) → r ≡ requestAnswered (reading bytes) → (r .refusal ≡ 0 → ⊥)
-    → false ≡ aboveC (reading bytes) task ticks
-unfolding aboveC
-above-unread bytes task ticks r e ne = rw (not-read bytes r e ne)
-
-module _ (bytes : List ℕ) (task ticks : ℕ) (r : Request) (w : WasRead bytes r) where
-  -- no such task
-  pub above-unknown : r .n ≤ task → false ≡ aboveC (reading bytes) task ticks
-  unfolding aboveC
-  above-unknown h = rw (w .is, le-ltb task (length (w .tasks)) (omega (arith, w .n-is)))
-
-  pub above-known : task < r .n → ltb (getD (r .tasks) task noTask .c) ticks ≡ aboveC (reading bytes) task ticks
-  unfolding aboveC
-  above-known h =
-      let below : task < length (w .tasks) = omega (arith, w .n-is) in
-      rw (w .is, lt-ltb task (length (w .tasks)) below, w .task-is task below)

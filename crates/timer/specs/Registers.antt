@@ -2,14 +2,14 @@
 use Prim.Native.Nat.{ℕ, _+_, _*_, _/_, _%_, min}
 use mathlib.Core.Bool.{Bool, true, false, not, cond, _&&_, _||_}
 use mathlib.Core.List.{List, [], _∷_, _++_, map, foldr}
-use lib.ListN.{length, getD, replicate}
+use lib.ListN.{getD, replicate}
 use lib.Dec.{ltb, eqb}
 use Rattle.cursor.specs.Choice.{bit}
 use Rattle.cursor.specs.Range.{range}
 use Rattle.cursor.specs.Fields.{wordBytes}
-use Rattle.request.specs.Request.{Reading, readable, unreadable}
+use Rattle.request.specs.Request.{Reading}
 use Rattle.table.specs.Table.{Decoded}
-use Rattle.dispatcher.specs.Dispatch.{freshState, nextFrame, exceeds, reported}
+use Rattle.dispatcher.specs.Dispatch.{freshState, nextFrame, reported}
 use Rattle.dispatcher.specs.declared.State.{State}
 use Rattle.dispatcher.specs.declared.Frame.{Frame}
 use Rattle.dispatcher.specs.declared.Reported.{Reported}
@@ -120,20 +120,15 @@ serving d t = cond (t .status .due) (dueServed (nextFrame d (t .state)) t) (none
 
 -- report
 
--- "A report above C": it is accepted, and its ticks exceed C, whatever the counts are
-unfoldable pub aboveC : Reading → ℕ → ℕ → Bool
-aboveC (readable tasks pairs g) task ticks = ltb task (length tasks) && exceeds tasks task ticks
-aboveC (unreadable number) task ticks = false
-
 -- "A report above C sets bit 1.": also if the count stands at 65,535
 abbrev pub marked : Bool → Status → Status
 marked over s = record { due = s .due; overrun = over || s .overrun; missed = s .missed }
 
-abbrev pub heardOf : Bool → Reported → Timer → Changed
-heardOf over a t = changed (a .refusal) (record { state = a .state; control = t .control; status = marked over (t .status) })
+abbrev pub heardOf : Reported → Timer → Changed
+heardOf a t = changed (a .refusal) (record { state = a .state; control = t .control; status = marked (a .over) (t .status) })
 
 abbrev pub reporting : Reading → ℕ → ℕ → Timer → Changed
-reporting r task ticks t = heardOf (aboveC r task ticks) (reported r task ticks (t .state)) t
+reporting r task ticks t = heardOf (reported r task ticks (t .state)) t
 
 -- line
 

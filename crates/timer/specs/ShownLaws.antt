@@ -2,22 +2,18 @@
 use Prim.Native.Nat.{ℕ, _+_, _*_, _≤_, _<_}
 use mathlib.Core.Path.{_≡_, refl, sym, ap}
 use mathlib.Core.Bool.{Bool, true, false, false≢true, cond, _&&_, _||_}
-use mathlib.Core.Logic.{_⊎_, inl, inr, _↔_}
+use mathlib.Core.Logic.{_↔_}
 use mathlib.Core.List.{[]}
 use native.Mathlib.Omega.{arith}
-use lib.ListN.{length, getD}
+use lib.ListN.{getD}
 use lib.Dec.{ltb}
-use borrow.Author.Tests.{lt-ltb, le-ltb, ne-eqb}
+use borrow.Author.Tests.{lt-ltb, ne-eqb}
 use Rattle.cursor.specs.Choice.{bit}
-use Rattle.cursor.specs.ChoiceLaws.{lt-or-ge}
 use Rattle.cursor.specs.PaddedLaws.{getD-blanks}
-use Rattle.request.specs.Request.{Reading, readable, unreadable}
 use Rattle.table.specs.Table.{Decoded}
-use Rattle.dispatcher.specs.Dispatch.{nextFrame, reported}
-use Rattle.dispatcher.specs.ReportLaws.{report-counted}
-use Rattle.dispatcher.specs.declared.State.{State}
+use Rattle.dispatcher.specs.Dispatch.{nextFrame}
 use Rattle.timer.specs.Registers.{isSet, controlByte, statusByte, sumOf, sumShown, freshTimer, registerRead, changed, wrote, afterWrite, dueServed, serving}
-use Rattle.timer.specs.Registers.{aboveC, lineOn}
+use Rattle.timer.specs.Registers.{lineOn}
 use Rattle.timer.specs.RegisterLaws.{aByte, eightBytes, control-back, status-back, read-at}
 use Rattle.timer.specs.declared.Control.{Control}
 use Rattle.timer.specs.declared.RegisterRead.{RegisterRead}
@@ -106,15 +102,3 @@ module _ (address value : ℕ) (t : Timer) where
 pub serve-due : (d : Decoded) (t : Timer) → t .status .due ≡ true → serving d t ≡ dueServed (nextFrame d (t .state)) t
 unfolding serving
 serve-due d t e = rw e
-
--- report
-
--- a refused report is not above C
-pub refused-below : (r : Reading) (task ticks : ℕ) (s : State) → (reported r task ticks s .refusal ≡ 0 → ⊥) → aboveC r task ticks ≡ false
-unfolding aboveC
-refused-below (unreadable number) task ticks s ne = refl
-refused-below (readable tasks pairs g) task ticks s ne = go (lt-or-ge task (length tasks))
-  where
-    go : (task < length tasks) ⊎ (length tasks ≤ task) → aboveC (readable tasks pairs g) task ticks ≡ false
-    go (inl h) = absurd (ne (rw (report-counted (readable tasks pairs g) task ticks s tasks pairs g refl h)))
-    go (inr h) = rw (le-ltb task (length tasks) h)

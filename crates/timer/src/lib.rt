@@ -8,7 +8,7 @@ ghost use Rattle.request.specs.Request.{reading};
 ghost use Rattle.table.specs.Table.{decode};
 ghost use Rattle.timer.specs.Registers.{isSet, freshTimer, controlByte, statusByte, sumOf, sumShown, registerRead};
 ghost use Rattle.timer.specs.Registers.{controlOf, statusOf, clearedBy, withControl, withStatus, afterWrite, dueOrMissed, afterEvent};
-ghost use Rattle.timer.specs.Registers.{servedOnce, noneServed, serving, aboveC, marked, reporting, lineOn};
+ghost use Rattle.timer.specs.Registers.{servedOnce, noneServed, serving, marked, reporting, lineOn};
 
 // Register 0: bit 0 run, bit 1 interrupt enable.
 pub struct Control {
@@ -311,23 +311,6 @@ pub fn serve(table: &[u8], timer: Timer) -> FrameServed
     frame_served(frame, after)
 }
 
-// Whether the report is accepted and its ticks exceed C. The dispatcher's answer does not tell: a count stops at 65,535.
-fn is_above(request: &[u8], task: u8, ticks: u32) -> bool
-    ensures { λ r. ⌜ r ≡ aboveC (reading (now (request .entry))) task ticks ⌝ }
-{
-    let read = request::read(request);
-    if read.refusal != 0 {
-        return false;
-    }
-    let i = task as usize;
-    if read.n <= i {
-        return false;
-    }
-    let tasks = read.tasks;
-    let x = tasks[i];
-    (x.c as u32) < ticks
-}
-
 // The status after a report: bit 1 is set by one above C.
 fn marked_if(over: bool, status: Status) -> Status
     ensures { λ r. ⌜ r ≡ marked over status ⌝ }
@@ -343,11 +326,10 @@ fn marked_if(over: bool, status: Status) -> Status
 pub fn report(request: &[u8], task: u8, ticks: u32, timer: Timer) -> Changed
     ensures { λ r. ⌜ r ≡ reporting (reading (now (request .entry))) task ticks timer ⌝ }
 {
-    let over = is_above(request, task, ticks);
     let reported = dispatcher::report(request, task, ticks, timer.state);
     let state = reported.state;
     let control = timer.control;
-    let status = marked_if(over, timer.status);
+    let status = marked_if(reported.over, timer.status);
     Changed {
         refusal: reported.refusal,
         timer: Timer {
