@@ -1,6 +1,6 @@
 -- Lists of bus_draft_lift and bus_draft_put from C, on the bytes of a draft, and bus_draft_write after them: they answer as the calls on drafts do. All get one
 -- request.
-use Prim.Native.Nat.{ℕ}
+use Prim.Native.Nat.{ℕ, _<_}
 use mathlib.Core.Path.{_≡_}
 use mathlib.Core.Bool.{true}
 use mathlib.Core.List.{List}
@@ -31,7 +31,7 @@ module _ (request : List ℕ) where
   abbrev pub drafts : Kind Draft Move ℤ Move
   drafts = record {
     size = 770;
-    used = 770;
+    Used = λ i. i < 770;
     good = λ bytes. leb 770 (length bytes);
     says = draftIn;
     seen = seenOfDraft;

@@ -90,7 +90,12 @@ module _ (request : List ℕ) where
     seen-so = rw (le-ltb (length bytes) 770 room)
 
     stands-so : draftIn (draftedBytes made bytes) ≡ made .draft → Stands (drafts request) bytes (made .draft) (draftedBytes made bytes)
-    stands-so said = record { good = long-enough (length (draftedBytes made bytes)) (omega (arith, go .0, room)); said = said; as-long = go .0; kept = go .1 }
+    stands-so said = record {
+      good = long-enough (length (draftedBytes made bytes)) (omega (arith, go .0, room));
+      said = said;
+      as-long = go .0;
+      kept = λ i h. go .1 i (⊎-elim (λ low. absurd (h low)) (λ far. far) (lt-or-ge i 770));
+    }
       where
         go : (length (draftedBytes made bytes) ≡ length bytes) × ((i : ℕ) → 770 ≤ i → getD (draftedBytes made bytes) i 0 ≡ getD bytes i 0)
         go = case (eqb (made .refusal) 0) refl
@@ -129,7 +134,7 @@ module _ (request : List ℕ) where
   one-call : OneCall (drafts request)
   unfolding draftAfter
   one-call = record {
-    used-few = omega arith;
+    used-few = λ i h. h;
     long = λ bytes good. leb-true 770 (length bytes) good;
     alike = alike;
     refused = sent-back;

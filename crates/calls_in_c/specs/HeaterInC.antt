@@ -1,7 +1,8 @@
 -- Lists of bus_heater_serve from C, on the bytes of a heater: they answer as the link's calls do, so the law of the link holds of what the caller sees.
-use Prim.Native.Nat.{ℕ}
+use Prim.Native.Nat.{ℕ, _≤_, _<_}
 use mathlib.Core.Path.{_≡_}
 use mathlib.Core.Bool.{Bool, false}
+use mathlib.Core.Logic.{_⊎_}
 use mathlib.Core.List.{List, _++_}
 use lib.IntN.{ℤ, pos, negsuc}
 use lib.ListN.{length, getD, drop}
@@ -66,11 +67,14 @@ exchangeShown entries r = record {
   answered = r .answered;
 }
 
--- 72 bytes, of which the first 68 are used
+-- the state's 35 bytes, the two bits, and what the last call said
+abbrev pub UsedInHeater : ℕ → Type 0
+UsedInHeater i = (i < 35) ⊎ ((64 ≤ i) × (i < 68))
+
 abbrev pub heaters : Kind Link HeaterCall HeaterSeen Ask
 heaters = record {
   size = 72;
-  used = 68;
+  Used = UsedInHeater;
   good = isHeater;
   says = linkOf;
   seen = seenOfHeater;

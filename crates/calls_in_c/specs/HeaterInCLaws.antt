@@ -7,7 +7,8 @@ use mathlib.Core.List.{List, [], _∷_, _++_}
 use native.Mathlib.Nat.{zero-add}
 use native.Mathlib.Omega.{arith}
 use lib.IntN.{pos}
-use lib.ListN.{length, getD, drop, length-append, length-replicate}
+use lib.ListN.{length, getD, take, drop, length-append, length-replicate, List·getD-append}
+use lib.Seq.{length-take-le, getD-take}
 use lib.Dec.{eqb, leb}
 use borrow.Author.Tests.{le-ltb, lt-ltb, leb-true, leb-false, ne-eqb}
 use Rattle.cursor.specs.Choice.{bit, keep}
@@ -26,7 +27,8 @@ use Rattle.heater_link.specs.declared.Link.{Link}
 use Rattle.heater_link.specs.declared.Exchange.{Exchange}
 use Rattle.lent.specs.Words.{zeros}
 use Rattle.lent.specs.StateLaws.{long}
-use Rattle.lent.specs.StateBack.{same-state, counts-read}
+use Rattle.lent.specs.State.{stateBytes}
+use Rattle.lent.specs.StateBack.{same-state, counts-read, state-kept, state-length}
 use Rattle.lent.specs.HeaterBytes.{isHeater, linkOf, heaterBytes}
 use Rattle.lent.specs.HeaterByteLaws.{heater-long}
 use Rattle.lent.specs.HeaterBytesBack.{heater-length, heater-is, link-read, toggled-there, answered-there, heater-kept}
@@ -36,10 +38,14 @@ use Rattle.bus.specs.HeaterLaws.{heater-fresh-refused, heater-fresh-made}
 use Rattle.bus_laws.specs.Answered.{not-refused}
 use Rattle.calls_in_c.specs.Runs.{Lending, enough, fed, allShown, Runs}
 use Rattle.calls_in_c.specs.RunLaws.{Stands, OneCall, runs-all}
-use Rattle.calls_in_c.specs.HeaterInC.{HeaterCall, HeaterSeen, toldBy, heaterLeft, seenOfHeater, heaterSentBack, heaterAsked, exchangeShown, heaters, HeaterToldInC, HeaterInC}
+use Rattle.calls_in_c.specs.HeaterInC.{HeaterCall, HeaterSeen, toldBy, heaterLeft, seenOfHeater, heaterSentBack, heaterAsked, exchangeShown, UsedInHeater, heaters, HeaterToldInC, HeaterInC}
 
--- the first 68 bytes decide whether bytes are a heater, and what they say
-alike : (a b : List ℕ) → 72 ≤ length a → 72 ≤ length b → ((i : ℕ) → i < 68 → getD a i 0 ≡ getD b i 0) → (isHeater a ≡ isHeater b) × (linkOf a ≡ linkOf b)
+used-few : (i : ℕ) → UsedInHeater i → i < 72
+used-few i (inl h) = omega (arith, h)
+used-few i (inr h) = omega (arith, h .1)
+
+-- the used bytes decide whether bytes are a heater, and what they say
+alike : (a b : List ℕ) → 72 ≤ length a → 72 ≤ length b → ((i : ℕ) → UsedInHeater i → getD a i 0 ≡ getD b i 0) → (isHeater a ≡ isHeater b) × (linkOf a ≡ linkOf b)
 unfolding isHeater linkOf
 alike a b long-a long-b same = (
   rw (
@@ -47,14 +53,32 @@ alike a b long-a long-b same = (
     le-ltb (length b) 72 long-b,
     ← long a (omega (arith, long-a)),
     ← long b (omega (arith, long-b)),
-    same 2 (omega arith),
-    same 64 (omega arith),
-    same 65 (omega arith),
-    same 66 (omega arith),
-    same 67 (omega arith),
+    same 2 (inl (omega arith)),
+    same 64 (inr (omega arith, omega arith)),
+    same 65 (inr (omega arith, omega arith)),
+    same 66 (inr (omega arith, omega arith)),
+    same 67 (inr (omega arith, omega arith)),
   ),
-  rw (same-state a b (λ i h. same i (omega arith)), same 64 (omega arith), same 65 (omega arith)),
+  rw (same-state a b (λ i h. same i (inl h)), same 64 (inr (omega arith, omega arith)), same 65 (inr (omega arith, omega arith))),
 )
+
+-- no other is written
+module _ (s : Link) (toggled answered : Bool) (bytes : List ℕ) (far : 72 ≤ length bytes) where
+  abbrev state : List ℕ
+  state = stateBytes (s .state) bytes
+
+  front-long : length (take 64 state) ≡ 64
+  front-long = length-take-le 64 state (omega (arith, state-length (s .state) bytes (omega (arith, far))))
+
+  in-state : (i : ℕ) → i < 64 → 35 ≤ i → getD (heaterBytes s toggled answered bytes) i 0 ≡ getD bytes i 0
+  unfolding heaterBytes
+  in-state i h l = List·getD-append (take 64 state) _ 0 i (omega (arith, front-long)) ∙ getD-take 64 state i 0 h ∙ state-kept (s .state) bytes i l
+
+  kept : (i : ℕ) → (UsedInHeater i → ⊥) → getD (heaterBytes s toggled answered bytes) i 0 ≡ getD bytes i 0
+  kept i h =
+      let behind : 35 ≤ i = ⊎-elim (λ low. absurd (h (inl low))) (λ l. l) (lt-or-ge i 35) in
+      ⊎-elim (λ low. in-state i low behind)
+      (λ high. heater-kept s toggled answered bytes far i (⊎-elim (λ low. absurd (h (inr (high, low)))) (λ l. l) (lt-or-ge i 68))) (lt-or-ge i 64)
 
 -- What a call of the link comes to: a refusal, with the link as it was, or a frame served; 16 counts stay 16
 
@@ -124,7 +148,7 @@ module _ (c : HeaterCall) (bytes : List ℕ) (is : isHeater bytes ≡ true) (len
           good = heater-is (r .link) (r .toggled) (r .answered) bytes far;
           said = link-read (r .link) (r .toggled) (r .answered) bytes far all;
           as-long = heater-length (r .link) (r .toggled) (r .answered) bytes far;
-          kept = heater-kept (r .link) (r .toggled) (r .answered) bytes far;
+          kept = kept (r .link) (r .toggled) (r .answered) bytes far;
         },
       )
 
@@ -147,7 +171,7 @@ sent-back c bytes short = rw (cannot c bytes (isHeater bytes) refl short) (refl,
 one-call : OneCall heaters
 unfolding linkFrom
 one-call = record {
-  used-few = omega arith;
+  used-few = used-few;
   long = heater-long;
   alike = alike;
   refused = sent-back;

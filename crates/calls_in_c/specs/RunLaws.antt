@@ -13,23 +13,23 @@ use Rattle.cursor.specs.Choice.{keep}
 use Rattle.cursor.specs.ChoiceLaws.{lt-or-ge}
 use Rattle.calls_in_c.specs.Runs.{Lending, Kind, seenOf, leftBy, allSeen, bytesLeft, enough, fed, allShown, Runs, Refused, RunsAll}
 
-module _ {S C Seen B : Type 0} (k : Kind S C Seen B) where
+module _ {S Call Seen B : Type 0} (k : Kind S Call Seen B) where
   -- the bytes `new` come from `bytes` and say s
   pub record Stands (bytes : List ℕ) (s : S) (new : List ℕ) : Type 0 where
     pub good : k .good new ≡ true
     pub said : k .says new ≡ s
     pub as-long : length new ≡ length bytes
-    pub kept : (i : ℕ) → k .used ≤ i → getD new i 0 ≡ getD bytes i 0
+    pub kept : (i : ℕ) → (k .Used i → ⊥) → getD new i 0 ≡ getD bytes i 0
 
   -- what is known of one call on the bytes that it is lent
   pub record OneCall : Type 0 where
-    pub used-few : k .used ≤ k .size
+    pub used-few : (i : ℕ) → k .Used i → i < k .size
     pub long : (bytes : List ℕ) → k .good bytes ≡ true → k .size ≤ length bytes
     -- the used bytes decide
-    pub alike : (a b : List ℕ) → k .size ≤ length a → k .size ≤ length b → ((i : ℕ) → i < k .used → getD a i 0 ≡ getD b i 0)
+    pub alike : (a b : List ℕ) → k .size ≤ length a → k .size ≤ length b → ((i : ℕ) → k .Used i → getD a i 0 ≡ getD b i 0)
         → (k .good a ≡ k .good b) × (k .says a ≡ k .says b)
-    pub refused : (c : C) (bytes : List ℕ) → k .good bytes && k .fits c ≡ false → (k .seen c bytes ≡ k .sentBack c) × (k .leaves c bytes ≡ bytes)
-    pub made : (c : C) (bytes : List ℕ) → k .good bytes ≡ true → k .fits c ≡ true
+    pub refused : (c : Call) (bytes : List ℕ) → k .good bytes && k .fits c ≡ false → (k .seen c bytes ≡ k .sentBack c) × (k .leaves c bytes ≡ bytes)
+    pub made : (c : Call) (bytes : List ℕ) → k .good bytes ≡ true → k .fits c ≡ true
         → (k .seen c bytes ≡ k .shown c (k .says bytes)) × Stands bytes (k .final (k .says bytes) (k .asked c ∷ [])) (k .leaves c bytes)
     pub none : (s : S) → k .final s [] ≡ s
     pub more : (s : S) (b : B) (bs : List B) → k .final s (b ∷ bs) ≡ k .final (k .final s (b ∷ [])) bs
@@ -77,13 +77,13 @@ module _ {S C Seen B : Type 0} (k : Kind S C Seen B) where
         long-front = let far = one .long bytes good in rw (length-take n bytes) (omega (arith, far, room))
 
         same-front : (k .good front ≡ k .good bytes) × (k .says front ≡ k .says bytes)
-        same-front = one .alike front bytes long-front (one .long bytes good) (λ i h. in-front i (omega (arith, h, one .used-few, long-front)))
+        same-front = one .alike front bytes long-front (one .long bytes good) (λ i h. in-front i (omega (arith, one .used-few i h, long-front)))
 
         stood : (s : S) (new : List ℕ) → Stands front s new → Stands bytes s (new ++ behind)
         stood s new st =
             let long-new : k .size ≤ length (new ++ behind) = omega (arith, one .long bytes good, new-length new (st .as-long)) in
             let a = one .alike (new ++ behind) new long-new (omega (arith, st .as-long, long-front))
-            (λ i h. new-front new (st .as-long) i (omega (arith, h, one .used-few, long-front))) in
+            (λ i h. new-front new (st .as-long) i (omega (arith, one .used-few i h, long-front))) in
             record {
               good = a .0 ∙ st .good;
               said = a .1 ∙ st .said;
@@ -104,11 +104,11 @@ module _ {S C Seen B : Type 0} (k : Kind S C Seen B) where
     short-front bytes n h = too-few (take n bytes) (let some = length-take n bytes in omega (arith, some, h))
 
     -- what a call comes to, if it lends enough (`b`) or not
-    record Step (bytes : List ℕ) (l : Lending C) (b : Bool) : Type 0 where
+    record Step (bytes : List ℕ) (l : Lending Call) (b : Bool) : Type 0 where
       seen-so : seenOf k bytes l ≡ cond b (k .shown (l .call) (k .says bytes)) (k .sentBack (l .call))
       stands : Stands bytes (k .final (k .says bytes) (keep b (k .asked (l .call)) [])) (leftBy k bytes l)
 
-    module _ (bytes : List ℕ) (l : Lending C) (good : k .good bytes ≡ true) where
+    module _ (bytes : List ℕ) (l : Lending Call) (good : k .good bytes ≡ true) where
       step-back : k .good (take (l .lent) bytes) && k .fits (l .call) ≡ false → Step bytes l false
       step-back e =
           let back = one .refused (l .call) (take (l .lent) bytes) e in
@@ -134,7 +134,7 @@ module _ {S C Seen B : Type 0} (k : Kind S C Seen B) where
 
     -- A list of calls
 
-    final-fed : (l : Lending C) (ls : List (Lending C)) (s : S) → k .final s (fed k (l ∷ ls)) ≡ k .final (k .final s (fed k (l ∷ []))) (fed k ls)
+    final-fed : (l : Lending Call) (ls : List (Lending Call)) (s : S) → k .final s (fed k (l ∷ ls)) ≡ k .final (k .final s (fed k (l ∷ []))) (fed k ls)
     unfolding fed
     final-fed l ls s = go (enough k l)
       where
@@ -142,9 +142,9 @@ module _ {S C Seen B : Type 0} (k : Kind S C Seen B) where
         go true = one .more s (k .asked (l .call)) (fed k ls)
         go false = rw (one .none s)
 
-    runs : (calls : List (Lending C)) (bytes : List ℕ) → k .good bytes ≡ true → Runs k bytes calls
+    runs : (calls : List (Lending Call)) (bytes : List ℕ) → k .good bytes ≡ true → Runs k bytes calls
     unfolding allSeen bytesLeft allShown fed
-    runs [] bytes good = record { same-seen = refl; still-good = good; same-said = sym (one .none (k .says bytes)); same-length = refl; rest-kept = λ i h. refl }
+    runs [] bytes good = record { same-seen = refl; still-good = good; same-said = sym (one .none (k .says bytes)); changed = (refl, λ i h. refl) }
     runs (l ∷ ls) bytes good =
         let st = step bytes l good in
         let new = st .stands in
@@ -153,8 +153,7 @@ module _ {S C Seen B : Type 0} (k : Kind S C Seen B) where
           same-seen = rw (st .seen-so, rest .same-seen, new .said);
           still-good = rest .still-good;
           same-said = rest .same-said ∙ rw (new .said) (sym (final-fed l ls (k .says bytes)));
-          same-length = rest .same-length ∙ new .as-long;
-          rest-kept = λ i h. rest .rest-kept i h ∙ new .kept i h;
+          changed = (rest .changed .0 ∙ new .as-long, λ i h. rest .changed .1 i h ∙ new .kept i h);
         }
 
     -- bytes that are not good, and so are none of their fronts
@@ -165,9 +164,9 @@ module _ {S C Seen B : Type 0} (k : Kind S C Seen B) where
         all : k .size ≤ length (take n bytes) → k .good (take n bytes) ≡ false
         all far =
             let some = length-take n bytes in
-            one .alike (take n bytes) bytes far (omega (arith, some, far)) (λ i h. in-front bytes n i (omega (arith, h, one .used-few, far))) .0 ∙ bad
+            one .alike (take n bytes) bytes far (omega (arith, some, far)) (λ i h. in-front bytes n i (omega (arith, one .used-few i h, far))) .0 ∙ bad
 
-    back : (calls : List (Lending C)) (bytes : List ℕ) → k .good bytes ≡ false → Refused k bytes calls
+    back : (calls : List (Lending Call)) (bytes : List ℕ) → k .good bytes ≡ false → Refused k bytes calls
     unfolding allSeen bytesLeft
     back [] bytes bad = record { all-refused = refl; bytes-kept = refl }
     back (l ∷ ls) bytes bad =

@@ -1,7 +1,8 @@
 -- Lists of the bus_timer calls from C, on the bytes of a timer: they answer as the timer's calls do, so the registers are as told.
-use Prim.Native.Nat.{ℕ}
+use Prim.Native.Nat.{ℕ, _<_}
 use mathlib.Core.Path.{_≡_}
 use mathlib.Core.Bool.{Bool, true, cond}
+use mathlib.Core.Logic.{_⊎_}
 use mathlib.Core.List.{List, [], _++_}
 use lib.IntN.{pos}
 use lib.ListN.{length, drop}
@@ -98,11 +99,14 @@ answerShown entries due (below.level on) = number (pos (bit on))
 abbrev pub timerShown : TimerCall → Timer → Seen
 timerShown c t = answerShown (entriesOf c) (t .status .due) (below.turn t (timerAsked c) .answer)
 
--- 72 bytes, of which the first 66 are used
+-- the state's 35 bytes, control and status
+abbrev pub UsedInTimer : ℕ → Type 0
+UsedInTimer i = (i < 35) ⊎ ((i ≡ 64) ⊎ (i ≡ 65))
+
 abbrev pub timers : Kind Timer TimerCall Seen below.RegisterCall
 timers = record {
   size = 72;
-  used = 66;
+  Used = UsedInTimer;
   good = isTimer;
   says = timerOf;
   seen = seenOfTimer;

@@ -2,11 +2,12 @@
 use Prim.Native.Nat.{ℕ, _+_, _≤_, _<_}
 use mathlib.Core.Path.{_≡_, refl, sym, ap, _∙_}
 use mathlib.Core.Bool.{Bool, true, false, false≢true, cond, _&&_}
-use mathlib.Core.Logic.{⊎-elim}
+use mathlib.Core.Logic.{inl, inr, ⊎-elim}
 use mathlib.Core.List.{List, [], _∷_, _++_}
 use native.Mathlib.Omega.{arith}
 use lib.IntN.{pos}
-use lib.ListN.{length, getD, drop, length-append, length-replicate}
+use lib.ListN.{length, getD, set, drop, length-append, length-replicate}
+use lib.Seq.{getD-set-other}
 use lib.Dec.{eqb}
 use borrow.Author.Tests.{le-ltb, lt-ltb, eqb-true, eqb-false, leb-true, leb-false}
 use Rattle.cursor.specs.ChoiceLaws.{lt-or-ge}
@@ -16,16 +17,17 @@ use Rattle.dispatcher.specs.Dispatch.{nextFrame}
 use Rattle.dispatcher.specs.FrameLaws.{frame-counts}
 use Rattle.dispatcher.specs.ReportLaws.{report-as-many}
 use Rattle.dispatcher.specs.declared.State.{State}
-use Rattle.timer.specs.Registers.{freshTimer, afterWrite, afterEvent, serving, reporting}
+use Rattle.timer.specs.Registers.{controlByte, statusByte, freshTimer, afterWrite, afterEvent, serving, reporting}
 use Rattle.timer.specs.RegisterLaws.{write-parts, event-parts, serve-parts, serve-none}
 use Rattle.timer.specs.declared.Timer.{Timer}
 use Rattle.flight_timer.specs.Calls as below
 use Rattle.flight_timer.specs.ToldLaws.{still, registers-told}
 use Rattle.lent.specs.Words.{zeros}
-use Rattle.lent.specs.StateBack.{same-state, counts-read}
+use Rattle.lent.specs.State.{stateBytes}
+use Rattle.lent.specs.StateBack.{same-state, counts-read, state-kept}
 use Rattle.lent.specs.TimerBytes.{isTimer, timerOf, timerBytes}
 use Rattle.lent.specs.TimerByteLaws.{timer-long}
-use Rattle.lent.specs.TimerBytesBack.{timer-length, timer-is, timer-read, timer-kept}
+use Rattle.lent.specs.TimerBytesBack.{timer-length, timer-is, timer-read}
 use Rattle.bus.specs.Reply.{after}
 use Rattle.bus.specs.ReplyLaws.{after-refusal, after-value}
 use Rattle.bus.specs.Timer.{timerFreshReply, timerFreshBytes, timerReadReply, timerWriteReply, timerWriteBytes, timerEventReply, timerEventBytes}
@@ -35,15 +37,29 @@ use Rattle.bus_laws.specs.Answered.{not-refused}
 use Rattle.calls_in_c.specs.Runs.{Lending, fed, Runs}
 use Rattle.calls_in_c.specs.RunLaws.{Stands, OneCall, runs-all}
 use Rattle.calls_in_c.specs.TimerInC.{TimerCall, read, write, event, serve, report, line, seenOfTimer, timerLeft, entriesLent, timerSentBack}
-use Rattle.calls_in_c.specs.TimerInC.{timerAsked, timerShown, timers, TimerToldInC, TimerInC}
+use Rattle.calls_in_c.specs.TimerInC.{timerAsked, timerShown, UsedInTimer, timers, TimerToldInC, TimerInC}
 
--- the first 66 bytes decide whether bytes are a timer, and what they say
-alike : (a b : List ℕ) → 72 ≤ length a → 72 ≤ length b → ((i : ℕ) → i < 66 → getD a i 0 ≡ getD b i 0) → (isTimer a ≡ isTimer b) × (timerOf a ≡ timerOf b)
+used-few : (i : ℕ) → UsedInTimer i → i < 72
+used-few i (inl h) = omega (arith, h)
+used-few i (inr (inl e)) = omega (arith, e)
+used-few i (inr (inr e)) = omega (arith, e)
+
+-- the used bytes decide whether bytes are a timer, and what they say
+alike : (a b : List ℕ) → 72 ≤ length a → 72 ≤ length b → ((i : ℕ) → UsedInTimer i → getD a i 0 ≡ getD b i 0) → (isTimer a ≡ isTimer b) × (timerOf a ≡ timerOf b)
 unfolding isTimer timerOf
 alike a b long-a long-b same = (
-  rw (le-ltb (length a) 72 long-a, le-ltb (length b) 72 long-b, same 2 (omega arith), same 64 (omega arith), same 65 (omega arith)),
-  rw (same-state a b (λ i h. same i (omega arith)), same 64 (omega arith), same 65 (omega arith)),
+  rw (le-ltb (length a) 72 long-a, le-ltb (length b) 72 long-b, same 2 (inl (omega arith)), same 64 (inr (inl refl)), same 65 (inr (inr refl))),
+  rw (same-state a b (λ i h. same i (inl h)), same 64 (inr (inl refl)), same 65 (inr (inr refl))),
 )
+
+-- no other is written
+kept : (t : Timer) (bytes : List ℕ) (i : ℕ) → (UsedInTimer i → ⊥) → getD (timerBytes t bytes) i 0 ≡ getD bytes i 0
+unfolding timerBytes
+kept t bytes i h =
+    let control = set (stateBytes (t .state) bytes) 64 (controlByte (t .control)) in
+    getD-set-other control 65 i (statusByte (t .status)) 0 (λ e. h (inr (inr e)))
+    ∙ getD-set-other (stateBytes (t .state) bytes) 64 i (controlByte (t .control)) 0 (λ e. h (inr (inl e)))
+    ∙ state-kept (t .state) bytes i (⊎-elim (λ low. absurd (h (inl low))) (λ far. far) (lt-or-ge i 35))
 
 -- 16 counts stay 16
 as-many : (t : Timer) (c : below.RegisterCall) → length (below.turn t c .after .state .counts) ≡ length (t .state .counts)
@@ -67,7 +83,7 @@ module _ (bytes : List ℕ) (is : isTimer bytes ≡ true) where
   wrote : (t : Timer) → length (t .state .counts) ≡ 16 → Stands timers bytes t (timerBytes t bytes)
   wrote t all =
       let far = timer-long bytes is in
-      record { good = timer-is t bytes far; said = timer-read t bytes far all; as-long = timer-length t bytes far; kept = timer-kept t bytes far }
+      record { good = timer-is t bytes far; said = timer-read t bytes far all; as-long = timer-length t bytes far; kept = kept t bytes }
 
   -- unless the call is refused, and then there is the timer that was
   wrote-after : (refusal : ℕ) (t : Timer) → length (t .state .counts) ≡ 16 → ((refusal ≡ 0 → ⊥) → t ≡ timerOf bytes)
@@ -157,7 +173,7 @@ sent-back c bytes short = go (isTimer bytes) refl short
 one-call : OneCall timers
 unfolding below.timerFrom
 one-call = record {
-  used-few = omega arith;
+  used-few = used-few;
   long = timer-long;
   alike = alike;
   refused = sent-back;
