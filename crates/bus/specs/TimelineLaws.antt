@@ -6,8 +6,8 @@ use native.Mathlib.Omega.{arith}
 use lib.IntN.{pos}
 use lib.ListN.{length, drop}
 use Rattle.job_records.specs.Timeline.{Timeline, timeline, refusal, filling, filledAnswer}
-use Rattle.job_records.specs.Known.{KnownFor, recordsKnown}
-use Rattle.job_records.specs.KnownLaws.{known-are}
+use Rattle.job_records.specs.Known.{knownAnswer, recordsKnown}
+use Rattle.job_records.specs.KnownLaws.{KnownFor, known-for, known-are}
 use Rattle.job_records.specs.FillLaws.{filling-few, fill-answer}
 use Rattle.job_records.specs.declared.JobsKnown.{JobsKnown}
 use Rattle.lent.specs.Records.{recordBytes}
@@ -15,9 +15,12 @@ use Rattle.bus.specs.Reply.{refusedReply}
 use Rattle.bus.specs.ReplyLaws.{reply-refused, reply-value}
 use Rattle.bus.specs.Timeline.{filledReply, filledBytes, fillingInC, timelineReply, timelineRecords}
 
-module _ (request table records : List ℕ) (k : JobsKnown) (known : KnownFor (filling request table (length records / 8)) k) where
+module _ (request table records : List ℕ) (k : JobsKnown) (said : k ≡ knownAnswer (filling request table (length records / 8))) where
   abbrev tl : Timeline
   tl = fillingInC request table records
+
+  abbrev pub known : KnownFor tl k
+  known = known-for request table (length records / 8) k said
 
   answer-is : filledReply (record { refusal = k .refusal; count = k .count }) ≡ timelineReply request table records
   unfolding timelineReply

@@ -9,7 +9,8 @@ use lib.ListN.{length, getD, set, take, drop}
 use lib.Seq.{take-length}
 use borrow.Author.Tests.{ltb-false}
 use Rattle.job_records.specs.Timeline.{noRecord, Timeline, timeline, refusal, timelineFor, fitting, filling, recordsIn, filledAnswer, filledRecords}
-use Rattle.job_records.specs.Known.{recordHere, KnownFor}
+use Rattle.job_records.specs.Known.{recordHere}
+use Rattle.job_records.specs.KnownLaws.{KnownFor}
 use Rattle.job_records.specs.declared.JobRecord.{JobRecord}
 use Rattle.job_records.specs.declared.JobsKnown.{JobsKnown}
 

@@ -1,29 +1,35 @@
--- What filling goes by is what the timeline says: where the check refuses, where the list is too short, and where it is long enough. The records, one place
--- after the other, are the timeline's.
-use Prim.Native.Nat.{ℕ, zero, suc, _+_, _-_, _≤_, _<_, min}
+-- What filling comes to: where the check refuses, where the list is too short, and where it is long enough; and so the answer of `known`. The records that are
+-- made of it, one place after the other, are the timeline's.
+use Prim.Native.Nat.{ℕ, zero, suc, _+_, _-_, _≤_, _<_}
 use mathlib.Core.Path.{_≡_, refl, sym, ap, ap₂, _∙_}
-use mathlib.Core.List.{List, [], _∷_}
+use mathlib.Core.Logic.{⊎-elim}
+use mathlib.Core.List.{List, [], _∷_, map}
 use native.Mathlib.Nat.{zero-add}
 use native.Mathlib.Omega.{arith}
 use lib.ListN.{length, getD, drop}
 use lib.Seq.{drop-cons, drop-length}
 use borrow.Author.Tests.{lt-ltb, le-ltb}
-use Rattle.cursor.specs.PaddedLaws.{getD-padded, getD-firsts}
-use Rattle.cycle.specs.Cycle.{cycleOf}
-use Rattle.cycle.specs.Answers.{cycleAnswered}
+use Rattle.cursor.specs.ChoiceLaws.{lt-or-ge}
+use Rattle.cursor.specs.Padded.{padded}
+use Rattle.cursor.specs.PaddedLaws.{getD-padded-any, map-at}
+use Rattle.cycle.specs.Cycle.{Cycle, cycleOf}
+use Rattle.cycle.specs.Answers.{cycleAnswered, listed}
 use Rattle.cycle.specs.Planned.{noJob}
 use Rattle.cycle.specs.declared.Job.{Job}
 use Rattle.table.specs.Table.{decode}
 use Rattle.table.specs.Left.{less-one, none-left}
+use Rattle.model.specs.Plan.{Instance, IsPlan}
 use Rattle.model.specs.Answers.{instanceOf}
 use Rattle.model.specs.AnswerLaws.{jobs-counted}
+use Rattle.model.specs.Within.{Within}
+use Rattle.model.specs.WithinLaws.{within-good}
 use Rattle.checker.specs.Checked as checker
 use Rattle.checker.specs.Checked.{Verdict, checked}
 use Rattle.checker.specs.Answers.{readAnswer}
-use Rattle.checker.specs.Verdicts.{HandedOn, handed-on}
+use Rattle.checker.specs.Verdicts.{plan-read, HandedOn, handed-on}
 use Rattle.checker.specs.declared.Read.{Read}
-use Rattle.job_records.specs.Timeline.{recordOf, noRecord, recordsOf, Timeline, timeline, refusal, timelineBy, timelineOf, fitting, filling, recordsIn}
-use Rattle.job_records.specs.Known.{recordHere, KnownFor, recordsFrom, recordsKnown}
+use Rattle.job_records.specs.Timeline.{recordOf, noRecord, recordsOf, Timeline, timeline, refusal, timelineOf, fitting, filling, recordsIn, filledAnswer}
+use Rattle.job_records.specs.Known.{jobIn, frameIn, knownAnswer, recordHere, recordsFrom, recordsKnown}
 use Rattle.job_records.specs.declared.JobRecord.{JobRecord}
 use Rattle.job_records.specs.declared.JobsKnown.{JobsKnown}
 
@@ -42,58 +48,128 @@ record-at (job ∷ jobs) [] y e h = absurd (omega (arith, e))
 record-at (job ∷ jobs) (k ∷ frames) zero e h = refl
 record-at (job ∷ jobs) (k ∷ frames) (suc y) e h = record-at jobs frames y (omega (arith, e)) (omega arith)
 
-module _ (request bytes : List ℕ) (places : ℕ) where
-  abbrev fillingHere : Timeline
-  fillingHere = filling request bytes places
+-- a record says its job and its frame
+jobs-said : (jobs : List Job) (frames : List ℕ) → length frames ≡ length jobs → map jobIn (recordsOf jobs frames) ≡ jobs
+unfolding recordsOf
+jobs-said [] frames e = refl
+jobs-said (job ∷ jobs) [] e = absurd (omega (arith, e))
+jobs-said (job ∷ jobs) (k ∷ frames) e = ap (λ (l : List Job). job ∷ l) (jobs-said jobs frames (omega (arith, e)))
 
-  module _ (r : Read) (e : r ≡ readAnswer (cycleAnswered (cycleOf request)) (checked (cycleOf request) (decode bytes))) (jobs : List Job) (frames : List ℕ) where
-    -- the check refuses
-    pub not-known : (r .refusal ≡ 0 → ⊥) → KnownFor fillingHere (record { refusal = r .refusal; count = 0; jobs = jobs; frames = frames })
+frames-said : (jobs : List Job) (frames : List ℕ) → length frames ≡ length jobs → map frameIn (recordsOf jobs frames) ≡ frames
+unfolding recordsOf
+frames-said [] [] e = refl
+frames-said [] (k ∷ frames) e = absurd (omega (arith, e))
+frames-said (job ∷ jobs) [] e = absurd (omega (arith, e))
+frames-said (job ∷ jobs) (k ∷ frames) e = ap (λ (l : List ℕ). k ∷ l) (frames-said jobs frames (omega (arith, e)))
+
+module _ (request bytes : List ℕ) where
+  -- the check refuses
+  pub refused-is : (places n : ℕ) → checked (cycleOf request) (decode bytes) ≡ checker.refusal n → filling request bytes places ≡ refusal n
+  unfolding filling timelineOf
+  refused-is places n e = rw e
+
+  -- the check has read a plan
+  module _ (x : Instance) (within : Within request x) (f : ℕ) (frames : List ℕ) (verdict : checked (cycleOf request) (decode bytes) ≡ checker.accepted f frames)
+      (plan : IsPlan x f frames) (places : ℕ) where
+    abbrev records : List JobRecord
+    records = recordsOf (x .jobs) frames
+
+    many : length records ≡ length (x .jobs)
+    many = records-count (x .jobs) frames (plan .all)
+
+    fills : filling request bytes places ≡ fitting places (timeline records)
     unfolding filling timelineOf
-    not-known ne = go (checked (cycleOf request) (decode bytes)) e
-      where
-        go : (v : Verdict) → r ≡ readAnswer (cycleAnswered (cycleOf request)) v
-            → KnownFor (fitting places (timelineBy v (cycleOf request))) (record { refusal = r .refusal; count = 0; jobs = jobs; frames = frames })
-        go (checker.accepted f ks) q = absurd (ne (ap (λ (y : Read). y .refusal) q))
-        go (checker.refusal n) q = record { refusal-is = ap (λ (y : Read). y .refusal) q; count-is = refl; few = omega arith; each = λ y h. absurd (omega arith) }
+    fills = rw (verdict, within)
 
-  module _ (r : Read) (e : r ≡ readAnswer (cycleAnswered (cycleOf request)) (checked (cycleOf request) (decode bytes))) (z : r .refusal ≡ 0) where
+    pub too-short : places < length (x .jobs) → filling request bytes places ≡ refusal 11
+    too-short h = fills ∙ rw (lt-ltb places (length records) (omega (arith, many)))
+
+    pub long-enough : length (x .jobs) ≤ places → filling request bytes places ≡ timeline records
+    long-enough h = fills ∙ rw (le-ltb places (length records) (omega (arith, many)))
+
+-- The answer of `known`: r is what the check answered
+module _ (request bytes : List ℕ) (places : ℕ) (r : Read) (e : r ≡ readAnswer (cycleAnswered (cycleOf request)) (checked (cycleOf request) (decode bytes))) where
+  -- the check refuses
+  pub not-known : (r .refusal ≡ 0 → ⊥) → knownAnswer (refusal (r .refusal)) ≡ knownAnswer (filling request bytes places)
+  not-known ne = go (checked (cycleOf request) (decode bytes)) refl e
+    where
+      go : (v : Verdict) → checked (cycleOf request) (decode bytes) ≡ v → r ≡ readAnswer (cycleAnswered (cycleOf request)) v
+          → knownAnswer (refusal (r .refusal)) ≡ knownAnswer (filling request bytes places)
+      go (checker.accepted f ks) is q = absurd (ne (ap (λ (y : Read). y .refusal) q))
+      go (checker.refusal n) is q =
+          ap (λ (m : ℕ). knownAnswer (refusal m)) (ap (λ (y : Read). y .refusal) q) ∙ ap knownAnswer (sym (refused-is request bytes places n is))
+
+  module _ (z : r .refusal ≡ 0) where
     abbrev plan : HandedOn request bytes r
     plan = handed-on request bytes r e z
 
-    abbrev records : List JobRecord
-    records = recordsOf (instanceOf (r .cycle) .jobs) (plan .frames)
+    abbrev x : Instance
+    x = instanceOf (r .cycle)
 
-    filling-is : fillingHere ≡ fitting places (timeline records)
-    unfolding filling timelineOf
-    filling-is = rw (plan .verdict, plan .taken .within)
-
-    as-many : length records ≡ r .cycle .count
-    as-many = records-count (instanceOf (r .cycle) .jobs) (plan .frames) (plan .is-plan .all) ∙ jobs-counted (r .cycle) (plan .taken .limits .few-jobs)
+    counted : length (x .jobs) ≡ r .cycle .count
+    counted = jobs-counted (r .cycle) (plan .taken .limits .few-jobs)
 
     -- the list is too short
-    pub too-few : (jobs : List Job) (frames : List ℕ) → places < r .cycle .count → KnownFor fillingHere (record { refusal = 11; count = 0; jobs = jobs; frames = frames })
-    too-few jobs frames h =
-        rw (filling-is, lt-ltb places (length records) (omega (arith, as-many)))
-        (record { refusal-is = refl; count-is = refl; few = omega arith; each = λ y l. absurd (omega arith) })
+    pub too-few : places < r .cycle .count → knownAnswer (refusal 11) ≡ knownAnswer (filling request bytes places)
+    too-few h =
+        ap knownAnswer (sym (too-short request bytes x (plan .taken .within) (r .f) (plan .frames) (plan .verdict) (plan .is-plan) places (omega (arith, counted))))
 
-    -- record y is that of the job at place y
-    there : (y : ℕ) → y < r .cycle .count → getD records y noRecord ≡ recordOf (getD (r .cycle .jobs) y noJob) (getD (r .frames) y 0)
-    there y l =
-        let few : r .cycle .count ≤ 128 = plan .taken .limits .few-jobs in
-        let count : length (instanceOf (r .cycle) .jobs) ≡ r .cycle .count = jobs-counted (r .cycle) few in
-        let within : y < length (instanceOf (r .cycle) .jobs) = omega (arith, count) in
-        let job : getD (instanceOf (r .cycle) .jobs) y noJob ≡ getD (r .cycle .jobs) y noJob =
-        getD-firsts noJob (r .cycle .jobs) (min (r .cycle .count) 128) y (omega arith) in
-        let frame : getD (r .frames) y 0 ≡ getD (plan .frames) y 0 =
-        ap (λ (l : List ℕ). getD l y 0) (plan .frames-are) ∙ getD-padded 128 0 (plan .frames) y (omega (arith, plan .is-plan .all)) in
-        record-at (instanceOf (r .cycle) .jobs) (plan .frames) y (plan .is-plan .all) within ∙ ap₂ recordOf job (sym frame)
+    -- the jobs as they were read
+    jobs-read : r .cycle .jobs ≡ padded 128 noJob (x .jobs)
+    unfolding listed
+    jobs-read =
+        let read : r ≡ readAnswer (cycleAnswered (cycleOf request)) (checker.accepted (r .f) (plan .frames)) =
+        e ∙ ap (readAnswer (cycleAnswered (cycleOf request))) (plan .verdict) in
+        ap (λ (y : Read). y .cycle .jobs) read ∙ ap (λ (c : Cycle). cycleAnswered c .jobs) (plan .taken .within)
 
     -- it is long enough
-    pub all-known : r .cycle .count ≤ places → KnownFor fillingHere (record { refusal = 0; count = r .cycle .count; jobs = r .cycle .jobs; frames = r .frames })
+    pub all-known : r .cycle .count ≤ places
+        → record { refusal = 0; count = r .cycle .count; jobs = r .cycle .jobs; frames = r .frames } ≡ knownAnswer (filling request bytes places)
     all-known h =
-        rw (filling-is, le-ltb places (length records) (omega (arith, as-many)))
-        (record { refusal-is = refl; count-is = sym as-many; few = plan .taken .limits .few-jobs; each = λ y l. sym (there y l) })
+        let all : length (plan .frames) ≡ length (x .jobs) = plan .is-plan .all in
+        let jobs : r .cycle .jobs ≡ padded 128 noJob (map jobIn (recordsOf (x .jobs) (plan .frames))) =
+        jobs-read ∙ ap (padded 128 noJob) (sym (jobs-said (x .jobs) (plan .frames) all)) in
+        let frames : r .frames ≡ padded 128 0 (map frameIn (recordsOf (x .jobs) (plan .frames))) =
+        plan .frames-are ∙ ap (padded 128 0) (sym (frames-said (x .jobs) (plan .frames) all)) in
+        let count : r .cycle .count ≡ length (recordsOf (x .jobs) (plan .frames)) = sym (records-count (x .jobs) (plan .frames) all ∙ counted) in
+        (λ i. record { refusal = 0; count = count i; jobs = jobs i; frames = frames i })
+        ∙ ap knownAnswer
+        (sym (long-enough request bytes x (plan .taken .within) (r .f) (plan .frames) (plan .verdict) (plan .is-plan) places (omega (arith, counted))))
+
+-- what the answer of `known` says of its parts
+pub record KnownFor (tl : Timeline) (k : JobsKnown) : Type 0 where
+  pub refusal-is : k .refusal ≡ filledAnswer tl .refusal
+  pub count-is : k .count ≡ length (recordsIn tl)
+  pub few : k .count ≤ 128
+  pub each : (y : ℕ) → y < k .count → recordHere k y ≡ getD (recordsIn tl) y noRecord
+
+module _ (request bytes : List ℕ) (places : ℕ) where
+  abbrev tl : Timeline
+  tl = filling request bytes places
+
+  few-records : length (recordsIn tl) ≤ 128
+  few-records = go (checked (cycleOf request) (decode bytes)) refl
+    where
+      go : (v : Verdict) → checked (cycleOf request) (decode bytes) ≡ v → length (recordsIn tl) ≤ 128
+      go (checker.refusal n) is = rw (refused-is request bytes places n is) (omega arith)
+      go (checker.accepted f frames) is =
+          let p = plan-read request bytes f frames is in
+          let few : length (p .x .jobs) ≤ 128 = within-good request (p .x) (p .within) .few-jobs in
+          ⊎-elim (λ h. rw (too-short request bytes (p .x) (p .within) f frames is (p .is-plan) places h) (omega arith))
+          (λ h. rw (long-enough request bytes (p .x) (p .within) f frames is (p .is-plan) places h) (omega (arith, records-count (p .x .jobs) frames (p .is-plan .all))))
+          (lt-or-ge places (length (p .x .jobs)))
+
+  pub known-for : (k : JobsKnown) → k ≡ knownAnswer tl → KnownFor tl k
+  known-for k e = rw e (record { refusal-is = refl; count-is = refl; few = few-records; each = there })
+    where
+      there : (y : ℕ) → y < length (recordsIn tl) → recordHere (knownAnswer tl) y ≡ getD (recordsIn tl) y noRecord
+      there y h =
+          rw (
+            getD-padded-any 128 noJob (map jobIn (recordsIn tl)) y,
+            getD-padded-any 128 0 (map frameIn (recordsIn tl)) y,
+            map-at jobIn noJob noRecord (recordsIn tl) y h,
+            map-at frameIn 0 noRecord (recordsIn tl) y h,
+          )
 
 -- The records, one place after the other
 

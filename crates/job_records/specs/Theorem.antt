@@ -8,7 +8,6 @@ use native.Mathlib.Omega.{arith}
 use lib.Dec.{eqb}
 use lib.ListN.{length, getD, take, drop, length-append, length-drop}
 use lib.Seq.{getD-take, getD-drop, take-append-seam, getD-append-add}
-use borrow.Author.Tests.{lt-ltb, le-ltb}
 use Rattle.cursor.specs.ChoiceLaws.{lt-or-ge}
 use Rattle.cursor.specs.Fields.{Bytes}
 use Rattle.cursor.specs.ParsedLaws.{never}
@@ -29,8 +28,8 @@ use Rattle.checker.specs.Checked.{Verdict, framesIn, entriesRight, checked, che
 use Rattle.checker.specs.Accepts.{accepts-described}
 use Rattle.checker.specs.Verdicts.{plan-read, refusal-number}
 use Rattle.job_records.specs.declared.JobRecord.{JobRecord}
-use Rattle.job_records.specs.Timeline.{noRecord, recordsOf, Timeline, timeline, refusal, timelineOf, fitting, filling, filledAnswer, filledRecords, busyOf}
-use Rattle.job_records.specs.KnownLaws.{records-count, record-at}
+use Rattle.job_records.specs.Timeline.{noRecord, recordsOf, Timeline, timeline, refusal, filling, filledAnswer, filledRecords, busyOf}
+use Rattle.job_records.specs.KnownLaws.{records-count, record-at, refused-is, too-short, long-enough}
 use Rattle.job_records.specs.BusyLaws.{busy-same}
 use Rattle.job_records.specs.Exactly.{answer, after, FilledFor, FillExact, TimelineExact}
 
@@ -68,30 +67,6 @@ behind-getD rs lent y h =
     (getD-append-add rs (drop (length rs) lent) (y - length rs) noRecord ∙ getD-drop (length rs) lent (y - length rs) noRecord)
 
 module _ (request bytes : List ℕ) where
-  -- the check refuses
-  refused-is : (places n : ℕ) → checked (cycleOf request) (decode bytes) ≡ checker.refusal n → filling request bytes places ≡ refusal n
-  unfolding filling timelineOf
-  refused-is places n e = rw e
-
-  -- the check has read a plan
-  module _ (x : Instance) (within : Within request x) (f : ℕ) (frames : List ℕ) (verdict : checked (cycleOf request) (decode bytes) ≡ checker.accepted f frames)
-      (plan : IsPlan x f frames) (places : ℕ) where
-    abbrev records : List JobRecord
-    records = recordsOf (x .jobs) frames
-
-    many : length records ≡ length (x .jobs)
-    many = records-count (x .jobs) frames (plan .all)
-
-    fills : filling request bytes places ≡ fitting places (timeline records)
-    unfolding filling timelineOf
-    fills = rw (verdict, within)
-
-    pub too-short : places < length (x .jobs) → filling request bytes places ≡ refusal 11
-    too-short h = fills ∙ rw (lt-ltb places (length records) (omega (arith, many)))
-
-    pub long-enough : length (x .jobs) ≤ places → filling request bytes places ≡ timeline records
-    long-enough h = fills ∙ rw (le-ltb places (length records) (omega (arith, many)))
-
   module _ (are : Bytes bytes) (lent : List JobRecord) where
     abbrev number : ℕ
     number = answer request bytes lent .refusal
@@ -107,10 +82,10 @@ module _ (request bytes : List ℕ) where
       read-so a = accepts-described request bytes x t within reads (a .f) (a .frames) .1 (a .is-plan, a .describes)
 
       short-eleven : Accepted x t → length lent < length (x .jobs) → number ≡ 11
-      short-eleven a h = ap refusalIn (too-short x within (a .f) (a .frames) (read-so a) (a .is-plan) (length lent) h)
+      short-eleven a h = ap refusalIn (too-short request bytes x within (a .f) (a .frames) (read-so a) (a .is-plan) (length lent) h)
 
       long-filled : Accepted x t → length (x .jobs) ≤ length lent → number ≡ 0
-      long-filled a h = ap refusalIn (long-enough x within (a .f) (a .frames) (read-so a) (a .is-plan) (length lent) h)
+      long-filled a h = ap refusalIn (long-enough request bytes x within (a .f) (a .frames) (read-so a) (a .is-plan) (length lent) h)
 
       module _ (f : ℕ) (frames : List ℕ) (verdict : checked (cycleOf request) (decode bytes) ≡ checker.accepted f frames) (fits : length (x .jobs) ≤ length lent) where
         right : IsPlan x f frames × Describes x f frames t
@@ -120,7 +95,7 @@ module _ (request bytes : List ℕ) where
         rs = recordsOf (x .jobs) frames
 
         filled-is : filling request bytes (length lent) ≡ timeline rs
-        filled-is = long-enough x within f frames verdict (right .0) (length lent) fits
+        filled-is = long-enough request bytes x within f frames verdict (right .0) (length lent) fits
 
         as-jobs : length rs ≡ length (x .jobs)
         as-jobs = records-count (x .jobs) frames (right .0 .all)
@@ -165,7 +140,7 @@ module _ (request bytes : List ℕ) where
             read (p .x) (p .within) (p .t) (decodes-says bytes (p .t) are (p .read)) (record { f = f; frames = frames; is-plan = p .is-plan; describes = p .describes })
 
     refused-number : (n : ℕ) → checked (cycleOf request) (decode bytes) ≡ checker.refusal n → number ≡ n
-    refused-number n is = ap refusalIn (refused-is (length lent) n is)
+    refused-number n is = ap refusalIn (refused-is request bytes (length lent) n is)
 
     refused-pos : (n : ℕ) → checked (cycleOf request) (decode bytes) ≡ checker.refusal n → 0 < number
     refused-pos n is = omega (arith, refused-number n is, refusal-number request bytes n is .0)

@@ -3,8 +3,8 @@ use cycle::Job;
 ghost use mathlib.Core.Path.{_≡_};
 ghost use Prim.Native.Nat.{_<_};
 ghost use lib.ListN.{length};
-ghost use Rattle.job_records.specs.Timeline.{filling, filledAnswer, filledRecords};
-ghost use Rattle.job_records.specs.Known.{recordHere, KnownFor};
+ghost use Rattle.job_records.specs.Timeline.{Timeline, refusal, filling, filledAnswer, filledRecords};
+ghost use Rattle.job_records.specs.Known.{knownAnswer, recordHere};
 
 // Task, job, release, due time and frame, which is counted from time 0.
 pub struct JobRecord {
@@ -21,7 +21,7 @@ pub struct RecordsFilled {
     pub count: usize,
 }
 
-// The jobs that a list is filled with, in planning order, and their frames; or the number of the refusal, and a count of 0.
+// The jobs that a list is filled with, in planning order, and their frames, with zeros in the unused places; or the number of the refusal, a count of 0 and zeros.
 pub struct JobsKnown {
     pub refusal: u8,
     pub count: usize,
@@ -29,30 +29,36 @@ pub struct JobsKnown {
     pub frames: [u16; 128],
 }
 
+fn refused(number: u8) -> JobsKnown
+    ensures { λ r. ⌜ r ≡ knownAnswer (refusal number) ⌝ }
+{
+    JobsKnown {
+        refusal: number,
+        count: 0,
+        jobs: [Job {
+            task: 0,
+            number: 0,
+            release: 0,
+            due: 0,
+        }; 128],
+        frames: [0; 128],
+    }
+}
+
 // The jobs of the request and the frames that the table gives them, for a list with so many places; or the check's number, or 11 where there are fewer places.
 pub fn known(request: &[u8], table: &[u8], places: usize) -> JobsKnown
-    ensures { λ r. ⌜ KnownFor (filling (now (request .entry)) (now (table .entry)) places) r ⌝ }
+    ensures { λ r. ⌜ r ≡ knownAnswer (filling (now (request .entry)) (now (table .entry)) places) ⌝ }
 {
     let read = checker::read_plan(request, table);
+    if read.refusal != 0 {
+        return refused(read.refusal);
+    }
     let cycle = read.cycle;
+    if places < cycle.count {
+        return refused(11);
+    }
     let jobs = cycle.jobs;
     let frames = read.frames;
-    if read.refusal != 0 {
-        return JobsKnown {
-            refusal: read.refusal,
-            count: 0,
-            jobs,
-            frames,
-        };
-    }
-    if places < cycle.count {
-        return JobsKnown {
-            refusal: 11,
-            count: 0,
-            jobs,
-            frames,
-        };
-    }
     JobsKnown {
         refusal: 0,
         count: cycle.count,

@@ -30,7 +30,7 @@ use Rattle.checker.specs.Accepts.{accepts-described}
 use Rattle.plan_listing.specs.Listing.{refusedLine, tasksIn}
 use Rattle.plan_listing.specs.Answers.{tableIn}
 use Rattle.job_records.specs.Timeline.{timeline, refusal, recordsOf, timelineOf, filling, recordsIn}
-use Rattle.job_records.specs.Theorem.{long-enough}
+use Rattle.job_records.specs.KnownLaws.{long-enough}
 use Rattle.job_records.specs.declared.JobRecord.{JobRecord}
 use Rattle.timeline_listing.specs.Printed.{timelineLines, printedTimeline, timelinePlanned, timelineText}
 

@@ -14,8 +14,8 @@ use Rattle.text.specs.TextLaws.{put-none, put-append}
 use Rattle.plan_listing.specs.Listing.{tasksIn}
 use Rattle.plan_listing.specs.ListingLaws.{tasks-are}
 use Rattle.job_records.specs.Timeline.{Timeline, recordsIn, busyOf}
-use Rattle.job_records.specs.Known.{recordHere, KnownFor, recordsFrom, recordsKnown}
-use Rattle.job_records.specs.KnownLaws.{records-more, records-none, known-are}
+use Rattle.job_records.specs.Known.{recordHere, recordsFrom, recordsKnown}
+use Rattle.job_records.specs.KnownLaws.{KnownFor, records-more, records-none, known-are}
 use Rattle.job_records.specs.declared.JobRecord.{JobRecord}
 use Rattle.job_records.specs.declared.JobsKnown.{JobsKnown}
 use Rattle.timeline_listing.specs.Printed.{recordLine, recordLines, busyLine, timelineLines}

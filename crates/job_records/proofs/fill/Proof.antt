@@ -53,7 +53,8 @@ use denote.Triple.Table.{entered, cited}
 use denote.Triple.Walked.{says, Stays, stay-slice, stay-dropped, walkOf, goes-slice, goes-dropped, Walks, ends-at, walked, walk-meets}
 use denote.Exit.{yes}
 use Rattle.job_records.specs.Timeline.{Timeline, filling, recordsIn, filledRecords}
-use Rattle.job_records.specs.Known.{recordHere, KnownFor}
+use Rattle.job_records.specs.Known.{knownAnswer, recordHere}
+use Rattle.job_records.specs.KnownLaws.{KnownFor, known-for}
 use Rattle.job_records.specs.FillLaws.{filling-few, filledTo, fill-more, fill-end, fill-answer}
 use Rattle.job_records.specs.declared.JobRecord.{JobRecord}
 use Rattle.job_records.specs.declared.JobsKnown.{JobsKnown}
@@ -215,8 +216,8 @@ module _ {M : Type 1} (𝓤 : URA M) (H : Heap 𝓤) (A : Atoms 𝓤) (W : Given
   abbrev KnownEnsured : JobsKnown → SProp 𝓤
   KnownEnsured k = ensured 𝓤 H A knows.ended (knows.clauses 𝓤 H A mem run) (κ₀, (κ₁, tt)) (s, (t, (length xs, tt))) tt k
 
-  known-said : (k : JobsKnown) → ent 𝓤 (KnownEnsured k) (fact 𝓤 (KnownFor tl k))
-  known-said k = exE 𝓤 _ (λ ws. snd∗ 𝓤 (sem 𝓤 H A (lasts knows.ended (κ₀, (κ₁, tt)) (s, (t, (length xs, tt))) ws)) (fact 𝓤 (KnownFor tl k)))
+  known-said : (k : JobsKnown) → ent 𝓤 (KnownEnsured k) (fact 𝓤 (k ≡ knownAnswer tl))
+  known-said k = exE 𝓤 _ (λ ws. snd∗ 𝓤 (sem 𝓤 H A (lasts knows.ended (κ₀, (κ₁, tt)) (s, (t, (length xs, tt))) ws)) (fact 𝓤 (k ≡ knownAnswer tl)))
 
   module _ (k : JobsKnown) (is : Is K.the-row k (K′.lowered k ∷ [])) (known : KnownFor tl k) where
     abbrev n : ℕ
@@ -445,12 +446,12 @@ module _ {M : Type 1} (𝓤 : URA M) (H : Heap 𝓤) (A : Atoms 𝓤) (W : Given
           (and-then ! (load ! (from ! (stop !)) (look ! 20 refl)) (and-then ! (load ! (from ! (stop !)) (look ! 18 refl))
           (and-then ! (load ! (from ! (stop !)) (look ! 10 refl)) (no-more !)))) (λ u.
           use1 W (later (some (λ (k : JobsKnown). (Tokens ⊛ ‵ (K.the-row .own k (u ∷ []))) ⊛ raw (KnownEnsured k)))) (id⊢ 𝓤 _) $ await ! tt $ pick ! (λ k.
-          split ! $ move ! (1 ∷ []) $ use1 W (raw (fact 𝓤 (KnownFor tl k))) (known-said k) $ heard ! (KnownFor tl k) (λ known. split ! $ move ! (1 ∷ []) $
+          split ! $ move ! (1 ∷ []) $ use1 W (raw (fact 𝓤 (k ≡ knownAnswer tl))) (known-said k) $ heard ! (k ≡ knownAnswer tl) (λ said. split ! $ move ! (1 ∷ []) $
           peeks ! K.the-row (Is K.the-row) (shows 𝓤 H A K.the-row) k (u ∷ []) (λ is. drop ! $
           -- [the tokens; the third token and the records; room for _10; …]
           land ! (from ! (stop !)) (init ! 14 refl (LL.lawful K.the-type K′.the-laws 𝓤 H A W .typed k _ is .0)) $
           rewrite ! 14 (λ (vs : List Val). ‵ (fat fullShare K′.mir l₄ 0 (only vs))) (K′.lowers .val-is k (u ∷ []) is) refl $
-          by ! (opened k (subst (Is K.the-row k) (K′.lowers .val-is k (u ∷ []) is) is) known 𝓣 job-known room l₀ l₁ l₂ l₃ l₄ l₅ l₆ l₇ l₈ l₉ l₁₀)))))
+          by ! (opened k (subst (Is K.the-row k) (K′.lowers .val-is k (u ∷ []) is) is) (known-for (now s) (now t) (length xs) k said) 𝓣 job-known room l₀ l₁ l₂ l₃ l₄ l₅ l₆ l₇ l₈ l₉ l₁₀)))))
 
     walk : Is (ShrSlice (named 0) κ₀ u8) s (sᵛ ∷ []) → Is (ShrSlice (named 1) κ₁ u8) t (tᵛ ∷ [])
         → ent 𝓤 (onEntry 𝓤 H A f.signature κs qs x at) (WpFn 𝓤 H (𝓣 .C) (𝓣 .Λ) code.function (sᵛ ∷ tᵛ ∷ xᵛ ∷ []) Post)
