@@ -1,11 +1,14 @@
 -- The laws by which the listing of a table is put: a turn of each loop and its end, what the readers of the table and of the request give for it.
 use Prim.Native.Nat.{ℕ, _+_, _-_, _%_, _≤_, _<_}
 use mathlib.Core.Path.{_≡_, refl, sym, ap, _∙_}
+use mathlib.Core.Bool.{Bool, true, false, cond}
 use mathlib.Core.List.{List, [], _∷_, _++_}
 use native.Mathlib.Numerals.{add-one}
 use native.Mathlib.Omega.{arith}
-use lib.ListN.{length, drop, getD, drop-of-length-le}
+use lib.Dec.{ltb}
+use lib.ListN.{length, drop, getD, drop-of-length-le, List·getD-eq-default}
 use lib.Seq.{drop-cons}
+use borrow.Author.Tests.{ltb-false}
 use Rattle.cursor.specs.Fields.{Bytes}
 use Rattle.cursor.specs.Padded.{padded}
 use Rattle.cursor.specs.PaddedLaws.{padded-none, padded-length, getD-padded-any}
@@ -27,7 +30,16 @@ use Rattle.table.specs.declared.Row.{Row}
 use Rattle.text.specs.Text.{ascii, decimalOf, Filled, putAllOf}
 use Rattle.text.specs.TextLaws.{put-none, put-append}
 use Rattle.plan_listing.specs.Listing.{headLine, busyTicks, named, each, rowLine, rowLines, tableLines, tasksIn}
-use Rattle.plan_listing.specs.Answers.{tableIn}
+use Rattle.plan_listing.specs.Answers.{tableIn, ticksIn}
+
+-- behind 16 places there is no task
+pub ticks-are : (tasks : List Task) (task : ℕ) → length tasks ≡ 16 → ticksIn tasks task ≡ getD tasks task noTask .c
+unfolding ticksIn
+ticks-are tasks task all = go (ltb task 16) refl
+  where
+    go : (b : Bool) → ltb task 16 ≡ b → cond b (getD tasks task noTask .c) 0 ≡ getD tasks task noTask .c
+    go true e = refl
+    go false e = ap (λ (x : Task). x .c) (sym (List·getD-eq-default tasks noTask (omega (arith, ltb-false task 16 e))))
 
 -- the name of an entry, by its two bytes
 pub named-bytes : (task byte : ℕ) → named (entryOf task byte) ≡ ascii " " ++ decimalOf task ++ ascii "." ++ decimalOf (byte % 128)

@@ -2,6 +2,7 @@
 // answer is where it ends.
 pub mod entry;
 mod rows;
+pub mod ticks;
 
 ghost use Rattle.text.specs.Text.{PutIn};
 ghost use Rattle.plan_listing.specs.Listing.{refusedLine, listing};

@@ -1,13 +1,14 @@
 // The listing of a table: a line with its sizes and a line for each row.
 use crate::entry::put_name;
+use crate::ticks::cost;
 use request::Task;
 use table::Row;
 use table::Sizes;
 ghost use Prim.Native.Nat.{_≤_};
 ghost use mathlib.Core.Path.{_≡_};
 ghost use mathlib.Core.List.{_++_};
-ghost use lib.ListN.{length, getD};
-ghost use Rattle.request.specs.Request.{reading, noTask};
+ghost use lib.ListN.{length};
+ghost use Rattle.request.specs.Request.{reading};
 ghost use Rattle.table.specs.Table.{decode, entryOf};
 ghost use Rattle.table.specs.Answers.{entriesSaid};
 ghost use Rattle.text.specs.Text.{decimalOf, filledTo, putAllOf};
@@ -39,19 +40,6 @@ fn put_entries(out: &mut [u8], at: usize, row: Row) -> usize
         i += 1;
     }
     end
-}
-
-// C of a task; 0 where there is no such task.
-fn cost(tasks: [Task; 16], task: u8) -> u16
-    requires { ⌜ length tasks ≡ 16 ⌝ }
-    ensures { λ r. ⌜ r ≡ getD tasks task noTask .c ⌝ }
-{
-    let i = task as usize;
-    if i < 16 {
-        let x = tasks[i];
-        return x.c;
-    }
-    0
 }
 
 // The sum of C over the row's entries, carried ones included.

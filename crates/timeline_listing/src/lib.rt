@@ -6,8 +6,8 @@ use request::Task;
 ghost use Prim.Native.Nat.{_≤_};
 ghost use mathlib.Core.Path.{_≡_};
 ghost use mathlib.Core.List.{_++_};
-ghost use lib.ListN.{length, getD};
-ghost use Rattle.request.specs.Request.{reading, noTask};
+ghost use lib.ListN.{length};
+ghost use Rattle.request.specs.Request.{reading};
 ghost use Rattle.text.specs.Text.{ascii, decimalOf, filledTo, putAllOf, PutIn};
 ghost use Rattle.plan_listing.specs.Listing.{tasksIn};
 ghost use Rattle.job_records.specs.Timeline.{filling, recordsIn, busyOf};
@@ -47,19 +47,6 @@ fn put_records(out: &mut [u8], at: usize, known: JobsKnown) -> usize
     end
 }
 
-// C of a task; 0 where there is no such task.
-fn cost(tasks: [Task; 16], task: u8) -> u16
-    requires { ⌜ length tasks ≡ 16 ⌝ }
-    ensures { λ r. ⌜ r ≡ getD tasks task noTask .c ⌝ }
-{
-    let i = task as usize;
-    if i < 16 {
-        let x = tasks[i];
-        return x.c;
-    }
-    0
-}
-
 // The sum of C over the records.
 fn busy(known: JobsKnown, tasks: [Task; 16]) -> u32
     requires { ⌜ (known .count ≤ 128) × (length tasks ≡ 16) ⌝ }
@@ -70,7 +57,7 @@ fn busy(known: JobsKnown, tasks: [Task; 16]) -> u32
     let mut y: usize = 0;
     while y < n {
         let job = job_records::record_at(known, y);
-        sum += cost(tasks, job.task) as u32;
+        sum += plan_listing::ticks::cost(tasks, job.task) as u32;
         y += 1;
     }
     sum

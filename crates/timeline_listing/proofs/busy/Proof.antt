@@ -6,6 +6,7 @@ use native.Mathlib.Nat.{sub-zero, zero-add}
 use native.Mathlib.Omega.{arith}
 use lib.ListN.{getD}
 use Rattle.request.specs.Request.{noTask}
+use Rattle.plan_listing.specs.ListingLaws.{ticks-are}
 use Rattle.job_records.specs.Timeline.{busyOf}
 use Rattle.job_records.specs.Known.{recordsFrom}
 use Rattle.job_records.specs.declared.JobRecord.{JobRecord}
@@ -33,7 +34,7 @@ loop-again c =
       omega arith,
       l .inv .1,
       omega (arith, c .cost .ok, l .inv .2),
-      omega (arith, c .cost .ensures, is, busy-turn (s .known) (s .known .count) (l .y) (s .tasks) more, l .inv .3),
+      omega (arith, c .cost .ensures, ticks-are (s .tasks) (c .before .record-at .result .task) (test .before .before .pre .1), is, busy-turn (s .known) (s .known .count) (l .y) (s .tasks) more, l .inv .3),
     )
 
 returns : tie.Need-returns Inv-loop μ-loop

@@ -5,9 +5,10 @@ use mathlib.Core.Path.{_≡_}
 use mathlib.Core.List.{List}
 use native.Mathlib.Nat.{sub-zero, zero-add}
 use native.Mathlib.Omega.{arith}
+use lib.ListN.{getD}
 use Rattle.table.specs.AnswerLaws.{entriesAt}
 use Rattle.plan_listing.specs.Listing.{busyTicks}
-use Rattle.plan_listing.specs.ListingLaws.{busy-turn, busy-end}
+use Rattle.plan_listing.specs.ListingLaws.{ticks-are, busy-turn, busy-end}
 use Rattle.plan_listing.proofs.rows.busy.Statement.{statement}
 use Rattle.plan_listing.proofs.rows.busy.Tie as tie
 
@@ -32,7 +33,7 @@ loop-again c =
       omega arith,
       l .inv .1,
       omega (arith, c .cost .ok, l .inv .2),
-      λ jobs. omega (arith, c .cost .ensures, busy-turn (s .row .tasks) jobs (s .row .count) (l .i) (s .tasks) more, l .inv .3 jobs),
+      λ jobs. omega (arith, c .cost .ensures, ticks-are (s .tasks) (getD (s .row .tasks) (l .i) 0) (c .before .before .before .before .pre .1), busy-turn (s .row .tasks) jobs (s .row .count) (l .i) (s .tasks) more, l .inv .3 jobs),
     )
 
 returns : tie.Need-returns Inv-loop μ-loop
