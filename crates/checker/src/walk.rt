@@ -48,7 +48,7 @@ fn find(table: &[u8], height: u16, job: Job) -> Position
         let n = byte_or_zero(table, at);
         at += 1;
         let mut e: u8 = 0;
-        'entries: while e < n {
+        while e < n {
             let task = byte_or_zero(table, at);
             let byte = byte_or_zero(table, at + 1);
             if plan_rules::is_job(job, task, table::job::number(byte)) {
