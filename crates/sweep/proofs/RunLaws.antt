@@ -28,10 +28,6 @@ module _ (g : List (List ℕ)) (links : List ℕ) (s : List (List ℕ)) where
   unfolding rulesIn
   f-is = refl
 
-  pub cost-is : (i : ℕ) → rulesIn g links s .cost i ≡ getD (partIn g 0) i 0
-  unfolding rulesIn
-  cost-is i = refl
-
 -- the loop, at row `row` and job `job`, with this space left in the row
 pub record Running (u : Rules) (rows p i room : ℕ) (ps : List Bool) (due : List ℕ) (low high : ℕ) (kept : Bool)
     (ps′ : List Bool) (due′ marks′ words′ : List ℕ) (row job space : ℕ) : Type 0 where
