@@ -6,3 +6,5 @@ pub mod Listed
 pub mod SheetLaws
 pub mod SilentLaws
 pub mod ListedLaws
+-- Laws:
+pub mod Computed

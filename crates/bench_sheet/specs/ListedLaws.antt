@@ -1,16 +1,14 @@
 -- It prints so: what planning comes to is taken from the sheet, and the lines are computed.
 use Prim.Native.Nat.{ℕ}
 use mathlib.Core.Path.{_≡_, ap}
-use mathlib.Core.List.{List, map, flatMap}
+use mathlib.Core.List.{List, map}
 use lib.ListN.{getD}
-use Rattle.cursor.specs.Parsed.{records}
-use Rattle.cursor.specs.Fields.{byteOf, wordOf, wordBytes}
-use Rattle.request.specs.Request.{taskRule, judgedTask, taskOf, tasksOf, pairsOf, silentOf, reading}
-use Rattle.request.specs.Encode.{taskBytes, pairBytes, sectionBytes, silentBytes, requestBytes}
+use Rattle.request.specs.Request.{reading}
 use Rattle.plan_writer.specs.Outcome.{Outcome, refusal}
 use Rattle.planner.specs.Outcome.{programOutcome}
 use Rattle.text.specs.Text.{decimalSteps, decimalOf}
 use Rattle.plan_listing.specs.Listing.{refusedLine, headLine, busyTicks, named, entryText, each, rowLine, rowLines, tableLines, tasksIn, printed, listing}
+use Rattle.bench_sheet.specs.Computed.{requestOpen}
 use Rattle.bench_sheet.specs.Sheet.{bytesOf, P2, P7, P1-printed, sheet}
 use Rattle.bench_sheet.specs.SheetLaws.{sheet-holds}
 use Rattle.bench_sheet.specs.Listed.{Listed}
@@ -22,7 +20,7 @@ planned-at k = ap (λ (os : List Outcome). getD os k (refusal 0)) (sheet-holds .
 pub listed : Listed
 unfolding
     listing refusedLine tableLines headLine rowLines rowLine busyTicks each entryText named decimalOf decimalSteps
-    reading tasksOf taskOf judgedTask taskRule pairsOf silentOf records byteOf wordOf wordBytes taskBytes pairBytes sectionBytes silentBytes requestBytes flatMap
+    requestOpen
 listed = record {
   P1-listed = ap (printed (tasksIn (reading P1-printed))) (planned-at 0);
   P7-listed = ap (printed (tasksIn (reading (bytesOf P7)))) (planned-at 5);

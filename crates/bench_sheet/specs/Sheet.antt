@@ -8,6 +8,7 @@ use lib.ListN.{replicate}
 use Rattle.request.specs.Encode.{requestBytes}
 use Rattle.request.specs.declared.Task.{Task}
 use Rattle.request.specs.declared.Pair.{Pair}
+use Rattle.cut.specs.Example.{P2-tasks, P3-tasks, P3-pairs}
 use Rattle.cycle.specs.Cycle.{cycle, cycleOf}
 use Rattle.table.specs.Table.{Entry, Table, decode, encode}
 use Rattle.model.specs.Plan.{Instance, IsPlan}
@@ -24,9 +25,6 @@ use Rattle.dispatcher.specs.Dispatch.{freshState, nextFrame, entriesOf}
 -- "Tasks as (C,T,D,P)."
 abbrev pub task : ℕ → ℕ → ℕ → ℕ → Task
 task c t d p = record { c = c; t = t; d = d; p = p }
-
-abbrev pub pair : ℕ → ℕ → Pair
-pair a b = record { a = a; b = b }
 
 -- an entry as task.job, and one with carry
 abbrev pub _·_ : ℕ → ℕ → Entry
@@ -59,11 +57,11 @@ abbrev pub P1 : Line
 P1 = line (task 5 20 20 0 ∷ task 5 20 20 0 ∷ task 10 40 40 0 ∷ []) [] (handed P1-table)
 
 abbrev pub P2 : Line
-P2 = line (task 2 6 6 0 ∷ task 2 8 8 0 ∷ task 8 24 24 0 ∷ []) [] (refusal 9)
+P2 = line P2-tasks [] (refusal 9)
 
 abbrev pub P3 : Line
 P3 =
-    line (task 2 6 6 0 ∷ task 2 8 8 0 ∷ task 4 24 24 0 ∷ task 4 24 24 0 ∷ []) (pair 2 3 ∷ [])
+    line P3-tasks P3-pairs
     (withRows 4 24 ((_·_ 0 0 ∷ _·_ 1 0 ∷ []) ∷ (_·_ 2 0 ∷ []) ∷ (_·_ 0 1 ∷ _·_ 1 1 ∷ []) ∷ (_·_ 0 2 ∷ []) ∷ (_·_ 3 0 ∷ []) ∷ (_·_ 0 3 ∷ _·_ 1 2 ∷ []) ∷ []))
 
 abbrev P5 : Line

@@ -16,11 +16,21 @@ task c t d p = record { c = c; t = t; d = d; p = p }
 abbrev pair : ℕ → ℕ → Pair
 pair a b = record { a = a; b = b }
 
+-- P2 and P3 of the bench sheet
+abbrev pub P2-tasks : List Task
+P2-tasks = task 2 6 6 0 ∷ task 2 8 8 0 ∷ task 8 24 24 0 ∷ []
+
+abbrev pub P3-tasks : List Task
+P3-tasks = task 2 6 6 0 ∷ task 2 8 8 0 ∷ task 4 24 24 0 ∷ task 4 24 24 0 ∷ []
+
+abbrev pub P3-pairs : List Pair
+P3-pairs = pair 2 3 ∷ []
+
 abbrev pub P2 : List ℕ
-P2 = requestBytes (task 2 6 6 0 ∷ task 2 8 8 0 ∷ task 8 24 24 0 ∷ []) [] 0
+P2 = requestBytes P2-tasks [] 0
 
 abbrev pub P3 : List ℕ
-P3 = requestBytes (task 2 6 6 0 ∷ task 2 8 8 0 ∷ task 4 24 24 0 ∷ task 4 24 24 0 ∷ []) (pair 2 3 ∷ []) 0
+P3 = requestBytes P3-tasks P3-pairs 0
 
 -- three tasks alike, with pairs below, through and above task 1, one of them twice, and g
 abbrev pub in-chain : List ℕ
