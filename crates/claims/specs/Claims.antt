@@ -69,6 +69,8 @@ pub record Demand2 : Type 0 where
       → (checked (cycleOf request) (decode bytes) ≡ accepted f frames) ↔ (IsPlan x f frames × Describes x f frames t)
   -- 01: 12 "not the form above", 13 "H not the request's, or f not plausible", 14 "not a plan": which number, exactly
   pub check-answers : (request bytes : List ℕ) → Bytes bytes → CheckExact request bytes
+  -- 01: "Next-frame answers the row's entries, leaving out carried ones while the mark is set, ..": 12, 15, each place and the whole state, exactly
+  pub next-frame-answers : (bytes : List ℕ) → Bytes bytes → (s : State) → NextExact bytes s (nextFrame (decode bytes) s) × OneAnswer (NextExact bytes s)
   -- 01: "Rewriting takes a request and a table, checks them, and writes the plan it read."
   pub rewriting-keeps-bytes : OfWithin (λ request x. (bytes : List ℕ) (t : Table) → decode bytes ≡ table t → Accepted x t → Bytes bytes
       → (out : List ℕ) → length bytes ≤ length out → (outcomeAnswer (rewritten request bytes) out ≡ record { refusal = 0; length = length bytes })
@@ -96,6 +98,7 @@ demand-2 = record {
   table-read-back = λ bytes t are. (decodes-says bytes t are, says-decodes bytes t);
   check-accepts = accepts-described;
   check-answers = check-exact;
+  next-frame-answers = λ bytes are s. (next-exact bytes are s, next-alone bytes are s);
   rewriting-keeps-bytes = same-bytes;
   plan-read-back = reads-back;
   planning-read-back = planned-reads-back;
@@ -140,10 +143,9 @@ pub record Requests : Type 0 where
   -- R-2: "a task's count is the number of its accepted reports above C, or 65,535 if there were more."
   pub overruns-are-counted : (i : ℕ) (bytes : List ℕ) → i < 16 → (calls : List Call)
       → getD (final (dispatch bytes) freshState calls .counts) i 0 ≡ min 65535 (overruns i calls)
-  -- R-2: "A report raises only its own task's count."; next-frame changes none
-  pub report-raises-its-own : (over : Bool) (task : ℕ) (counts : List ℕ) (i : ℕ) → i < length counts → getD counts i 0 ≤ 65535
-      → getD (raisedAt over task counts) i 0 ≡ min 65535 (getD counts i 0 + bit (eqb task i && over))
-  pub frame-raises-none : (d : Decoded) (s : State) → nextFrame d s .state .counts ≡ s .counts
+  -- R-2: "keeps a count for each of 16 tasks"; "A report raises only its own task's count.": each number and the whole state, exactly
+  pub report-answers : (request : List ℕ) (task ticks : ℕ) (s : State) → length (s .counts) ≡ 16
+      → ReportExact request task ticks s (reported (reading request) task ticks s) × OneAnswer (ReportExact request task ticks s)
   -- R-3: "the capacity test uses that load, f and the job's own C + g alone": its answers come to a plan's capacity rule
   pub tested-by-load : (x : Instance) (f : ℕ) (frames load : List ℕ) (k : ℕ) → 0 < rowsAt x f → LoadsKept (problemAt x f) frames load → Capacity x f frames
       → hasRoom (getD load (k % rowsAt x f) 0) f (getD (costs x) (length frames) 0) ≡ true → Capacity x f (frames ++ (k ∷ []))
@@ -210,8 +212,7 @@ pub requests : Requests
 requests = record {
   silent-ticks = silent-sheet-holds;
   overruns-are-counted = overruns-counted;
-  report-raises-its-own = raised-only;
-  frame-raises-none = frame-counts;
+  report-answers = λ request task ticks s sixteen. (report-exact request task ticks s sixteen, report-alone request task ticks s);
   tested-by-load = capacity-put;
   capacity-is-by-loads = capacity-by-loads;
   joining-answers = λ first second out. (join-exact first second out, join-alone first second out);

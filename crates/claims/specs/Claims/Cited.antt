@@ -2,15 +2,13 @@
 -- The kit
 pub use Prim.Native.Nat.{ℕ, _+_, _*_, _%_, _^_, _≤_, _<_, _∣_, min}
 pub use mathlib.Core.Path.{_≡_}
-pub use mathlib.Core.Bool.{Bool, true, _&&_}
-pub use mathlib.Core.Logic.{_↔_, _⊎_, _≢_}
+pub use mathlib.Core.Bool.{Bool, true}
+pub use mathlib.Core.Logic.{_↔_, _⊎_}
 pub use mathlib.Core.List.{List, [], _∷_, _++_, map}
 pub use lib.ListN.{length, getD, take, drop}
 pub use lib.IntN.{pos}
-pub use lib.Dec.{eqb}
 -- Request
 pub use Rattle.cursor.specs.Fields.{Bytes}
-pub use Rattle.cursor.specs.Choice.{bit}
 pub use Rattle.cursor.specs.declared.Written.{Written}
 pub use Rattle.request.specs.declared.Task.{Task}
 pub use Rattle.request.specs.declared.Pair.{Pair}
@@ -49,7 +47,7 @@ pub use Rattle.model.specs.MayStand.{MayStand}
 pub use Rattle.model.specs.MayStandLaws.{frames-walked, passed-over}
 pub use Rattle.model.specs.Described.{Describes, Accepted}
 -- Table, check and rewriting
-pub use Rattle.table.specs.Table.{Table, table, Decoded, encode, decode}
+pub use Rattle.table.specs.Table.{Table, table, encode, decode}
 pub use Rattle.table.specs.TableBytes.{SaysTable}
 pub use Rattle.table.specs.TableBytesLaws.{decodes-says, says-decodes}
 pub use Rattle.checker.specs.Checked.{checkNumber, checkedBy, checked, accepted}
@@ -74,9 +72,10 @@ pub use Rattle.decider.specs.Decided as decider
 pub use Rattle.decider.specs.DecidedLaws as deciding
 -- Dispatching and the flight
 pub use Rattle.dispatcher.specs.declared.State.{State}
-pub use Rattle.dispatcher.specs.Dispatch.{freshState, nextFrame, raisedAt}
-pub use Rattle.dispatcher.specs.FrameLaws.{frame-counts}
-pub use Rattle.dispatcher.specs.ReportLaws.{raised-only}
+pub use Rattle.dispatcher.specs.Dispatch.{freshState, nextFrame, reported}
+pub use Rattle.dispatcher.specs.Exactly.{NextExact, ReportExact}
+pub use Rattle.dispatcher.specs.NextTheorem.{next-exact, next-alone}
+pub use Rattle.dispatcher.specs.ReportTheorem.{report-exact, report-alone}
 pub use Rattle.flight.specs.Calls.{Call, dispatch, final}
 pub use Rattle.flight.specs.Timing.{KeepToC}
 pub use Rattle.flight.specs.Overruns.{overruns}
