@@ -138,7 +138,12 @@ pub tested-with-kept-loads : {M : Type 1} → Tested M
 tested-with-kept-loads = tested-met
 
 pub record Requests : Type 0 where
-  -- R-1: "In capacity, and in f ≥ C, each C counts as C + g."; "It refuses with 17, after 5 and before 6": computed; the rest stands in Flight
+  -- R-1: "In capacity, and in f ≥ C, each C counts as C + g.": a request is planned as the one with every C as C + g and with no silent ticks
+  pub silent-ticks-count : OfWithin (λ request x. SilentCounts x)
+  -- and in nothing else: where two requests differ in g alone, the cycle and its jobs are the same, and a report is answered alike
+  pub silent-ticks-else : SameCycle × ((tasks : List Task) (pairs : List Pair) (g k task ticks : ℕ) (s : State)
+      → reported (readable tasks pairs g) task ticks s ≡ reported (readable tasks pairs k) task ticks s)
+  -- R-1: "It refuses with 17, after 5 and before 6": computed; the rest stands in ReadExact and Flight
   pub silent-ticks : map (λ (l : SilentLine). programOutcome (l .bytes)) silent-sheet ≡ map (λ (l : SilentLine). l .comes-to) silent-sheet
   -- R-2: "a task's count is the number of its accepted reports above C, or 65,535 if there were more."
   pub overruns-are-counted : (i : ℕ) (bytes : List ℕ) → i < 16 → (calls : List Call)
@@ -210,6 +215,8 @@ pub record Requests : Type 0 where
 
 pub requests : Requests
 requests = record {
+  silent-ticks-count = λ request x w. silent-counts x (within-good request x w);
+  silent-ticks-else = (cycle-same, report-silent);
   silent-ticks = silent-sheet-holds;
   overruns-are-counted = overruns-counted;
   report-answers = λ request task ticks s sixteen. (report-exact request task ticks s sixteen, report-alone request task ticks s);

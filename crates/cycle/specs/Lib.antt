@@ -2,11 +2,13 @@
 pub mod Cycle
 pub mod Planned
 pub mod Limits
+pub mod Silent
 -- How answers stand in types:
 pub mod Answers
 -- Theorems:
 pub mod PlannedLaws
 pub mod LimitLaws
+pub mod SilentLaws
 -- Laws:
 pub mod OrderLaws
 pub mod LoopLaws

@@ -101,3 +101,9 @@ raised-only over task counts i within small = go (eqb task i) refl
     go : (b : Bool) → eqb task i ≡ b → getD (raisedAt over task counts) i 0 ≡ min 65535 (getD counts i 0 + bit (b && over))
     go true q = rw (eqb-true task i q) (getD-set-same counts i (raised over (getD counts i 0)) 0 within ∙ raised-is over (getD counts i 0) small)
     go false q = getD-set-other counts task i (raised over (getD counts task 0)) 0 (λ e. eqb-false task i q (sym e)) ∙ omega arith
+
+-- a report does not depend on the silent ticks
+pub report-silent : (tasks : List Task) (pairs : List Pair) (g k task ticks : ℕ) (s : State)
+    → reported (readable tasks pairs g) task ticks s ≡ reported (readable tasks pairs k) task ticks s
+unfolding reported
+report-silent tasks pairs g k task ticks s = refl

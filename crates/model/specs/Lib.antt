@@ -8,6 +8,7 @@ pub mod Named
 pub mod Links
 pub mod Chosen
 pub mod MayStand
+pub mod Silent
 pub mod Described
 pub mod Within
 -- How answers stand in types:
@@ -17,6 +18,7 @@ pub mod WithinLaws
 pub mod PhaseExact
 pub mod PlausibleLaws
 pub mod MayStandLaws
+pub mod SilentLaws
 pub mod ChosenLaws
 -- Laws:
 pub mod Good

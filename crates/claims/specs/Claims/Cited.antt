@@ -33,12 +33,16 @@ pub use Rattle.cycle.specs.Planned.{IsJob, InPlanningOrder}
 pub use Rattle.cycle.specs.Limits.{WithinLimits, RequestNumber}
 pub use Rattle.cycle.specs.PlannedLaws.{planned-in-order}
 pub use Rattle.cycle.specs.LimitLaws.{cycle-within, readable-periodic, hyperperiod-divides, hyperperiod-least, no-cycle-number}
+pub use Rattle.cycle.specs.Silent.{SameCycle}
+pub use Rattle.cycle.specs.SilentLaws.{cycle-same}
 -- Plans and the choice
 pub use Rattle.search.specs.Placing.{hasRoom, LoadsKept, fits, windowStart, frameCount}
 pub use Rattle.model.specs.Plan.{Instance, rowsAt, taskAt, jobAt, costs, Capacity, InWindow, IsPlan}
 pub use Rattle.model.specs.Plausible.{phaseRule, commonRule, plausibleBy, plausible, WindowsHold, Needed}
 pub use Rattle.model.specs.Within.{Within}
 pub use Rattle.model.specs.WithinLaws.{within-good}
+pub use Rattle.model.specs.Silent.{SilentCounts}
+pub use Rattle.model.specs.SilentLaws.{silent-counts}
 pub use Rattle.model.specs.PhaseExact.{phase-exact}
 pub use Rattle.model.specs.PlausibleLaws.{plausible-needed}
 pub use Rattle.model.specs.Chosen.{chosen, choose, IsChosen, RightChoice, problemAt}
@@ -74,6 +78,7 @@ pub use Rattle.decider.specs.DecidedLaws as deciding
 pub use Rattle.dispatcher.specs.declared.State.{State}
 pub use Rattle.dispatcher.specs.Dispatch.{freshState, nextFrame, reported}
 pub use Rattle.dispatcher.specs.Exactly.{NextExact, ReportExact}
+pub use Rattle.dispatcher.specs.ReportLaws.{report-silent}
 pub use Rattle.dispatcher.specs.NextTheorem.{next-exact, next-alone}
 pub use Rattle.dispatcher.specs.ReportTheorem.{report-exact, report-alone}
 pub use Rattle.flight.specs.Calls.{Call, dispatch, final}
