@@ -6,7 +6,7 @@ pub mod Dispatch
 -- Theorems:
 pub mod NextTheorem
 pub mod ReportTheorem
+pub mod ReportLaws
 -- Laws:
 pub mod FrameLaws
-pub mod ReportLaws
 pub mod StepLaws
