@@ -71,10 +71,9 @@ pub record Demand2 : Type 0 where
   pub check-answers : (request bytes : List ℕ) → Bytes bytes → CheckExact request bytes
   -- 01: "Next-frame answers the row's entries, leaving out carried ones while the mark is set, ..": 12, 15, each place and the whole state, exactly
   pub next-frame-answers : (bytes : List ℕ) → Bytes bytes → (s : State) → NextExact bytes s (nextFrame (decode bytes) s) × OneAnswer (NextExact bytes s)
-  -- 01: "Rewriting takes a request and a table, checks them, and writes the plan it read."
-  pub rewriting-keeps-bytes : OfWithin (λ request x. (bytes : List ℕ) (t : Table) → decode bytes ≡ table t → Accepted x t → Bytes bytes
-      → (out : List ℕ) → length bytes ≤ length out → (outcomeAnswer (rewritten request bytes) out ≡ record { refusal = 0; length = length bytes })
-      × (outcomeBuffer (rewritten request bytes) out ≡ bytes ++ drop (length bytes) out))
+  -- 01: "Rewriting takes a request and a table, checks them, and writes the plan it read.": the check's numbers, then 11, and every byte, exactly
+  pub rewriting-answers : (request bytes out : List ℕ) → Bytes bytes → let r = rewritten request bytes in
+      RewriteExact request bytes out (outcomeAnswer r out) (outcomeBuffer r out) × OneWritten (RewriteExact request bytes out)
   pub plan-read-back : OfWithin (λ request x. (f : ℕ) (frames : List ℕ) → IsPlan x f frames → (t : Table) → Describes x f frames t
       → checked (cycleOf request) (decode (encode t)) ≡ accepted f frames)
   pub planning-read-back : (allowance : ℕ) (request out : List ℕ) → searchedAnswer allowance request out .refusal ≡ 0
@@ -99,7 +98,7 @@ demand-2 = record {
   check-accepts = accepts-described;
   check-answers = check-exact;
   next-frame-answers = λ bytes are s. (next-exact bytes are s, next-alone bytes are s);
-  rewriting-keeps-bytes = same-bytes;
+  rewriting-answers = λ request bytes out are. (rewrite-exact request bytes are out, rewrite-alone request bytes are out);
   plan-read-back = reads-back;
   planning-read-back = planned-reads-back;
   bench-sheet = (sheet-holds .0, listed);

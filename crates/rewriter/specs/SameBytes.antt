@@ -22,7 +22,7 @@ use Rattle.rewriter.specs.Rewritten.{planRead, rewritten}
 module _ (request : List ℕ) (x : Instance) (within : Within request x) where
   -- what is written for an accepted table is that table
   module _ (bytes : List ℕ) (t : Table) (read : decode bytes ≡ table t) (accepted : Accepted x t) where
-    rewritten-is : rewritten request bytes ≡ handed t
+    pub rewritten-is : rewritten request bytes ≡ handed t
     unfolding rewritten
     rewritten-is =
         let f = accepted .f in

@@ -5,7 +5,7 @@ pub use mathlib.Core.Path.{_≡_}
 pub use mathlib.Core.Bool.{Bool, true}
 pub use mathlib.Core.Logic.{_↔_, _⊎_}
 pub use mathlib.Core.List.{List, [], _∷_, _++_, map}
-pub use lib.ListN.{length, getD, take, drop}
+pub use lib.ListN.{length, getD, take}
 pub use lib.IntN.{pos}
 -- Request
 pub use Rattle.cursor.specs.Fields.{Bytes}
@@ -61,7 +61,9 @@ pub use Rattle.checker.specs.ExactlyLaws.{check-exact}
 pub use Rattle.checker.specs.Moved.{Moves}
 pub use Rattle.checker.specs.MovedLaws.{verdict-moved}
 pub use Rattle.rewriter.specs.Rewritten.{rewritten}
-pub use Rattle.rewriter.specs.SameBytes.{same-bytes, reads-back}
+pub use Rattle.rewriter.specs.Exactly.{RewriteExact}
+pub use Rattle.rewriter.specs.Theorem.{rewrite-exact, rewrite-alone}
+pub use Rattle.rewriter.specs.SameBytes.{reads-back}
 pub use Rattle.rewriter.specs.ReadBack.{ReadsBack}
 pub use Rattle.rewriter.specs.ReadBackLaws.{planned-reads-back}
 -- Planning
