@@ -49,8 +49,6 @@ pub record Demand2 : Type 0 where
       → let two = length (twoSections tasks pairs) in SaysRequest bytes tasks pairs g
       × ((j : ℕ) → j < length bytes → (j ≡ two → ⊥) → reading (take j bytes) ≡ unreadable 1) × (reading (take two bytes) ≡ readable tasks pairs 0)
       × (two < length bytes → (b : ℕ) (rest : List ℕ) → reading (bytes ++ (b ∷ rest)) ≡ unreadable 6)
-  -- 01, "Where a number is given": 1 to 6 and 17 for the bytes of a request, with 7 and 8 for its cycle
-  pub cycle-numbers : (bytes : List ℕ) (number : ℕ) → cycleOf bytes ≡ noCycle number → RequestNumber number
   -- 01: "the greatest common divisor (gcd) falls to the remainder pair until one is 0", "least common multiple"
   pub gcd-is : (a b d : ℕ) → ((gcdOf a b ∣ a) × (gcdOf a b ∣ b)) × (d ∣ a → d ∣ b → d ∣ gcdOf a b) × (0 < a → d ∣ a → d ∣ b → d ≤ gcdOf a b)
       × (gcdOf a 0 ≡ a) × (gcdOf a b ≡ gcdOf b a)
@@ -60,6 +58,10 @@ pub record Demand2 : Type 0 where
       × ((m : ℕ) → 0 < m → ((i : ℕ) → i < length tasks → periodOf tasks i ∣ m) → hyperperiod tasks ≤ m))
   pub cycle-keeps : (bytes : List ℕ) (tasks : List Task) (pairs : List Pair) (g h : ℕ) (jobs : List Job)
       → cycleOf bytes ≡ cycle tasks pairs g h jobs → WithinLimits tasks pairs h jobs
+  -- 01: 7 "H above 10,000", 8 "more than 128 jobs": which number, exactly, or the cycle; and no other answer
+  pub cycle-answers : (bytes : List ℕ) → CycleExact bytes (cycleAnswered (cycleOf bytes)) × ((c : Cycle) → CycleExact bytes c → c ≡ cycleAnswered (cycleOf bytes))
+  -- 01: "A request is within the limits if its bytes have the form under Request file with no bytes behind it, H is at most 10,000 and .. 128 jobs."
+  pub within-is : (request : List ℕ) → WithinExact request
   -- 01: "Task i has jobs j = 0 to H/T − 1, released at r = P + j·T, due at r + D."; "Jobs are ordered by release, then task number."
   pub jobs-in-order : OfReadable (λ tasks. (h : ℕ) → InPlanningOrder tasks h (planned tasks h))
   -- 01: "Sizes: the byte 02, then f and H as u16. Rows: F as u16, then for each row a byte count 0 to 16 and that many entries."
@@ -88,11 +90,12 @@ demand-2 = record {
   request-answers = λ bytes. (read-exact bytes, read-alone bytes);
   request-read-back = read-encode;
   request-bytes-are = λ b ts ps g e are. (encode-read b ts ps g e are, cut-short b ts ps g e are, cut-before-third b ts ps g e are, too-long b ts ps g e are);
-  cycle-numbers = no-cycle-number;
   gcd-is = λ a b d. (gcd-dvd a b, dvd-gcd d a b, gcd-greatest d a b, gcd-zero a, gcd-comm a b);
   lcm-is = λ a b m. (dvd-lcm-left a b, dvd-lcm-right a b, lcm-dvd a b m, lcm-least a b m);
   hyperperiod-is-least = λ b ts ps g e. (hyperperiod-divides ts, λ m some. hyperperiod-least ts m some (readable-periodic ts ps (readable-kept b ts ps g e)));
   cycle-keeps = cycle-within;
+  cycle-answers = λ bytes. (cycle-exact bytes, cycle-alone bytes);
+  within-is = within-exactly;
   jobs-in-order = λ b ts ps g e h. planned-in-order ts h (readable-periodic ts ps (readable-kept b ts ps g e));
   table-read-back = λ bytes t are. (decodes-says bytes t are, says-decodes bytes t);
   check-accepts = accepts-described;

@@ -2,12 +2,14 @@
 pub mod Cycle
 pub mod Planned
 pub mod Limits
+pub mod Exactly
 pub mod Silent
 -- How answers stand in types:
 pub mod Answers
 -- Theorems:
 pub mod PlannedLaws
 pub mod LimitLaws
+pub mod Theorem
 pub mod SilentLaws
 -- Laws:
 pub mod OrderLaws
@@ -16,3 +18,4 @@ pub mod Pending
 pub mod Listing
 pub mod ReadLaws
 pub mod PhaseLaws
+pub mod ExactlyLaws

@@ -2,7 +2,7 @@
 use Prim.Native.Nat.{ℕ}
 use mathlib.Core.Path.{_≡_, refl, sym, ap, subst, _∙_}
 use mathlib.Core.List.{List}
-use mathlib.Core.Logic.{_⊎_, inl, inr}
+use mathlib.Core.Logic.{_↔_, _⊎_, inl, inr}
 use native.Mathlib.Omega.{arith}
 use Rattle.request.specs.declared.Task.{Task}
 use Rattle.request.specs.declared.Pair.{Pair}
@@ -10,6 +10,9 @@ use Rattle.request.specs.declared.Request.{Request}
 use Rattle.cycle.specs.Cycle.{Cycle, cycle, noCycle, cycleOf, afterReading}
 use Rattle.cycle.specs.Answers.{AsRead, cycleFor, cycleAnswered}
 use Rattle.cycle.specs.LimitLaws.{WithinLimits, after-within, after-number, cycle-within, no-cycle-number, request-number-pos}
+use Rattle.cycle.specs.Planned.{InPlanningOrder}
+use Rattle.cycle.specs.Exactly.{HasCycle}
+use Rattle.cycle.specs.Theorem.{cycle-exactly, cycle-there}
 use Rattle.cycle.specs.ReadLaws.{as-read-cycle}
 use Rattle.cycle.specs.declared.Job.{Job}
 use Rattle.cycle.specs.declared.Cycle as answer
@@ -17,7 +20,7 @@ use Rattle.model.specs.Plan.{Instance}
 use Rattle.model.specs.Good.{Good}
 use Rattle.model.specs.Answers.{instance, instanceOf}
 use Rattle.model.specs.AnswerLaws.{instance-good, instance-answered}
-use Rattle.model.specs.Within.{Within, InLimits}
+use Rattle.model.specs.Within.{Within, WithinExact, InLimits}
 
 module _ (request : List ℕ) where
   pub within-limits : (x : Instance) → Within request x → WithinLimits (x .tasks) (x .pairs) (x .h) (x .jobs)
@@ -25,6 +28,21 @@ module _ (request : List ℕ) where
 
   pub within-good : (x : Instance) → Within request x → Good x
   within-good x w = instance-good (x .tasks) (x .pairs) (x .g) (x .h) (x .jobs) (within-limits x w)
+
+  within-which : (x : Instance) → Within request x ↔ (HasCycle request (x .tasks) (x .pairs) (x .g) (x .h) × InPlanningOrder (x .tasks) (x .h) (x .jobs))
+  within-which x = cycle-exactly request (x .tasks) (x .pairs) (x .g) (x .h) (x .jobs)
+
+  within-some : (tasks : List Task) (pairs : List Pair) (g h : ℕ) → HasCycle request tasks pairs g h → (x : Instance) × Within request x
+  within-some tasks pairs g h has =
+      let (jobs, order) = cycle-there request tasks pairs g h has in
+      (instance tasks pairs g h jobs, cycle-exactly request tasks pairs g h jobs .1 (has, order))
+
+  -- a request is within the limits exactly if its bytes, its H and the number of its jobs say so
+  pub within-exactly : WithinExact request
+  within-exactly = record {
+    some = (λ w. let x = w .0 in (x .tasks, x .pairs, x .g, x .h, within-which x .0 (w .1) .0), λ c. within-some (c .0) (c .1) (c .2) (c .3) (c .4));
+    which = within-which;
+  }
 
   -- within the limits, or refused with a number
   pub within-or-not : ((x : Instance) × Within request x) ⊎ ((number : ℕ) × (cycleOf request ≡ noCycle number))

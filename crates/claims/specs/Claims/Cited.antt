@@ -29,18 +29,22 @@ pub use Rattle.arith.specs.Lcm.{lcmOf}
 pub use Rattle.arith.specs.LcmLaws.{dvd-lcm-left, dvd-lcm-right, lcm-dvd, lcm-least}
 pub use Rattle.cycle.specs.Cycle.{hyperperiod, planned, cycle, noCycle, cycleOf}
 pub use Rattle.cycle.specs.declared.Job.{Job}
+pub use Rattle.cycle.specs.declared.Cycle.{Cycle}
+pub use Rattle.cycle.specs.Answers.{cycleAnswered}
+pub use Rattle.cycle.specs.Exactly.{CycleExact}
+pub use Rattle.cycle.specs.Theorem.{cycle-exact, cycle-alone}
 pub use Rattle.cycle.specs.Planned.{IsJob, InPlanningOrder}
-pub use Rattle.cycle.specs.Limits.{WithinLimits, RequestNumber}
+pub use Rattle.cycle.specs.Limits.{WithinLimits}
 pub use Rattle.cycle.specs.PlannedLaws.{planned-in-order}
-pub use Rattle.cycle.specs.LimitLaws.{cycle-within, readable-periodic, hyperperiod-divides, hyperperiod-least, no-cycle-number}
+pub use Rattle.cycle.specs.LimitLaws.{cycle-within, readable-periodic, hyperperiod-divides, hyperperiod-least}
 pub use Rattle.cycle.specs.Silent.{SameCycle}
 pub use Rattle.cycle.specs.SilentLaws.{cycle-same}
 -- Plans and the choice
 pub use Rattle.search.specs.Placing.{hasRoom, LoadsKept, fits, windowStart, frameCount}
 pub use Rattle.model.specs.Plan.{Instance, rowsAt, taskAt, jobAt, costs, Capacity, InWindow, IsPlan}
 pub use Rattle.model.specs.Plausible.{phaseRule, commonRule, plausibleBy, plausible, WindowsHold, Needed}
-pub use Rattle.model.specs.Within.{Within}
-pub use Rattle.model.specs.WithinLaws.{within-good}
+pub use Rattle.model.specs.Within.{Within, WithinExact}
+pub use Rattle.model.specs.WithinLaws.{within-good, within-exactly}
 pub use Rattle.model.specs.Silent.{SilentCounts}
 pub use Rattle.model.specs.SilentLaws.{silent-counts}
 pub use Rattle.model.specs.PhaseExact.{phase-exact}
