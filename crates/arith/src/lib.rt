@@ -1,17 +1,17 @@
 // Greatest common divisor, least common multiple, and the smaller of two.
 ghost use Rattle.std.specs.Prelude.{◌≡◌, min};
-ghost use Rattle.arith.specs.Gcd.{gcdOf};
-ghost use Rattle.arith.specs.Lcm.{lcmOf};
+ghost use Rattle.arith.specs.Gcd.{gcd_of};
+ghost use Rattle.arith.specs.Lcm.{lcm_of};
 
 // Euclid: the pair falls to the remainder pair until one is 0.
 pub fn gcd(a: u16, b: u16) -> u16
-    ensures { result ≡ gcdOf a b }
+    ensures { result ≡ gcd_of a b }
 {
     if b == 0 { a } else { gcd(b, a % b) }
 }
 
 pub fn lcm(a: u16, b: u16) -> u32
-    ensures { result ≡ lcmOf a b }
+    ensures { result ≡ lcm_of a b }
 {
     let g = gcd(a, b);
     if g == 0 {

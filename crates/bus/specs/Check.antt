@@ -1,7 +1,7 @@
 -- bus_check: what it answers.
 use Rattle.std.specs.Prelude.{ℕ, List, ℤ}
-use Rattle.checker.specs.Checked.{checkNumber}
+use Rattle.checker.specs.Checked.{check_number}
 use Rattle.bus.specs.Reply.{reply}
 
-unfoldable pub checkReply : List ℕ → List ℕ → ℤ
-checkReply request table = reply (checkNumber request table) 0
+unfoldable pub check_reply : List ℕ → List ℕ → ℤ
+check_reply request table = reply (check_number request table) 0

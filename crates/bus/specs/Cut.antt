@@ -1,16 +1,16 @@
 -- bus_cut: what it answers and leaves in the buffer.
 use Rattle.std.specs.Prelude.{ℕ, List, ℤ}
 use Rattle.request.specs.Request.{reading}
-use Rattle.request.specs.Written.{requestAnswer, requestBuffer}
+use Rattle.request.specs.Written.{request_answer, request_buffer}
 use Rattle.cursor.specs.declared.Written.{Written}
 use Rattle.cut.specs.Cut.{cut}
-use Rattle.bus.specs.Reply.{writtenReply}
+use Rattle.bus.specs.Reply.{written_reply}
 
-abbrev pub cutAnswer : List ℕ → ℕ → ℕ → List ℕ → Written
-cutAnswer request task first out = requestAnswer (cut task first (reading request)) out
+abbrev pub cut_answer : List ℕ → ℕ → ℕ → List ℕ → Written
+cut_answer request task first out = request_answer (cut task first (reading request)) out
 
-unfoldable pub cutReply : List ℕ → ℕ → ℕ → List ℕ → ℤ
-cutReply request task first out = writtenReply (cutAnswer request task first out)
+unfoldable pub cut_reply : List ℕ → ℕ → ℕ → List ℕ → ℤ
+cut_reply request task first out = written_reply (cut_answer request task first out)
 
-unfoldable pub cutBuffer : List ℕ → ℕ → ℕ → List ℕ → List ℕ
-cutBuffer request task first out = requestBuffer (cut task first (reading request)) out
+unfoldable pub cut_buffer : List ℕ → ℕ → ℕ → List ℕ → List ℕ
+cut_buffer request task first out = request_buffer (cut task first (reading request)) out

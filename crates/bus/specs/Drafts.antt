@@ -1,43 +1,43 @@
 -- What each call on a draft answers and what it leaves in the buffers that it was lent.
 use Rattle.std.specs.Prelude.{ℕ, List, cond, ℤ, length, ltb}
-use Rattle.plan_writer.specs.Outcome.{outcomeAnswer, outcomeBuffer}
+use Rattle.plan_writer.specs.Outcome.{outcome_answer, outcome_buffer}
 use Rattle.draft.specs.Draft.{start, lift, put, write}
 use Rattle.draft.specs.declared.Drafted.{Drafted}
-use Rattle.lent.specs.DraftBytes.{draftIn, draftBytes}
-use Rattle.bus.specs.Reply.{refusedReply, reply, writtenReply, after}
+use Rattle.lent.specs.DraftBytes.{draft_in, draft_bytes}
+use Rattle.bus.specs.Reply.{refused_reply, reply, written_reply, after}
 
 -- a call that gives a draft: 0, or its number; 99 for a buffer below 770 bytes, before every other number
-unfoldable pub draftedReply : Drafted → List ℕ → ℤ
-draftedReply made draft = cond (ltb (length draft) 770) (refusedReply 99) (reply made.refusal 0)
+unfoldable pub drafted_reply : Drafted → List ℕ → ℤ
+drafted_reply made draft = cond (ltb (length draft) 770) (refused_reply 99) (reply made.refusal 0)
 
 -- the lent draft after it: a refused call leaves it as it was
-unfoldable pub draftedBytes : Drafted → List ℕ → List ℕ
-draftedBytes made draft = cond (ltb (length draft) 770) draft (after made.refusal (draftBytes made.draft draft) draft)
+unfoldable pub drafted_bytes : Drafted → List ℕ → List ℕ
+drafted_bytes made draft = cond (ltb (length draft) 770) draft (after made.refusal (draft_bytes made.draft draft) draft)
 
 -- bus_draft_start
-unfoldable pub startReply : List ℕ → List ℕ → List ℕ → ℤ
-startReply request table draft = draftedReply (start request table) draft
+unfoldable pub start_reply : List ℕ → List ℕ → List ℕ → ℤ
+start_reply request table draft = drafted_reply (start request table) draft
 
-unfoldable pub startBytes : List ℕ → List ℕ → List ℕ → List ℕ
-startBytes request table draft = draftedBytes (start request table) draft
+unfoldable pub start_bytes : List ℕ → List ℕ → List ℕ → List ℕ
+start_bytes request table draft = drafted_bytes (start request table) draft
 
 -- bus_draft_lift
-unfoldable pub liftReply : List ℕ → ℕ → List ℕ → ℤ
-liftReply request job draft = draftedReply (lift request (draftIn draft) job) draft
+unfoldable pub lift_reply : List ℕ → ℕ → List ℕ → ℤ
+lift_reply request job draft = drafted_reply (lift request (draft_in draft) job) draft
 
-unfoldable pub liftBytes : List ℕ → ℕ → List ℕ → List ℕ
-liftBytes request job draft = draftedBytes (lift request (draftIn draft) job) draft
+unfoldable pub lift_bytes : List ℕ → ℕ → List ℕ → List ℕ
+lift_bytes request job draft = drafted_bytes (lift request (draft_in draft) job) draft
 
 -- bus_draft_put
-unfoldable pub putReply : List ℕ → ℕ → ℕ → List ℕ → ℤ
-putReply request job frame draft = draftedReply (put request (draftIn draft) job frame) draft
+unfoldable pub put_reply : List ℕ → ℕ → ℕ → List ℕ → ℤ
+put_reply request job frame draft = drafted_reply (put request (draft_in draft) job frame) draft
 
-unfoldable pub putBytes : List ℕ → ℕ → ℕ → List ℕ → List ℕ
-putBytes request job frame draft = draftedBytes (put request (draftIn draft) job frame) draft
+unfoldable pub put_bytes : List ℕ → ℕ → ℕ → List ℕ → List ℕ
+put_bytes request job frame draft = drafted_bytes (put request (draft_in draft) job frame) draft
 
 -- bus_draft_write: the length of the table, or its number
-unfoldable pub writeReply : List ℕ → List ℕ → List ℕ → ℤ
-writeReply request draft out = cond (ltb (length draft) 770) (refusedReply 99) (writtenReply (outcomeAnswer (write request (draftIn draft)) out))
+unfoldable pub write_reply : List ℕ → List ℕ → List ℕ → ℤ
+write_reply request draft out = cond (ltb (length draft) 770) (refused_reply 99) (written_reply (outcome_answer (write request (draft_in draft)) out))
 
-unfoldable pub writeBuffer : List ℕ → List ℕ → List ℕ → List ℕ
-writeBuffer request draft out = cond (ltb (length draft) 770) out (outcomeBuffer (write request (draftIn draft)) out)
+unfoldable pub write_buffer : List ℕ → List ℕ → List ℕ → List ℕ
+write_buffer request draft out = cond (ltb (length draft) 770) out (outcome_buffer (write request (draft_in draft)) out)

@@ -2,18 +2,18 @@
 use Rattle.std.specs.Prelude.{ℕ, ◌≡◌, List, pos}
 use Rattle.std.proofs.Math.Path.{ap}
 use Rattle.std.proofs.Common.{◌∙◌}
-use Rattle.one_off.specs.OneOff.{oneOff}
-use Rattle.one_off.specs.Answers.{offerAnswer}
+use Rattle.one_off.specs.OneOff.{one_off}
+use Rattle.one_off.specs.Answers.{offer_answer}
 use Rattle.one_off.specs.declared.FrameFound.{FrameFound}
-use Rattle.bus.specs.Reply.{refusedReply}
-use Rattle.bus.specs.ReplyLaws.{reply-refused, reply-value}
-use Rattle.bus.specs.OneOff.{foundReply, oneOffReply}
+use Rattle.bus.specs.Reply.{refused_reply}
+use Rattle.bus.specs.ReplyLaws.{reply_refused, reply_value}
+use Rattle.bus.specs.OneOff.{found_reply, one_off_reply}
 
-module _ (L s e : ℕ) (request table : List ℕ) (found : FrameFound) (is : found ≡ offerAnswer (oneOff L s e request table)) where
-  pub one-off-refused : (found.refusal ≡ 0 → ⊥) → refusedReply found.refusal ≡ oneOffReply L s e request table
-  unfolding oneOffReply
-  one-off-refused h = reply-refused found.refusal found.frame h ∙ ap foundReply is
+module _ (L s e : ℕ) (request table : List ℕ) (found : FrameFound) (is : found ≡ offer_answer (one_off L s e request table)) where
+  pub one_off_refused : (found.refusal ≡ 0 → ⊥) → refused_reply found.refusal ≡ one_off_reply L s e request table
+  unfolding one_off_reply
+  one_off_refused h = reply_refused found.refusal found.frame h ∙ ap found_reply is
 
-  pub one-off-found : found.refusal ≡ 0 → pos found.frame ≡ oneOffReply L s e request table
-  unfolding oneOffReply
-  one-off-found h = reply-value found.refusal found.frame h ∙ ap foundReply is
+  pub one_off_found : found.refusal ≡ 0 → pos found.frame ≡ one_off_reply L s e request table
+  unfolding one_off_reply
+  one_off_found h = reply_value found.refusal found.frame h ∙ ap found_reply is

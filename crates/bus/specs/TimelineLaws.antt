@@ -3,40 +3,40 @@ use Rattle.std.specs.Prelude.{ℕ, ◌*◌, ◌/◌, ◌≤◌, ◌≡◌, pos, 
 use Rattle.std.proofs.Math.Path.{refl, ap}
 use Rattle.std.proofs.Common.{◌∙◌, arith}
 use mathlib.Core.List.{List, [], ◌++◌, flat_map}
-use Rattle.job_records.specs.Timeline.{Timeline, timeline, refusal, filling, filledAnswer}
-use Rattle.job_records.specs.Known.{knownAnswer, recordsKnown}
-use Rattle.job_records.specs.KnownLaws.{KnownFor, known-for, known-are}
-use Rattle.job_records.specs.FillLaws.{filling-few, fill-answer}
+use Rattle.job_records.specs.Timeline.{Timeline, timeline, refusal, filling, filled_answer}
+use Rattle.job_records.specs.Known.{known_answer, records_known}
+use Rattle.job_records.specs.KnownLaws.{KnownFor, known_for, known_are}
+use Rattle.job_records.specs.FillLaws.{filling_few, fill_answer}
 use Rattle.job_records.specs.declared.JobsKnown.{JobsKnown}
-use Rattle.lent.specs.Records.{recordBytes}
-use Rattle.bus.specs.Reply.{refusedReply}
-use Rattle.bus.specs.ReplyLaws.{reply-refused, reply-value}
-use Rattle.bus.specs.Timeline.{filledReply, filledBytes, fillingInC, timelineReply, timelineRecords}
+use Rattle.lent.specs.Records.{record_bytes}
+use Rattle.bus.specs.Reply.{refused_reply}
+use Rattle.bus.specs.ReplyLaws.{reply_refused, reply_value}
+use Rattle.bus.specs.Timeline.{filled_reply, filled_bytes, filling_in_c, timeline_reply, timeline_records}
 
-module _ (request table records : List ℕ) (k : JobsKnown) (said : k ≡ knownAnswer (filling request table (length records / 8))) where
+module _ (request table records : List ℕ) (k : JobsKnown) (said : k ≡ known_answer (filling request table (length records / 8))) where
   abbrev tl : Timeline
-  tl = fillingInC request table records
+  tl = filling_in_c request table records
 
   abbrev pub known : KnownFor tl k
-  known = known-for request table (length records / 8) k said
+  known = known_for request table (length records / 8) k said
 
-  answer-is : filledReply (record { refusal = k.refusal; count = k.count }) ≡ timelineReply request table records
-  unfolding timelineReply
-  answer-is = ap filledReply (fill-answer tl [] k known)
+  answer_is : filled_reply (record { refusal = k.refusal; count = k.count }) ≡ timeline_reply request table records
+  unfolding timeline_reply
+  answer_is = ap filled_reply (fill_answer tl [] k known)
 
   -- they have their places
-  pub places-there : 8 * k.count ≤ length records
-  places-there = omega (arith, known.count-is, filling-few request table (length records / 8))
+  pub places_there : 8 * k.count ≤ length records
+  places_there = omega (arith, known.count_is, filling_few request table (length records / 8))
 
-  pub timeline-refused : (k.refusal ≡ 0 → ⊥) → (refusedReply k.refusal ≡ timelineReply request table records) × (records ≡ timelineRecords request table records)
-  unfolding timelineRecords flat_map
-  timeline-refused ne = (reply-refused k.refusal k.count ne ∙ answer-is, still tl (λ z. ne (known.refusal_is ∙ z)))
+  pub timeline_refused : (k.refusal ≡ 0 → ⊥) → (refused_reply k.refusal ≡ timeline_reply request table records) × (records ≡ timeline_records request table records)
+  unfolding timeline_records flat_map
+  timeline_refused ne = (reply_refused k.refusal k.count ne ∙ answer_is, still tl (λ z. ne (known.refusal_is ∙ z)))
     where
-      still : (t : Timeline) → ((filledAnswer t).refusal ≡ 0 → ⊥) → records ≡ filledBytes t records
+      still : (t : Timeline) → ((filled_answer t).refusal ≡ 0 → ⊥) → records ≡ filled_bytes t records
       still (timeline rs) other = absurd (other refl)
       still (refusal number) other = refl
 
-  pub timeline-written : k.refusal ≡ 0 → (new : List ℕ) → new ≡ flat_map recordBytes (recordsKnown k) ++ drop (8 * k.count) records
-      → (pos k.count ≡ timelineReply request table records) × (new ≡ timelineRecords request table records)
-  unfolding timelineRecords
-  timeline-written z new e = (reply-value k.refusal k.count z ∙ answer-is, e ∙ rw (known-are tl k known, known.count-is))
+  pub timeline_written : k.refusal ≡ 0 → (new : List ℕ) → new ≡ flat_map record_bytes (records_known k) ++ drop (8 * k.count) records
+      → (pos k.count ≡ timeline_reply request table records) × (new ≡ timeline_records request table records)
+  unfolding timeline_records
+  timeline_written z new e = (reply_value k.refusal k.count z ∙ answer_is, e ∙ rw (known_are tl k known, known.count_is))

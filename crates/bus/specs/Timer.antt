@@ -3,87 +3,87 @@ use Rattle.std.specs.Prelude.{ℕ, Bool, not, cond, ◌&&◌, List, ◌++◌, �
 use Rattle.cursor.specs.Choice.{bit}
 use Rattle.request.specs.Request.{reading}
 use Rattle.table.specs.Table.{decode}
-use Rattle.timer.specs.Registers.{freshTimer, registerRead, afterWrite, afterEvent, serving, reporting, lineOn}
+use Rattle.timer.specs.Registers.{fresh_timer, register_read, after_write, after_event, serving, reporting, line_on}
 use Rattle.timer.specs.declared.Changed.{Changed}
 use Rattle.timer.specs.declared.RegisterRead.{RegisterRead}
 use Rattle.timer.specs.declared.FrameServed.{FrameServed}
 use Rattle.lent.specs.Words.{zeros}
-use Rattle.lent.specs.Entries.{entryBytes}
-use Rattle.lent.specs.TimerBytes.{isTimer, timerOf, timerBytes}
-use Rattle.bus.specs.Reply.{refusedReply, reply, after}
+use Rattle.lent.specs.Entries.{entry_bytes}
+use Rattle.lent.specs.TimerBytes.{is_timer, timer_of, timer_bytes}
+use Rattle.bus.specs.Reply.{refused_reply, reply, after}
 
 -- bus_timer_fresh sets all 72 bytes
 
-unfoldable pub timerFreshReply : List ℕ → ℤ
-timerFreshReply bytes = cond (ltb (length bytes) 72) (refusedReply 99) (pos 0)
+unfoldable pub timer_fresh_reply : List ℕ → ℤ
+timer_fresh_reply bytes = cond (ltb (length bytes) 72) (refused_reply 99) (pos 0)
 
-unfoldable pub timerFreshBytes : List ℕ → List ℕ
-timerFreshBytes bytes = cond (ltb (length bytes) 72) bytes (timerBytes freshTimer (zeros 72 ++ drop 72 bytes))
+unfoldable pub timer_fresh_bytes : List ℕ → List ℕ
+timer_fresh_bytes bytes = cond (ltb (length bytes) 72) bytes (timer_bytes fresh_timer (zeros 72 ++ drop 72 bytes))
 
 -- bus_timer_read: the byte
 
-abbrev pub byteReply : RegisterRead → ℤ
-byteReply r = reply r.refusal r.value
+abbrev pub byte_reply : RegisterRead → ℤ
+byte_reply r = reply r.refusal r.value
 
-unfoldable pub timerReadReply : ℕ → List ℕ → ℤ
-timerReadReply address bytes = cond (isTimer bytes) (byteReply (registerRead address (timerOf bytes))) (refusedReply 99)
+unfoldable pub timer_read_reply : ℕ → List ℕ → ℤ
+timer_read_reply address bytes = cond (is_timer bytes) (byte_reply (register_read address (timer_of bytes))) (refused_reply 99)
 
 -- bus_timer_write and bus_timer_report: 0, and the timer after it
 
-abbrev pub changedReply : Changed → List ℕ → ℤ
-changedReply r bytes = cond (isTimer bytes) (reply r.refusal 0) (refusedReply 99)
+abbrev pub changed_reply : Changed → List ℕ → ℤ
+changed_reply r bytes = cond (is_timer bytes) (reply r.refusal 0) (refused_reply 99)
 
-abbrev pub changedBytes : Changed → List ℕ → List ℕ
-changedBytes r bytes = cond (isTimer bytes) (after r.refusal (timerBytes r.timer bytes) bytes) bytes
+abbrev pub changed_bytes : Changed → List ℕ → List ℕ
+changed_bytes r bytes = cond (is_timer bytes) (after r.refusal (timer_bytes r.timer bytes) bytes) bytes
 
-unfoldable pub timerWriteReply : ℕ → ℕ → List ℕ → ℤ
-timerWriteReply address value bytes = changedReply (afterWrite address value (timerOf bytes)) bytes
+unfoldable pub timer_write_reply : ℕ → ℕ → List ℕ → ℤ
+timer_write_reply address value bytes = changed_reply (after_write address value (timer_of bytes)) bytes
 
-unfoldable pub timerWriteBytes : ℕ → ℕ → List ℕ → List ℕ
-timerWriteBytes address value bytes = changedBytes (afterWrite address value (timerOf bytes)) bytes
+unfoldable pub timer_write_bytes : ℕ → ℕ → List ℕ → List ℕ
+timer_write_bytes address value bytes = changed_bytes (after_write address value (timer_of bytes)) bytes
 
-unfoldable pub timerReportReply : List ℕ → ℕ → ℕ → List ℕ → ℤ
-timerReportReply request task ticks bytes = changedReply (reporting (reading request) task ticks (timerOf bytes)) bytes
+unfoldable pub timer_report_reply : List ℕ → ℕ → ℕ → List ℕ → ℤ
+timer_report_reply request task ticks bytes = changed_reply (reporting (reading request) task ticks (timer_of bytes)) bytes
 
-unfoldable pub timerReportBytes : List ℕ → ℕ → ℕ → List ℕ → List ℕ
-timerReportBytes request task ticks bytes = changedBytes (reporting (reading request) task ticks (timerOf bytes)) bytes
+unfoldable pub timer_report_bytes : List ℕ → ℕ → ℕ → List ℕ → List ℕ
+timer_report_bytes request task ticks bytes = changed_bytes (reporting (reading request) task ticks (timer_of bytes)) bytes
 
 -- bus_timer_event
 
-unfoldable pub timerEventReply : List ℕ → ℤ
-timerEventReply bytes = cond (isTimer bytes) (pos 0) (refusedReply 99)
+unfoldable pub timer_event_reply : List ℕ → ℤ
+timer_event_reply bytes = cond (is_timer bytes) (pos 0) (refused_reply 99)
 
-unfoldable pub timerEventBytes : List ℕ → List ℕ
-timerEventBytes bytes = cond (isTimer bytes) (timerBytes (afterEvent (timerOf bytes)) bytes) bytes
+unfoldable pub timer_event_bytes : List ℕ → List ℕ
+timer_event_bytes bytes = cond (is_timer bytes) (timer_bytes (after_event (timer_of bytes)) bytes) bytes
 
 -- bus_timer_serve: the number of entries; with none due 0, and all bytes stay as they were
 
 module _ (table bytes entries : List ℕ) where
-  abbrev pub timerFrame : FrameServed
-  timerFrame = serving (decode table) (timerOf bytes)
+  abbrev pub timer_frame : FrameServed
+  timer_frame = serving (decode table) (timer_of bytes)
 
   -- otherwise 99
-  unfoldable pub canServeTimer : Bool
-  canServeTimer = isTimer bytes && not (ltb (length entries) 32)
+  unfoldable pub can_serve_timer : Bool
+  can_serve_timer = is_timer bytes && not (ltb (length entries) 32)
 
   -- a frame is due
-  unfoldable pub frameAsked : Bool
-  frameAsked = canServeTimer && (timerOf bytes).status.due
+  unfoldable pub frame_asked : Bool
+  frame_asked = can_serve_timer && (timer_of bytes).status.due
 
-  unfoldable pub timerServeReply : ℤ
-  timerServeReply = cond canServeTimer (reply timerFrame.refusal timerFrame.count) (refusedReply 99)
+  unfoldable pub timer_serve_reply : ℤ
+  timer_serve_reply = cond can_serve_timer (reply timer_frame.refusal timer_frame.count) (refused_reply 99)
 
-  unfoldable pub timerServeBytes : List ℕ
-  timerServeBytes = cond frameAsked (after timerFrame.refusal (timerBytes timerFrame.timer bytes) bytes) bytes
+  unfoldable pub timer_serve_bytes : List ℕ
+  timer_serve_bytes = cond frame_asked (after timer_frame.refusal (timer_bytes timer_frame.timer bytes) bytes) bytes
 
   -- 16 pairs of a task byte and a job byte, of which the unused ones are 0
-  abbrev pub timerEntries : List ℕ
-  timerEntries = entryBytes timerFrame.tasks timerFrame.jobs 16 0 ++ drop 32 entries
+  abbrev pub timer_entries : List ℕ
+  timer_entries = entry_bytes timer_frame.tasks timer_frame.jobs 16 0 ++ drop 32 entries
 
-  unfoldable pub timerServeEntries : List ℕ
-  timerServeEntries = cond frameAsked (after timerFrame.refusal timerEntries entries) entries
+  unfoldable pub timer_serve_entries : List ℕ
+  timer_serve_entries = cond frame_asked (after timer_frame.refusal timer_entries entries) entries
 
 -- bus_timer_line: 0 or 1
 
-unfoldable pub timerLineReply : List ℕ → ℤ
-timerLineReply bytes = cond (isTimer bytes) (pos (bit (lineOn (timerOf bytes)))) (refusedReply 99)
+unfoldable pub timer_line_reply : List ℕ → ℤ
+timer_line_reply bytes = cond (is_timer bytes) (pos (bit (line_on (timer_of bytes)))) (refused_reply 99)

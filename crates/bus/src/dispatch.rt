@@ -1,6 +1,6 @@
 // The calls of the dispatcher. Its state stands in bytes that the caller lends.
 ghost use Rattle.std.specs.Prelude.{◌≡◌};
-ghost use Rattle.bus.specs.Dispatch.{freshReply, freshBytes, frameReply, frameState, frameEntries, reportReply, reportState};
+ghost use Rattle.bus.specs.Dispatch.{fresh_reply, fresh_bytes, frame_reply, frame_state, frame_entries, report_reply, report_state};
 
 use crate::reply::{refusal, value};
 use lent::entries::write_pairs;
@@ -10,7 +10,7 @@ use lent::words::clear;
 // The fresh state, and 0 in the 29 bytes behind it: 0, or 99 negated.
 #[unsafe(no_mangle)]
 pub extern "C" fn bus_fresh(state: &mut [u8]) -> i32
-    ensures { (result ≡ freshReply state.old) × (state.new ≡ freshBytes state.old) }
+    ensures { (result ≡ fresh_reply state.old) × (state.new ≡ fresh_bytes state.old) }
 {
     if state.len() < 64 {
         return refusal(99);
@@ -23,9 +23,9 @@ pub extern "C" fn bus_fresh(state: &mut [u8]) -> i32
 // The entries to serve in the next frame, and the state after it: their number, or 99, 12 or 15 negated and nothing changed.
 #[unsafe(no_mangle)]
 pub extern "C" fn bus_next_frame(table: &[u8], state: &mut [u8], entries: &mut [u8]) -> i32
-    ensures { (result ≡ frameReply table.now state.old entries.old)
-        × (state.new ≡ frameState table.now state.old entries.old)
-        × (entries.new ≡ frameEntries table.now state.old entries.old) }
+    ensures { (result ≡ frame_reply table.now state.old entries.old)
+        × (state.new ≡ frame_state table.now state.old entries.old)
+        × (entries.new ≡ frame_entries table.now state.old entries.old) }
 {
     if !is_state(state) {
         return refusal(99);
@@ -48,7 +48,7 @@ pub extern "C" fn bus_next_frame(table: &[u8], state: &mut [u8], entries: &mut [
 // The ticks that a task used, and the state after the report: 0, or 99, 1 to 6, 17 or 16 negated and nothing changed.
 #[unsafe(no_mangle)]
 pub extern "C" fn bus_report(request: &[u8], task: u8, ticks: u32, state: &mut [u8]) -> i32
-    ensures { (result ≡ reportReply request.now task ticks state.old) × (state.new ≡ reportState request.now task ticks state.old) }
+    ensures { (result ≡ report_reply request.now task ticks state.old) × (state.new ≡ report_state request.now task ticks state.old) }
 {
     if !is_state(state) {
         return refusal(99);

@@ -1,7 +1,7 @@
 // The calls on a draft: a job is moved by hand. The draft stands in bytes that the caller lends, and a call that is refused leaves them as they were. A draft
 // buffer below 770 bytes gives 99, before every other number; any 770 bytes are a draft.
 ghost use Rattle.std.specs.Prelude.{◌≡◌, ◌≤◌, length};
-ghost use Rattle.bus.specs.Drafts.{draftedReply, draftedBytes, startReply, startBytes, liftReply, liftBytes, putReply, putBytes, writeReply, writeBuffer};
+ghost use Rattle.bus.specs.Drafts.{drafted_reply, drafted_bytes, start_reply, start_bytes, lift_reply, lift_bytes, put_reply, put_bytes, write_reply, write_buffer};
 
 use crate::reply::{refusal, value};
 use draft::Drafted;
@@ -10,7 +10,7 @@ use lent::draft_bytes::{read_draft, write_draft};
 // The draft that a call gives, into the lent bytes: 0, or the number negated and nothing changed.
 fn hand_back(lent: &mut [u8], made: Drafted) -> i32
     requires { 770 ≤ length lent.old }
-    ensures { (result ≡ draftedReply made lent.old) × (lent.new ≡ draftedBytes made lent.old) }
+    ensures { (result ≡ drafted_reply made lent.old) × (lent.new ≡ drafted_bytes made lent.old) }
 {
     if made.refusal != 0 {
         return refusal(made.refusal);
@@ -22,8 +22,8 @@ fn hand_back(lent: &mut [u8], made: Drafted) -> i32
 // The draft of an accepted table: 0, or 99, 1 to 8, 17 or 12 to 14 negated.
 #[unsafe(no_mangle)]
 pub extern "C" fn bus_draft_start(request: &[u8], table: &[u8], lent: &mut [u8]) -> i32
-    ensures { (result ≡ startReply request.now table.now lent.old)
-        × (lent.new ≡ startBytes request.now table.now lent.old) }
+    ensures { (result ≡ start_reply request.now table.now lent.old)
+        × (lent.new ≡ start_bytes request.now table.now lent.old) }
 {
     if lent.len() < 770 {
         return refusal(99);
@@ -35,7 +35,7 @@ pub extern "C" fn bus_draft_start(request: &[u8], table: &[u8], lent: &mut [u8])
 // The job at a place of the planning order is lifted: 0, or 99, 1 to 8, 17 or 26 negated.
 #[unsafe(no_mangle)]
 pub extern "C" fn bus_draft_lift(request: &[u8], job: u8, lent: &mut [u8]) -> i32
-    ensures { (result ≡ liftReply request.now job lent.old) × (lent.new ≡ liftBytes request.now job lent.old) }
+    ensures { (result ≡ lift_reply request.now job lent.old) × (lent.new ≡ lift_bytes request.now job lent.old) }
 {
     if lent.len() < 770 {
         return refusal(99);
@@ -48,8 +48,8 @@ pub extern "C" fn bus_draft_lift(request: &[u8], job: u8, lent: &mut [u8]) -> i3
 // A lifted job is put into a frame, counted from time 0: 0, or 99, 1 to 8, 17 or 26 to 28 negated.
 #[unsafe(no_mangle)]
 pub extern "C" fn bus_draft_put(request: &[u8], job: u8, frame: u16, lent: &mut [u8]) -> i32
-    ensures { (result ≡ putReply request.now job frame lent.old)
-        × (lent.new ≡ putBytes request.now job frame lent.old) }
+    ensures { (result ≡ put_reply request.now job frame lent.old)
+        × (lent.new ≡ put_bytes request.now job frame lent.old) }
 {
     if lent.len() < 770 {
         return refusal(99);
@@ -62,8 +62,8 @@ pub extern "C" fn bus_draft_put(request: &[u8], job: u8, frame: u16, lent: &mut 
 // The table of a draft with no job lifted, written into `out`: its length, or 99, 1 to 8, 17, 26 or 11 negated.
 #[unsafe(no_mangle)]
 pub extern "C" fn bus_draft_write(request: &[u8], lent: &[u8], out: &mut [u8]) -> i32
-    ensures { (result ≡ writeReply request.now lent.now out.old)
-        × (out.new ≡ writeBuffer request.now lent.now out.old) }
+    ensures { (result ≡ write_reply request.now lent.now out.old)
+        × (out.new ≡ write_buffer request.now lent.now out.old) }
 {
     if lent.len() < 770 {
         return refusal(99);

@@ -1,6 +1,6 @@
 // The calls of the heater link. A heater stands in bytes that the caller lends: 72, of which the first 64 are the dispatcher's state.
 ghost use Rattle.std.specs.Prelude.{◌≡◌};
-ghost use Rattle.bus.specs.Heater.{heaterFreshReply, heaterFreshBytes, lossesIn, heaterReply, heaterAfter, heaterEntries};
+ghost use Rattle.bus.specs.Heater.{heater_fresh_reply, heater_fresh_bytes, losses_in, heater_reply, heater_after, heater_entries};
 
 use crate::reply::{refusal, value};
 use heater_link::Losses;
@@ -11,7 +11,7 @@ use lent::words::clear;
 // A fresh heater, and 0 in the bytes that are kept free: 0, or 99 negated.
 #[unsafe(no_mangle)]
 pub extern "C" fn bus_heater_fresh(heater: &mut [u8]) -> i32
-    ensures { (result ≡ heaterFreshReply heater.old) × (heater.new ≡ heaterFreshBytes heater.old) }
+    ensures { (result ≡ heater_fresh_reply heater.old) × (heater.new ≡ heater_fresh_bytes heater.old) }
 {
     if heater.len() < 72 {
         return refusal(99);
@@ -23,7 +23,7 @@ pub extern "C" fn bus_heater_fresh(heater: &mut [u8]) -> i32
 
 // Bit 0 is the command, bit 1 the reply; other bits mean nothing.
 fn told(lost: u8) -> Losses
-    ensures { result ≡ lossesIn lost }
+    ensures { result ≡ losses_in lost }
 {
     Losses {
         command: lost % 2 == 1,
@@ -43,9 +43,9 @@ pub extern "C" fn bus_heater_serve(
     heater: &mut [u8],
     entries: &mut [u8],
 ) -> i32
-    ensures { (result ≡ heaterReply request.now table.now a b lost heater.old entries.old)
-        × (heater.new ≡ heaterAfter request.now table.now a b lost heater.old entries.old)
-        × (entries.new ≡ heaterEntries request.now table.now a b lost heater.old entries.old) }
+    ensures { (result ≡ heater_reply request.now table.now a b lost heater.old entries.old)
+        × (heater.new ≡ heater_after request.now table.now a b lost heater.old entries.old)
+        × (entries.new ≡ heater_entries request.now table.now a b lost heater.old entries.old) }
 {
     if !is_heater(heater) {
         return refusal(99);

@@ -1,8 +1,8 @@
 // The calls of the bus timer. It stands in bytes that the caller lends: 72, of which the first 64 are the dispatcher's state.
 ghost use Rattle.std.specs.Prelude.{◌≡◌};
-ghost use Rattle.bus.specs.Timer.{timerFreshReply, timerFreshBytes, timerReadReply, timerWriteReply, timerWriteBytes};
-ghost use Rattle.bus.specs.Timer.{timerEventReply, timerEventBytes, timerServeReply, timerServeBytes, timerServeEntries};
-ghost use Rattle.bus.specs.Timer.{timerReportReply, timerReportBytes, timerLineReply};
+ghost use Rattle.bus.specs.Timer.{timer_fresh_reply, timer_fresh_bytes, timer_read_reply, timer_write_reply, timer_write_bytes};
+ghost use Rattle.bus.specs.Timer.{timer_event_reply, timer_event_bytes, timer_serve_reply, timer_serve_bytes, timer_serve_entries};
+ghost use Rattle.bus.specs.Timer.{timer_report_reply, timer_report_bytes, timer_line_reply};
 
 use crate::reply::{refusal, value};
 use lent::entries::write_pairs;
@@ -12,7 +12,7 @@ use lent::words::clear;
 // The fresh timer, and 0 in every other byte of the 72: 0, or 99 negated.
 #[unsafe(no_mangle)]
 pub extern "C" fn bus_timer_fresh(timer: &mut [u8]) -> i32
-    ensures { (result ≡ timerFreshReply timer.old) × (timer.new ≡ timerFreshBytes timer.old) }
+    ensures { (result ≡ timer_fresh_reply timer.old) × (timer.new ≡ timer_fresh_bytes timer.old) }
 {
     if timer.len() < 72 {
         return refusal(99);
@@ -25,7 +25,7 @@ pub extern "C" fn bus_timer_fresh(timer: &mut [u8]) -> i32
 // The byte at an address: or 99 or 29 negated.
 #[unsafe(no_mangle)]
 pub extern "C" fn bus_timer_read(address: u8, timer: &[u8]) -> i32
-    ensures { result ≡ timerReadReply address timer.now }
+    ensures { result ≡ timer_read_reply address timer.now }
 {
     if !is_timer(timer) {
         return refusal(99);
@@ -41,7 +41,7 @@ pub extern "C" fn bus_timer_read(address: u8, timer: &[u8]) -> i32
 // A byte written to an address, and the timer after it: 0, or 99 or 29 negated and nothing changed.
 #[unsafe(no_mangle)]
 pub extern "C" fn bus_timer_write(address: u8, value: u8, timer: &mut [u8]) -> i32
-    ensures { (result ≡ timerWriteReply address value timer.old) × (timer.new ≡ timerWriteBytes address value timer.old) }
+    ensures { (result ≡ timer_write_reply address value timer.old) × (timer.new ≡ timer_write_bytes address value timer.old) }
 {
     if !is_timer(timer) {
         return refusal(99);
@@ -58,7 +58,7 @@ pub extern "C" fn bus_timer_write(address: u8, value: u8, timer: &mut [u8]) -> i
 // A timer event, and the timer after it: 0, or 99 negated and nothing changed.
 #[unsafe(no_mangle)]
 pub extern "C" fn bus_timer_event(timer: &mut [u8]) -> i32
-    ensures { (result ≡ timerEventReply timer.old) × (timer.new ≡ timerEventBytes timer.old) }
+    ensures { (result ≡ timer_event_reply timer.old) × (timer.new ≡ timer_event_bytes timer.old) }
 {
     if !is_timer(timer) {
         return refusal(99);
@@ -73,9 +73,9 @@ pub extern "C" fn bus_timer_event(timer: &mut [u8]) -> i32
 // changed.
 #[unsafe(no_mangle)]
 pub extern "C" fn bus_timer_serve(table: &[u8], timer: &mut [u8], entries: &mut [u8]) -> i32
-    ensures { (result ≡ timerServeReply table.now timer.old entries.old)
-        × (timer.new ≡ timerServeBytes table.now timer.old entries.old)
-        × (entries.new ≡ timerServeEntries table.now timer.old entries.old) }
+    ensures { (result ≡ timer_serve_reply table.now timer.old entries.old)
+        × (timer.new ≡ timer_serve_bytes table.now timer.old entries.old)
+        × (entries.new ≡ timer_serve_entries table.now timer.old entries.old) }
 {
     if !is_timer(timer) {
         return refusal(99);
@@ -102,8 +102,8 @@ pub extern "C" fn bus_timer_serve(table: &[u8], timer: &mut [u8], entries: &mut 
 // The ticks that a task used, and the timer after the report: 0, or 99, 1 to 6, 17 or 16 negated and nothing changed.
 #[unsafe(no_mangle)]
 pub extern "C" fn bus_timer_report(request: &[u8], task: u8, ticks: u32, timer: &mut [u8]) -> i32
-    ensures { (result ≡ timerReportReply request.now task ticks timer.old)
-        × (timer.new ≡ timerReportBytes request.now task ticks timer.old) }
+    ensures { (result ≡ timer_report_reply request.now task ticks timer.old)
+        × (timer.new ≡ timer_report_bytes request.now task ticks timer.old) }
 {
     if !is_timer(timer) {
         return refusal(99);
@@ -120,7 +120,7 @@ pub extern "C" fn bus_timer_report(request: &[u8], task: u8, ticks: u32, timer: 
 // The interrupt line: 1 where it is on, else 0; or 99 negated.
 #[unsafe(no_mangle)]
 pub extern "C" fn bus_timer_line(timer: &[u8]) -> i32
-    ensures { result ≡ timerLineReply timer.now }
+    ensures { result ≡ timer_line_reply timer.now }
 {
     if !is_timer(timer) {
         return refusal(99);

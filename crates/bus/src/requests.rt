@@ -1,8 +1,8 @@
 // The calls on requests.
 ghost use Rattle.std.specs.Prelude.{◌≡◌};
-ghost use Rattle.bus.specs.Join.{joinReply, joinBuffer};
-ghost use Rattle.bus.specs.Cut.{cutReply, cutBuffer};
-ghost use Rattle.bus.specs.Phases.{phasesReply, phasesCounts};
+ghost use Rattle.bus.specs.Join.{join_reply, join_buffer};
+ghost use Rattle.bus.specs.Cut.{cut_reply, cut_buffer};
+ghost use Rattle.bus.specs.Phases.{phases_reply, phases_counts};
 
 use crate::reply::{refusal, value};
 use lent::numbers::write_phases;
@@ -10,8 +10,8 @@ use lent::numbers::write_phases;
 // The request of the two joined, written into `out`: its length, or 1 to 6, 17 to 20 or 11 negated.
 #[unsafe(no_mangle)]
 pub extern "C" fn bus_join(first: &[u8], second: &[u8], out: &mut [u8]) -> i32
-    ensures { (result ≡ joinReply first.now second.now out.old)
-        × (out.new ≡ joinBuffer first.now second.now out.old) }
+    ensures { (result ≡ join_reply first.now second.now out.old)
+        × (out.new ≡ join_buffer first.now second.now out.old) }
 {
     let written = join::join(first, second, out);
     if written.refusal != 0 {
@@ -23,8 +23,8 @@ pub extern "C" fn bus_join(first: &[u8], second: &[u8], out: &mut [u8]) -> i32
 // The request with one task cut into two pieces, written into `out`: its length, or 1 to 6, 17, 24, 25, 19 or 11 negated.
 #[unsafe(no_mangle)]
 pub extern "C" fn bus_cut(request: &[u8], task: u8, first: u16, out: &mut [u8]) -> i32
-    ensures { (result ≡ cutReply request.now task first out.old)
-        × (out.new ≡ cutBuffer request.now task first out.old) }
+    ensures { (result ≡ cut_reply request.now task first out.old)
+        × (out.new ≡ cut_buffer request.now task first out.old) }
 {
     let written = cut::cut(request, task, first, out);
     if written.refusal != 0 {
@@ -37,8 +37,8 @@ pub extern "C" fn bus_cut(request: &[u8], task: u8, first: u16, out: &mut [u8]) 
 // nothing changed.
 #[unsafe(no_mangle)]
 pub extern "C" fn bus_phases(request: &[u8], task: u8, allowance: u64, counts: &mut [u8]) -> i32
-    ensures { (result ≡ phasesReply allowance request.now task counts.old)
-        × (counts.new ≡ phasesCounts allowance request.now task counts.old) }
+    ensures { (result ≡ phases_reply allowance request.now task counts.old)
+        × (counts.new ≡ phases_counts allowance request.now task counts.old) }
 {
     if counts.len() < 8 {
         return refusal(99);

@@ -1,10 +1,10 @@
 // The calls on a request and its table.
 ghost use Rattle.std.specs.Prelude.{◌≡◌};
-ghost use Rattle.bus.specs.Plan.{planReply, planBuffer, planTries};
-ghost use Rattle.bus.specs.Decide.{decideReply, decideBuffer};
-ghost use Rattle.bus.specs.Rewrite.{rewriteReply, rewriteBuffer};
-ghost use Rattle.bus.specs.OneOff.{oneOffReply};
-ghost use Rattle.bus.specs.Check.{checkReply};
+ghost use Rattle.bus.specs.Plan.{plan_reply, plan_buffer, plan_tries};
+ghost use Rattle.bus.specs.Decide.{decide_reply, decide_buffer};
+ghost use Rattle.bus.specs.Rewrite.{rewrite_reply, rewrite_buffer};
+ghost use Rattle.bus.specs.OneOff.{one_off_reply};
+ghost use Rattle.bus.specs.Check.{check_reply};
 
 use crate::reply::{refusal, value};
 use lent::numbers::write_number;
@@ -13,9 +13,9 @@ use lent::numbers::write_number;
 // tries made stand in the first 8 bytes of `tries`, whatever the answer is; but for 99 negated, which comes first and leaves all as it was.
 #[unsafe(no_mangle)]
 pub extern "C" fn bus_plan(request: &[u8], allowance: u64, out: &mut [u8], tries: &mut [u8]) -> i32
-    ensures { (result ≡ planReply allowance request.now out.old tries.old)
-        × (out.new ≡ planBuffer allowance request.now out.old tries.old)
-        × (tries.new ≡ planTries allowance request.now out.old tries.old) }
+    ensures { (result ≡ plan_reply allowance request.now out.old tries.old)
+        × (out.new ≡ plan_buffer allowance request.now out.old tries.old)
+        × (tries.new ≡ plan_tries allowance request.now out.old tries.old) }
 {
     if tries.len() < 8 {
         return refusal(99);
@@ -31,8 +31,8 @@ pub extern "C" fn bus_plan(request: &[u8], allowance: u64, out: &mut [u8], tries
 // The table of the request's chosen plan, written into `out`, however long the search takes: its length, or 1 to 11 or 17 negated.
 #[unsafe(no_mangle)]
 pub extern "C" fn bus_decide(request: &[u8], out: &mut [u8]) -> i32
-    ensures { (result ≡ decideReply request.now out.old)
-        × (out.new ≡ decideBuffer request.now out.old) }
+    ensures { (result ≡ decide_reply request.now out.old)
+        × (out.new ≡ decide_buffer request.now out.old) }
 {
     let written = decider::decide(request, out);
     if written.refusal != 0 {
@@ -44,7 +44,7 @@ pub extern "C" fn bus_decide(request: &[u8], out: &mut [u8]) -> i32
 // Whether the table describes a plan of the request: 0, or 1 to 8, 17 or 12 to 14 negated.
 #[unsafe(no_mangle)]
 pub extern "C" fn bus_check(request: &[u8], table: &[u8]) -> i32
-    ensures { result ≡ checkReply request.now table.now }
+    ensures { result ≡ check_reply request.now table.now }
 {
     let number = checker::check(request, table);
     if number != 0 {
@@ -56,8 +56,8 @@ pub extern "C" fn bus_check(request: &[u8], table: &[u8]) -> i32
 // The table of the plan that is read from a table, written into `out`: its length, or 1 to 8, 17, 12 to 14 or 11 negated.
 #[unsafe(no_mangle)]
 pub extern "C" fn bus_rewrite(request: &[u8], table: &[u8], out: &mut [u8]) -> i32
-    ensures { (result ≡ rewriteReply request.now table.now out.old)
-        × (out.new ≡ rewriteBuffer request.now table.now out.old) }
+    ensures { (result ≡ rewrite_reply request.now table.now out.old)
+        × (out.new ≡ rewrite_buffer request.now table.now out.old) }
 {
     let written = rewriter::rewrite(request, table, out);
     if written.refusal != 0 {
@@ -76,7 +76,7 @@ pub extern "C" fn bus_one_off(
     from: u32,
     until: u32,
 ) -> i32
-    ensures { result ≡ oneOffReply length from until request.now table.now }
+    ensures { result ≡ one_off_reply length from until request.now table.now }
 {
     let found = one_off::one_off(request, table, length, from, until);
     if found.refusal != 0 {

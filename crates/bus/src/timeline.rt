@@ -1,6 +1,6 @@
 // The timeline for the ground team, in bytes that the caller lends.
 ghost use Rattle.std.specs.Prelude.{◌≡◌};
-ghost use Rattle.bus.specs.Timeline.{timelineReply, timelineRecords};
+ghost use Rattle.bus.specs.Timeline.{timeline_reply, timeline_records};
 
 use crate::reply::{refusal, value};
 use lent::records::write_records;
@@ -8,8 +8,8 @@ use lent::records::write_records;
 // The records of an accepted table, in planning order, written into `records`: their number, or 1 to 8, 17, 12 to 14 or 11 negated.
 #[unsafe(no_mangle)]
 pub extern "C" fn bus_timeline(request: &[u8], table: &[u8], records: &mut [u8]) -> i32
-    ensures { (result ≡ timelineReply request.now table.now records.old)
-        × (records.new ≡ timelineRecords request.now table.now records.old) }
+    ensures { (result ≡ timeline_reply request.now table.now records.old)
+        × (records.new ≡ timeline_records request.now table.now records.old) }
 {
     let known = job_records::known(request, table, records.len() / 8);
     if known.refusal != 0 {

@@ -1,7 +1,7 @@
 -- Which bytes of a state a call changes: bus_next_frame none but the row and the mark, bus_report none but the two of its own task's count.
 use Rattle.std.specs.Prelude.{ℕ, ◌+◌, ◌*◌, ◌<◌, ◌≡◌, ◌⊎◌, List, length, get_or}
 use Rattle.cursor.specs.Fields.{Bytes}
-use Rattle.bus.specs.Dispatch.{frameState, reportState}
+use Rattle.bus.specs.Dispatch.{frame_state, report_state}
 
 -- as many bytes, and no byte changes but those that `Named` tells
 abbrev pub ChangesOnly : (ℕ → Type 0) → List ℕ → List ℕ → Type 0
@@ -16,7 +16,7 @@ abbrev pub OwnCount : ℕ → ℕ → Type 0
 OwnCount task k = ((k ≡ 3 + 2 * task) ⊎ (k ≡ 4 + 2 * task)) × (task < 16)
 
 abbrev pub FrameChanges : Type 0
-FrameChanges = (table state entries : List ℕ) → Bytes state → ChangesOnly RowOrMark state (frameState table state entries)
+FrameChanges = (table state entries : List ℕ) → Bytes state → ChangesOnly RowOrMark state (frame_state table state entries)
 
 abbrev pub ReportChanges : Type 0
-ReportChanges = (request : List ℕ) (task ticks : ℕ) (state : List ℕ) → Bytes state → ChangesOnly (OwnCount task) state (reportState request task ticks state)
+ReportChanges = (request : List ℕ) (task ticks : ℕ) (state : List ℕ) → Bytes state → ChangesOnly (OwnCount task) state (report_state request task ticks state)

@@ -2,12 +2,12 @@
 use Rattle.std.specs.Prelude.{ℕ, ◌+◌, ◌≡◌, List, pos, get_or}
 use Rattle.phases.specs.Phases.{phases}
 use Rattle.phases.specs.declared.PhaseCounts.{PhaseCounts}
-use Rattle.lent.specs.Words.{u16Of}
-use Rattle.bus.specs.Phases.{phasesReply, phasesCounts}
+use Rattle.lent.specs.Words.{u16_of}
+use Rattle.bus.specs.Phases.{phases_reply, phases_counts}
 
 -- the u16 at a place
 abbrev pub word_at : List ℕ → ℕ → ℕ
-word_at bytes at = u16Of (get_or bytes at 0) (get_or bytes (at + 1) 0)
+word_at bytes at = u16_of (get_or bytes at 0) (get_or bytes (at + 1) 0)
 
 pub record SaysCounts (bytes : List ℕ) (found : PhaseCounts) : Type 0 where
   pub tables : word_at bytes 0 ≡ found.tables
@@ -18,8 +18,8 @@ pub record SaysCounts (bytes : List ℕ) (found : PhaseCounts) : Type 0 where
 -- bus_phases answered 0
 pub record PhasesTold (allowance : ℕ) (request : List ℕ) (task : ℕ) (counts : List ℕ) : Type 0 where
   pub accepted : (phases allowance request task).refusal ≡ 0
-  pub says : SaysCounts (phasesCounts allowance request task counts) (phases allowance request task)
+  pub says : SaysCounts (phases_counts allowance request task counts) (phases allowance request task)
 
 abbrev pub PhasesBack : Type 0
-PhasesBack = (allowance : ℕ) (request : List ℕ) (task : ℕ) (counts : List ℕ) → phasesReply allowance request task counts ≡ pos 0
+PhasesBack = (allowance : ℕ) (request : List ℕ) (task : ℕ) (counts : List ℕ) → phases_reply allowance request task counts ≡ pos 0
     → PhasesTold allowance request task counts

@@ -1,6 +1,6 @@
 -- The bytes of a state are read as they were written, both ways.
-use Rattle.lent.specs.StateBack.{count-there, state-read, bytes_back}
+use Rattle.lent.specs.StateBack.{count_there, state_read, bytes_back}
 use Rattle.bus_laws.specs.Trips.{StateRoundTrip}
 
-pub state-round-trip : StateRoundTrip
-state-round-trip s bytes = (state-read s bytes, count-there s bytes, bytes_back bytes)
+pub state_round_trip : StateRoundTrip
+state_round_trip s bytes = (state_read s bytes, count_there s bytes, bytes_back bytes)

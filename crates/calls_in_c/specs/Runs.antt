@@ -20,7 +20,7 @@ pub record Kind (S Call Seen B : Type 0) : Type 1 where
   pub leaves : Call → List ℕ → List ℕ
   -- its other buffers are long enough; and what is seen of a call that is refused with 99
   pub fits : Call → Bool
-  pub sentBack : Call → Seen
+  pub sent_back : Call → Seen
   -- the call below it, what C sees of that call, and what there is after a list of such calls
   pub asked : Call → B
   pub shown : Call → S → Seen
@@ -29,21 +29,21 @@ pub record Kind (S Call Seen B : Type 0) : Type 1 where
 module _ {S Call Seen B : Type 0} (k : Kind S Call Seen B) where
   -- One call: it sees the bytes that it is lent and no others
 
-  abbrev pub seenOf : List ℕ → Lending Call → Seen
-  seenOf bytes l = k.seen l.call (take l.lent bytes)
+  abbrev pub seen_of : List ℕ → Lending Call → Seen
+  seen_of bytes l = k.seen l.call (take l.lent bytes)
 
-  abbrev pub leftBy : List ℕ → Lending Call → List ℕ
-  leftBy bytes l = k.leaves l.call (take l.lent bytes) ++ drop l.lent bytes
+  abbrev pub left_by : List ℕ → Lending Call → List ℕ
+  left_by bytes l = k.leaves l.call (take l.lent bytes) ++ drop l.lent bytes
 
   -- A list: each call takes the bytes that the last one left
 
-  unfoldable pub allSeen : List ℕ → List (Lending Call) → List Seen
-  allSeen bytes [] = []
-  allSeen bytes (l ∷ ls) = seenOf bytes l ∷ allSeen (leftBy bytes l) ls
+  unfoldable pub all_seen : List ℕ → List (Lending Call) → List Seen
+  all_seen bytes [] = []
+  all_seen bytes (l ∷ ls) = seen_of bytes l ∷ all_seen (left_by bytes l) ls
 
-  unfoldable pub bytesLeft : List ℕ → List (Lending Call) → List ℕ
-  bytesLeft bytes [] = bytes
-  bytesLeft bytes (l ∷ ls) = bytesLeft (leftBy bytes l) ls
+  unfoldable pub bytes_left : List ℕ → List (Lending Call) → List ℕ
+  bytes_left bytes [] = bytes
+  bytes_left bytes (l ∷ ls) = bytes_left (left_by bytes l) ls
 
   -- The same list below: without the calls that lend too few bytes
 
@@ -54,26 +54,26 @@ module _ {S Call Seen B : Type 0} (k : Kind S Call Seen B) where
   fed [] = []
   fed (l ∷ ls) = keep (enough l) (k.asked l.call) (fed ls)
 
-  abbrev pub shownOf : S → Lending Call → Seen
-  shownOf s l = cond (enough l) (k.shown l.call s) (k.sentBack l.call)
+  abbrev pub shown_of : S → Lending Call → Seen
+  shown_of s l = cond (enough l) (k.shown l.call s) (k.sent_back l.call)
 
   -- each call takes what the last one gave
-  unfoldable pub allShown : S → List (Lending Call) → List Seen
-  allShown s [] = []
-  allShown s (l ∷ ls) = shownOf s l ∷ allShown (k.final s (fed (l ∷ []))) ls
+  unfoldable pub all_shown : S → List (Lending Call) → List Seen
+  all_shown s [] = []
+  all_shown s (l ∷ ls) = shown_of s l ∷ all_shown (k.final s (fed (l ∷ []))) ls
 
   -- Good bytes: every answer is that of the calls below, and the bytes say what these give
   pub record Runs (bytes : List ℕ) (calls : List (Lending Call)) : Type 0 where
-    pub same_seen : allSeen bytes calls ≡ allShown (k.says bytes) calls
-    pub still-good : k.good (bytesLeft bytes calls) ≡ true
-    pub same-said : k.says (bytesLeft bytes calls) ≡ k.final (k.says bytes) (fed calls)
+    pub same_seen : all_seen bytes calls ≡ all_shown (k.says bytes) calls
+    pub still_good : k.good (bytes_left bytes calls) ≡ true
+    pub same_said : k.says (bytes_left bytes calls) ≡ k.final (k.says bytes) (fed calls)
     -- there are as many bytes, and none but the used ones changes
-    pub changed : ChangesOnly k.Used bytes (bytesLeft bytes calls)
+    pub changed : ChangesOnly k.Used bytes (bytes_left bytes calls)
 
   -- Others: every call is refused with 99, and no byte changes
   pub record Refused (bytes : List ℕ) (calls : List (Lending Call)) : Type 0 where
-    pub all-refused : allSeen bytes calls ≡ map (λ (l : Lending Call). k.sentBack l.call) calls
-    pub bytes-kept : bytesLeft bytes calls ≡ bytes
+    pub all_refused : all_seen bytes calls ≡ map (λ (l : Lending Call). k.sent_back l.call) calls
+    pub bytes_kept : bytes_left bytes calls ≡ bytes
 
   -- the statement, for all bytes and every list of calls
   abbrev pub RunsAll : Type 0

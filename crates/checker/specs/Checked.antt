@@ -1,83 +1,83 @@
 -- The check, in the words of 01's "Checking" and "A plan": what it answers to a request's cycle and a decoded table.
 use Rattle.std.specs.Prelude.{ℕ, ◌+◌, Bool, true, cond, ◌&&◌, List, [], ◌∷◌, map, length, get_or, eqb}
-use Rattle.cycle.specs.Cycle.{Cycle, cycle, noCycle, cycleOf}
-use Rattle.cycle.specs.Planned.{noJob}
+use Rattle.cycle.specs.Cycle.{Cycle, cycle, no_cycle, cycle_of}
+use Rattle.cycle.specs.Planned.{no_job}
 use Rattle.cycle.specs.declared.Job.{Job}
 use Rattle.table.specs.Table.{Entry, Table, Decoded, table, malformed, decode}
 use Rattle.model.specs.Plan.{Instance}
-use Rattle.model.specs.Named.{isJob}
+use Rattle.model.specs.Named.{is_job}
 use Rattle.model.specs.Plausible.{plausible}
 use Rattle.model.specs.Answers.{instance}
 use Rattle.plan_rules.specs.Every.{every, some}
-use Rattle.plan_rules.specs.Rules.{rulesRight}
+use Rattle.plan_rules.specs.Rules.{rules_right}
 use Rattle.checker.specs.declared.walk.Position.{Position}
 use Rattle.checker.specs.declared.walk.Position.TheVariants.{At, Nowhere}
 
 -- "For each job it walks the rows, and in each row its entries, and stops at the first entry naming the job.": the entries of row r
-unfoldable pub positionInRow : Job → ℕ → List Entry → Position
-positionInRow job r [] = Nowhere
-positionInRow job r (e ∷ es) = cond (isJob e.task e.number job) (At r e.carried) (positionInRow job r es)
+unfoldable pub position_in_row : Job → ℕ → List Entry → Position
+position_in_row job r [] = Nowhere
+position_in_row job r (e ∷ es) = cond (is_job e.task e.number job) (At r e.carried) (position_in_row job r es)
 
 abbrev pub or_else : Position → Position → Position
 or_else (At r carried) next = At r carried
 or_else Nowhere next = next
 
 -- the rows from row r on
-unfoldable pub positionIn : Job → ℕ → List (List Entry) → Position
-positionIn job r [] = Nowhere
-positionIn job r (es ∷ rows) = or_else (positionInRow job r es) (positionIn job (r + 1) rows)
+unfoldable pub position_in : Job → ℕ → List (List Entry) → Position
+position_in job r [] = Nowhere
+position_in job r (es ∷ rows) = or_else (position_in_row job r es) (position_in job (r + 1) rows)
 
 -- "k may reach F or beyond; the job then stands in row k mod F with carry": the frame of row r of F, with carry or without
 unfoldable pub frame_for : ℕ → ℕ → Bool → ℕ
 frame_for rows r carried = r + cond carried rows 0
 
 -- For each case of a place its frame and its number: the job stands in row r of F; or "a missing job" breaks the plan, which is 14.
-abbrev pub frameAtPosition : ℕ → Position → ℕ
-frameAtPosition rows (At r carried) = frame_for rows r carried
-frameAtPosition rows Nowhere = 0
+abbrev pub frame_at_position : ℕ → Position → ℕ
+frame_at_position rows (At r carried) = frame_for rows r carried
+frame_at_position rows Nowhere = 0
 
-abbrev pub positionNumber : Position → ℕ
-positionNumber (At r carried) = 0
-positionNumber Nowhere = 14
+abbrev pub position_number : Position → ℕ
+position_number (At r carried) = 0
+position_number Nowhere = 14
 
-abbrev pub isFound : Position → Bool
-isFound p = eqb (positionNumber p) 0
+abbrev pub is_found : Position → Bool
+is_found p = eqb (position_number p) 0
 
 -- the frame that the rows give a job
-unfoldable pub frameIn : List (List Entry) → Job → ℕ
-frameIn rows job = frameAtPosition (length rows) (positionIn job 0 rows)
+unfoldable pub frame_in : List (List Entry) → Job → ℕ
+frame_in rows job = frame_at_position (length rows) (position_in job 0 rows)
 
-unfoldable pub framesIn : List (List Entry) → List Job → List ℕ
-framesIn rows jobs = map (frameIn rows) jobs
+unfoldable pub frames_in : List (List Entry) → List Job → List ℕ
+frames_in rows jobs = map (frame_in rows) jobs
 
 -- no "missing job": the job at place y has an entry
 unfoldable pub is_placed : List (List Entry) → List Job → ℕ → Bool
-is_placed rows jobs y = isFound (positionIn (get_or jobs y noJob) 0 rows)
+is_placed rows jobs y = is_found (position_in (get_or jobs y no_job) 0 rows)
 
 -- The frames of jobs, by place: n jobs, F rows.
 module _ (jobs : List Job) (frames : List ℕ) where
   -- the job at place y is job `number` of the task, and its frame is k
-  unfoldable pub isThere : ℕ → ℕ → ℕ → ℕ → Bool
-  isThere task number k y = isJob task number (get_or jobs y noJob) && eqb (get_or frames y 0) k
+  unfoldable pub is_there : ℕ → ℕ → ℕ → ℕ → Bool
+  is_there task number k y = is_job task number (get_or jobs y no_job) && eqb (get_or frames y 0) k
 
   module _ (n : ℕ) where
     -- "An entry for a job that does not exist breaks the plan, as does .. a second entry for one, or a wrong carry bit.": so each entry, in row
     -- r, is that of a job in its frame
-    unfoldable pub entryKept : ℕ → ℕ → Entry → Bool
-    entryKept rows r e = some n (isThere e.task e.number (frame_for rows r e.carried))
+    unfoldable pub entry_kept : ℕ → ℕ → Entry → Bool
+    entry_kept rows r e = some n (is_there e.task e.number (frame_for rows r e.carried))
 
-    unfoldable pub rowKept : ℕ → ℕ → List Entry → Bool
-    rowKept rows r [] = true
-    rowKept rows r (e ∷ es) = entryKept rows r e && rowKept rows r es
+    unfoldable pub row_kept : ℕ → ℕ → List Entry → Bool
+    row_kept rows r [] = true
+    row_kept rows r (e ∷ es) = entry_kept rows r e && row_kept rows r es
 
     -- the entries of the rows from row r on
-    unfoldable pub rowsKept : ℕ → ℕ → List (List Entry) → Bool
-    rowsKept rows r [] = true
-    rowsKept rows r (es ∷ left) = rowKept rows r es && rowsKept rows (r + 1) left
+    unfoldable pub rows_kept : ℕ → ℕ → List (List Entry) → Bool
+    rows_kept rows r [] = true
+    rows_kept rows r (es ∷ left) = row_kept rows r es && rows_kept rows (r + 1) left
 
 -- "in each row exactly the plan's entries, carry bits included"
-unfoldable pub entriesRight : Instance → List (List Entry) → List ℕ → Bool
-entriesRight x rows frames = every (length x.jobs) (is_placed rows x.jobs) && rowsKept x.jobs frames (length x.jobs) (length rows) 0 rows
+unfoldable pub entries_right : Instance → List (List Entry) → List ℕ → Bool
+entries_right x rows frames = every (length x.jobs) (is_placed rows x.jobs) && rows_kept x.jobs frames (length x.jobs) (length rows) 0 rows
 
 -- the frame length and the frames read, by job in planning order; or the number of the refusal
 pub data Verdict : Type 0 where
@@ -87,30 +87,30 @@ pub data Verdict : Type 0 where
 -- 14: "not a plan"
 unfoldable pub plan_of : Instance → ℕ → List (List Entry) → Verdict
 plan_of x f rows =
-    let frames = framesIn rows x.jobs in
-    cond (entriesRight x rows frames && rulesRight x (length rows) f frames) (accepted f frames) (refusal 14)
+    let frames = frames_in rows x.jobs in
+    cond (entries_right x rows frames && rules_right x (length rows) f frames) (accepted f frames) (refusal 14)
 
 -- 13: "H not the request's, or f not plausible", where `test` tells which f are
-unfoldable pub judgedBy : (Instance → ℕ → Bool) → Instance → Table → Verdict
-judgedBy test x t = cond (eqb t.h x.h && test x t.f) (plan_of x t.f t.rows) (refusal 13)
+unfoldable pub judged_by : (Instance → ℕ → Bool) → Instance → Table → Verdict
+judged_by test x t = cond (eqb t.h x.h && test x t.f) (plan_of x t.f t.rows) (refusal 13)
 
 abbrev pub judged : Instance → Table → Verdict
-judged = judgedBy plausible
+judged = judged_by plausible
 
 -- "the check 1 to 8 then 12 to 14": 12 for a table that has not the form
-unfoldable pub checkedBy : (Instance → ℕ → Bool) → Cycle → Decoded → Verdict
-checkedBy test (noCycle number) d = refusal number
-checkedBy test (cycle tasks pairs g h jobs) malformed = refusal 12
-checkedBy test (cycle tasks pairs g h jobs) (table t) = judgedBy test (instance tasks pairs g h jobs) t
+unfoldable pub checked_by : (Instance → ℕ → Bool) → Cycle → Decoded → Verdict
+checked_by test (no_cycle number) d = refusal number
+checked_by test (cycle tasks pairs g h jobs) malformed = refusal 12
+checked_by test (cycle tasks pairs g h jobs) (table t) = judged_by test (instance tasks pairs g h jobs) t
 
 abbrev pub checked : Cycle → Decoded → Verdict
-checked = checkedBy plausible
+checked = checked_by plausible
 
 -- 0 where it accepts
-abbrev pub verdictNumber : Verdict → ℕ
-verdictNumber (accepted f frames) = 0
-verdictNumber (refusal number) = number
+abbrev pub verdict_number : Verdict → ℕ
+verdict_number (accepted f frames) = 0
+verdict_number (refusal number) = number
 
 -- what `check` answers to the bytes of a request and of a table
-abbrev pub checkNumber : List ℕ → List ℕ → ℕ
-checkNumber request bytes = verdictNumber (checked (cycleOf request) (decode bytes))
+abbrev pub check_number : List ℕ → List ℕ → ℕ
+check_number request bytes = verdict_number (checked (cycle_of request) (decode bytes))

@@ -4,30 +4,30 @@ use Rattle.std.proofs.Common.{◌∙◌, add-one, arith}
 use mathlib.Core.List.{List, [], ◌∷◌, ◌++◌, map, map-append}
 use Rattle.std.proofs.Math.ListN.{length, set, length-map}
 use Rattle.cursor.specs.Padded.{padded, firsts}
-use Rattle.cursor.specs.PaddedLaws.{set-padded, firsts-length, getD-firsts}
-use Rattle.cycle.specs.Planned.{noJob}
+use Rattle.cursor.specs.PaddedLaws.{set_padded, firsts_length, get_or_firsts}
+use Rattle.cycle.specs.Planned.{no_job}
 use Rattle.cycle.specs.declared.Job.{Job}
-use Rattle.checker.specs.Checked.{positionIn, frame_for, isFound, frameAtPosition, frameIn, framesIn, is_placed}
+use Rattle.checker.specs.Checked.{position_in, frame_for, is_found, frame_at_position, frame_in, frames_in, is_placed}
 use Rattle.checker.specs.Answers.{rows_of}
-use Rattle.checker.specs.WalkLaws.{rows-count}
+use Rattle.checker.specs.WalkLaws.{rows_count}
 use Rattle.checker.specs.declared.walk.Position.{Position}
 use Rattle.checker.specs.declared.walk.Position.TheVariants.{At}
 
 -- the frames of the first y jobs
 module _ (s : List ℕ) (height : ℕ) (jobs : List Job) where
   module _ (y : ℕ) where
-    pub placed_at : (n : ℕ) (place : Position) → y < n → positionIn (get_or jobs y noJob) 0 (rows_of s height) ≡ place
-        → is_placed (rows_of s height) (firsts n noJob jobs) y ≡ isFound place
+    pub placed_at : (n : ℕ) (place : Position) → y < n → position_in (get_or jobs y no_job) 0 (rows_of s height) ≡ place
+        → is_placed (rows_of s height) (firsts n no_job jobs) y ≡ is_found place
     unfolding is_placed
-    placed_at n place h e = rw (getD-firsts noJob jobs n y h, e)
+    placed_at n place h e = rw (get_or_firsts no_job jobs n y h, e)
 
-    pub one-read : (r k : ℕ) (carried : Bool) → y < 128 → positionIn (get_or jobs y noJob) 0 (rows_of s height) ≡ At r carried
+    pub one_read : (r k : ℕ) (carried : Bool) → y < 128 → position_in (get_or jobs y no_job) 0 (rows_of s height) ≡ At r carried
         → k ≡ frame_for height r carried
-        → set (padded 128 0 (framesIn (rows_of s height) (firsts y noJob jobs))) y k ≡ padded 128 0 (framesIn (rows_of s height) (firsts (y + 1) noJob jobs))
-    unfolding framesIn firsts frameIn
-    one-read r k carried h e q =
-        let done = map (frameIn (rows_of s height)) (firsts y noJob jobs) in
-        let count : length done ≡ y = length-map (firsts y noJob jobs) (frameIn (rows_of s height)) ∙ firsts-length noJob jobs y in
-        let frame : frameAtPosition (length (rows_of s height)) (positionIn (get_or jobs y noJob) 0 (rows_of s height)) ≡ k = rw (e, rows-count s height 7, q) in
-        let stored : set (padded 128 0 done) (length done) k ≡ padded 128 0 (done ++ (k ∷ [])) = set-padded 128 0 done k (omega arith) in
-        rw (add-one y, map-append (frameIn (rows_of s height)) (firsts y noJob jobs) (get_or jobs y noJob ∷ []), frame) (rw count at stored)
+        → set (padded 128 0 (frames_in (rows_of s height) (firsts y no_job jobs))) y k ≡ padded 128 0 (frames_in (rows_of s height) (firsts (y + 1) no_job jobs))
+    unfolding frames_in firsts frame_in
+    one_read r k carried h e q =
+        let done = map (frame_in (rows_of s height)) (firsts y no_job jobs) in
+        let count : length done ≡ y = length-map (firsts y no_job jobs) (frame_in (rows_of s height)) ∙ firsts_length no_job jobs y in
+        let frame : frame_at_position (length (rows_of s height)) (position_in (get_or jobs y no_job) 0 (rows_of s height)) ≡ k = rw (e, rows_count s height 7, q) in
+        let stored : set (padded 128 0 done) (length done) k ≡ padded 128 0 (done ++ (k ∷ [])) = set_padded 128 0 done k (omega arith) in
+        rw (add-one y, map-append (frame_in (rows_of s height)) (firsts y no_job jobs) (get_or jobs y no_job ∷ []), frame) (rw count at stored)

@@ -5,182 +5,182 @@ use Rattle.std.proofs.Common.{sym, ◌∙◌, arith, eq-eqb, ne_eqb}
 use Rattle.std.proofs.Math.ListN.{length-map}
 use Rattle.cursor.specs.Fields.{Bytes}
 use Rattle.cursor.specs.Padded.{padded, firsts}
-use Rattle.cursor.specs.PaddedLaws.{firsts-length, firsts-padded}
-use Rattle.cycle.specs.Cycle.{noCycle, cycleOf}
-use Rattle.cycle.specs.Planned.{noJob}
+use Rattle.cursor.specs.PaddedLaws.{firsts_length, firsts_padded}
+use Rattle.cycle.specs.Cycle.{no_cycle, cycle_of}
+use Rattle.cycle.specs.Planned.{no_job}
 use Rattle.cycle.specs.declared.Job.{Job}
 use Rattle.cycle.specs.declared.Cycle.{Cycle}
 use Rattle.table.specs.Table.{Table, Decoded, table, malformed, decode}
-use Rattle.table.specs.Answers.{sizesOf}
-use Rattle.table.specs.Inverse.{decode-wellformed}
+use Rattle.table.specs.Answers.{sizes_of}
+use Rattle.table.specs.Inverse.{decode_wellformed}
 use Rattle.table.specs.declared.Sizes.{Sizes}
 use Rattle.model.specs.Plausible.{plausible}
-use Rattle.model.specs.Answers.{instanceOf}
+use Rattle.model.specs.Answers.{instance_of}
 use Rattle.plan_rules.specs.Every.{every}
-use Rattle.plan_rules.specs.Rules.{rulesRight}
-use Rattle.checker.specs.Checked.{framesIn, frameIn, is_placed, rowsKept, entriesRight, Verdict, accepted, refusal, plan_of, judgedBy, judged, checkedBy, checked, verdictNumber}
-use Rattle.checker.specs.Answers.{framesAnswer, readAnswer, foundAnswer, besideIt, cycleIn, rows_of, names_of, named}
-use Rattle.checker.specs.WalkLaws.{rows-count, rows-in-bytes}
+use Rattle.plan_rules.specs.Rules.{rules_right}
+use Rattle.checker.specs.Checked.{frames_in, frame_in, is_placed, rows_kept, entries_right, Verdict, accepted, refusal, plan_of, judged_by, judged, checked_by, checked, verdict_number}
+use Rattle.checker.specs.Answers.{frames_answer, read_answer, found_answer, beside_it, cycle_in, rows_of, names_of, named}
+use Rattle.checker.specs.WalkLaws.{rows_count, rows_in_bytes}
 use Rattle.checker.specs.NameLaws.{same_rows}
 use Rattle.checker.specs.declared.walk.Frames.{Frames}
 
 -- A cycle in its arrays.
-module _ (c : Cycle) (few-jobs : c.count ≤ 128) where
-  abbrev pub jobsOf : List Job
-  jobsOf = firsts c.count noJob c.jobs
+module _ (c : Cycle) (few_jobs : c.count ≤ 128) where
+  abbrev pub jobs_of : List Job
+  jobs_of = firsts c.count no_job c.jobs
 
-  count-is : min c.count 128 ≡ c.count
-  count-is = omega (arith, few-jobs)
+  count_is : min c.count 128 ≡ c.count
+  count_is = omega (arith, few_jobs)
 
-  jobs-count : length jobsOf ≡ c.count
-  jobs-count = firsts-length noJob c.jobs c.count
+  jobs_count : length jobs_of ≡ c.count
+  jobs_count = firsts_length no_job c.jobs c.count
 
   module _ (s : List ℕ) (height f : ℕ) where
-    abbrev pub framesOf : List ℕ
-    framesOf = framesIn (rows_of s height) jobsOf
+    abbrev pub frames_of : List ℕ
+    frames_of = frames_in (rows_of s height) jobs_of
 
-    frames-count : length framesOf ≡ c.count
-    unfolding framesIn
-    frames-count = length-map jobsOf (frameIn (rows_of s height)) ∙ jobs-count
+    frames_count : length frames_of ≡ c.count
+    unfolding frames_in
+    frames_count = length-map jobs_of (frame_in (rows_of s height)) ∙ jobs_count
 
     -- the frames are those in the places
-    frames-are : (places : List ℕ) → places ≡ padded 128 0 framesOf → firsts c.count 0 places ≡ framesOf
-    frames-are places e = rw e (rw frames-count at (firsts-padded 128 0 framesOf))
+    frames_are : (places : List ℕ) → places ≡ padded 128 0 frames_of → firsts c.count 0 places ≡ frames_of
+    frames_are places e = rw e (rw frames_count at (firsts_padded 128 0 frames_of))
 
     -- every job has a place, and every entry is right
-    abbrev pub allPlaced : Bool
-    allPlaced = every c.count (is_placed (rows_of s height) jobsOf)
+    abbrev pub all_placed : Bool
+    all_placed = every c.count (is_placed (rows_of s height) jobs_of)
 
-    abbrev entriesKept : List ℕ → Bool
-    entriesKept frames = rowsKept jobsOf frames c.count height 0 (rows_of s height)
+    abbrev entries_kept : List ℕ → Bool
+    entries_kept frames = rows_kept jobs_of frames c.count height 0 (rows_of s height)
 
-    plan-is : plan_of (instanceOf c) f (rows_of s height)
-        ≡ cond ((allPlaced && entriesKept framesOf) && rulesRight (instanceOf c) height f framesOf) (accepted f framesOf) (refusal 14)
-    unfolding plan_of entriesRight
-    plan-is = rw (count-is, jobs-count, rows-count s height 7)
+    plan_is : plan_of (instance_of c) f (rows_of s height)
+        ≡ cond ((all_placed && entries_kept frames_of) && rules_right (instance_of c) height f frames_of) (accepted f frames_of) (refusal 14)
+    unfolding plan_of entries_right
+    plan_is = rw (count_is, jobs_count, rows_count s height 7)
 
-    module _ (read : Frames) (told : read ≡ framesAnswer allPlaced framesOf) where
+    module _ (read : Frames) (told : read ≡ frames_answer all_placed frames_of) where
       -- what the reader of the frames says
-      all-is : read.all ≡ allPlaced
-      all-is = go allPlaced told
+      all_is : read.all ≡ all_placed
+      all_is = go all_placed told
         where
-          go : (b : Bool) → read ≡ framesAnswer b framesOf → read.all ≡ b
+          go : (b : Bool) → read ≡ frames_answer b frames_of → read.all ≡ b
           go true e = ap (λ r. r.all) e
           go false e = ap (λ r. r.all) e
 
-      pub job-missing : read.all ≡ false → plan_of (instanceOf c) f (rows_of s height) ≡ refusal 14
-      job-missing e = plan-is ∙ rw (← all-is, e)
+      pub job_missing : read.all ≡ false → plan_of (instance_of c) f (rows_of s height) ≡ refusal 14
+      job_missing e = plan_is ∙ rw (← all_is, e)
 
       module _ (all : read.all ≡ true) where
-        places-are : read.frames ≡ padded 128 0 framesOf
-        places-are = ap (λ r. r.frames) (rw (← all-is, all) at told)
+        places_are : read.frames ≡ padded 128 0 frames_of
+        places_are = ap (λ r. r.frames) (rw (← all_is, all) at told)
 
-        pub frames-first : firsts c.count 0 read.frames ≡ framesOf
-        frames-first = frames-are read.frames places-are
+        pub frames_first : firsts c.count 0 read.frames ≡ frames_of
+        frames_first = frames_are read.frames places_are
 
-        frames-kept : firsts (min c.count 128) 0 read.frames ≡ framesOf
-        frames-kept = ap (λ (n : ℕ). firsts n 0 read.frames) count-is ∙ frames-first
+        frames_kept : firsts (min c.count 128) 0 read.frames ≡ frames_of
+        frames_kept = ap (λ (n : ℕ). firsts n 0 read.frames) count_is ∙ frames_first
 
-        module _ (names : List (List ℕ)) (names-are : names ≡ names_of jobsOf) where
+        module _ (names : List (List ℕ)) (names_are : names ≡ names_of jobs_of) where
           -- the entries by the names of the jobs
-          abbrev pub entriesNamed : Bool
-          entriesNamed = rowsKept (named names c.count) (firsts c.count 0 read.frames) c.count height 0 (rows_of s height)
+          abbrev pub entries_named : Bool
+          entries_named = rows_kept (named names c.count) (firsts c.count 0 read.frames) c.count height 0 (rows_of s height)
 
-          entries-named : entriesNamed ≡ entriesKept framesOf
-          entries-named = rw (names-are, frames-first) (same_rows jobsOf c.count jobs-count framesOf height 0 (rows_of s height))
+          entries_named_lem : entries_named ≡ entries_kept frames_of
+          entries_named_lem = rw (names_are, frames_first) (same_rows jobs_of c.count jobs_count frames_of height 0 (rows_of s height))
 
-          pub entry-wrong : entriesNamed ≡ false → plan_of (instanceOf c) f (rows_of s height) ≡ refusal 14
-          entry-wrong e = plan-is ∙ rw (← all-is, all, ← entries-named, e)
+          pub entry_wrong : entries_named ≡ false → plan_of (instance_of c) f (rows_of s height) ≡ refusal 14
+          entry_wrong e = plan_is ∙ rw (← all_is, all, ← entries_named_lem, e)
 
-          pub rule-broken : entriesNamed ≡ true
-              → rulesRight (instanceOf c) height f (firsts (min c.count 128) 0 read.frames) ≡ false
-              → plan_of (instanceOf c) f (rows_of s height) ≡ refusal 14
-          rule-broken e q = plan-is ∙ rw (← all-is, all, ← entries-named, e, rw frames-kept at q)
+          pub rule_broken : entries_named ≡ true
+              → rules_right (instance_of c) height f (firsts (min c.count 128) 0 read.frames) ≡ false
+              → plan_of (instance_of c) f (rows_of s height) ≡ refusal 14
+          rule_broken e q = plan_is ∙ rw (← all_is, all, ← entries_named_lem, e, rw frames_kept at q)
 
-          pub plan-read : entriesNamed ≡ true
-              → rulesRight (instanceOf c) height f (firsts (min c.count 128) 0 read.frames) ≡ true
-              → record { refusal = 0; f = f; frames = read.frames } ≡ foundAnswer (plan_of (instanceOf c) f (rows_of s height))
-          plan-read e q =
-              let p : plan_of (instanceOf c) f (rows_of s height) ≡ accepted f framesOf
-              = plan-is ∙ rw (← all-is, all, ← entries-named, e, rw frames-kept at q) in
-              rw (p, places-are)
+          pub plan_read_lem : entries_named ≡ true
+              → rules_right (instance_of c) height f (firsts (min c.count 128) 0 read.frames) ≡ true
+              → record { refusal = 0; f = f; frames = read.frames } ≡ found_answer (plan_of (instance_of c) f (rows_of s height))
+          plan_read_lem e q =
+              let p : plan_of (instance_of c) f (rows_of s height) ≡ accepted f frames_of
+              = plan_is ∙ rw (← all_is, all, ← entries_named_lem, e, rw frames_kept at q) in
+              rw (p, places_are)
 
 -- The table has the form, and these sizes.
 pub record Formed (bytes : List ℕ) (z : Sizes) : Type 0 where
   pub t : Table
   pub is : decode bytes ≡ table t
-  pub f-is : z.f ≡ t.f
-  pub h-is : z.h ≡ t.h
-  pub height-is : z.height ≡ length t.rows
+  pub f_is : z.f ≡ t.f
+  pub h_is : z.h ≡ t.h
+  pub height_is : z.height ≡ length t.rows
 
 -- the request is refused
-pub request-refused : (request : List ℕ) (number : ℕ) (d : Decoded) → cycleOf request ≡ noCycle number
-    → checked (cycleOf request) d ≡ refusal number
-unfolding checkedBy
-request-refused request number d e = rw e
+pub request_refused : (request : List ℕ) (number : ℕ) (d : Decoded) → cycle_of request ≡ no_cycle number
+    → checked (cycle_of request) d ≡ refusal number
+unfolding checked_by
+request_refused request number d e = rw e
 
-module _ (bytes : List ℕ) (z : Sizes) (read : z ≡ sizesOf (decode bytes)) where
-  pub table-formed : z.refusal ≡ 0 → Formed bytes z
-  unfolding sizesOf
-  table-formed ok = go (decode bytes) refl read
+module _ (bytes : List ℕ) (z : Sizes) (read : z ≡ sizes_of (decode bytes)) where
+  pub table_formed : z.refusal ≡ 0 → Formed bytes z
+  unfolding sizes_of
+  table_formed ok = go (decode bytes) refl read
     where
-      go : (d : Decoded) → decode bytes ≡ d → z ≡ sizesOf d → Formed bytes z
-      go (table t) is e = record { t = t; is = is; f-is = ap (λ r. r.f) e; h-is = ap (λ r. r.h) e; height-is = ap (λ r. r.height) e }
+      go : (d : Decoded) → decode bytes ≡ d → z ≡ sizes_of d → Formed bytes z
+      go (table t) is e = record { t = t; is = is; f_is = ap (λ r. r.f) e; h_is = ap (λ r. r.h) e; height_is = ap (λ r. r.height) e }
       go malformed is e = absurd (let twelve : z.refusal ≡ 12 = ap (λ r. r.refusal) e in omega arith)
 
-  pub table-malformed : (z.refusal ≡ 0 → ⊥) → decode bytes ≡ malformed
-  unfolding sizesOf
-  table-malformed ne = go (decode bytes) read
+  pub table_malformed : (z.refusal ≡ 0 → ⊥) → decode bytes ≡ malformed
+  unfolding sizes_of
+  table_malformed ne = go (decode bytes) read
     where
-      go : (d : Decoded) → z ≡ sizesOf d → d ≡ malformed
+      go : (d : Decoded) → z ≡ sizes_of d → d ≡ malformed
       go (table t) e = absurd (ne (ap (λ r. r.refusal) e))
       go malformed e = refl
 
 -- the bytes are no table
-pub table-unread : (bytes : List ℕ) (c : Cycle) → decode bytes ≡ malformed → checked (cycleIn c) (decode bytes) ≡ refusal 12
-unfolding checkedBy
-table-unread bytes c e = rw e
+pub table_unread : (bytes : List ℕ) (c : Cycle) → decode bytes ≡ malformed → checked (cycle_in c) (decode bytes) ≡ refusal 12
+unfolding checked_by
+table_unread bytes c e = rw e
 
 -- or they are one
 module _ (bytes : List ℕ) (c : Cycle) (z : Sizes) (o : Formed bytes z) where
-  pub height-few : z.height ≤ 256
-  height-few = omega (arith, o.height-is, (decode-wellformed bytes o.t o.is).few-rows)
+  pub height_few : z.height ≤ 256
+  height_few = omega (arith, o.height_is, (decode_wellformed bytes o.t o.is).few_rows)
 
-  judged-is : checked (cycleIn c) (decode bytes) ≡ judged (instanceOf c) o.t
-  unfolding checkedBy
-  judged-is = rw o.is
+  judged_is : checked (cycle_in c) (decode bytes) ≡ judged (instance_of c) o.t
+  unfolding checked_by
+  judged_is = rw o.is
 
-  pub other-cycle : (z.h ≡ c.h → ⊥) → checked (cycleIn c) (decode bytes) ≡ refusal 13
-  unfolding judgedBy
-  other-cycle ne = judged-is ∙ rw (ne_eqb o.t.h c.h (λ q. ne (o.h-is ∙ q)))
+  pub other_cycle : (z.h ≡ c.h → ⊥) → checked (cycle_in c) (decode bytes) ≡ refusal 13
+  unfolding judged_by
+  other_cycle ne = judged_is ∙ rw (ne_eqb o.t.h c.h (λ q. ne (o.h_is ∙ q)))
 
   module _ (same : z.h ≡ c.h) where
-    same-h : eqb o.t.h (instanceOf c).h ≡ true
-    same-h = eq-eqb o.t.h c.h (sym o.h-is ∙ same)
+    same_h : eqb o.t.h (instance_of c).h ≡ true
+    same_h = eq-eqb o.t.h c.h (sym o.h_is ∙ same)
 
-    pub not-plausible : plausible (instanceOf c) z.f ≡ false → checked (cycleIn c) (decode bytes) ≡ refusal 13
-    unfolding judgedBy
-    not-plausible e = judged-is ∙ rw (same-h, rw o.f-is at e)
+    pub not_plausible : plausible (instance_of c) z.f ≡ false → checked (cycle_in c) (decode bytes) ≡ refusal 13
+    unfolding judged_by
+    not_plausible e = judged_is ∙ rw (same_h, rw o.f_is at e)
 
-    pub rows-judged : Bytes bytes → plausible (instanceOf c) z.f ≡ true
-        → checked (cycleIn c) (decode bytes) ≡ plan_of (instanceOf c) z.f (rows_of bytes z.height)
-    unfolding judgedBy
-    rows-judged k e = judged-is ∙ rw (same-h, rw o.f-is at e, o.f-is, o.height-is, rows-in-bytes bytes o.t k o.is)
+    pub rows_judged : Bytes bytes → plausible (instance_of c) z.f ≡ true
+        → checked (cycle_in c) (decode bytes) ≡ plan_of (instance_of c) z.f (rows_of bytes z.height)
+    unfolding judged_by
+    rows_judged k e = judged_is ∙ rw (same_h, rw o.f_is at e, o.f_is, o.height_is, rows_in_bytes bytes o.t k o.is)
 
-pub found_number : (v : Verdict) → (foundAnswer v).refusal ≡ verdictNumber v
+pub found_number : (v : Verdict) → (found_answer v).refusal ≡ verdict_number v
 found_number (accepted f frames) = refl
 found_number (refusal number) = refl
 
 module _ (c : Cycle) where
   -- what was found, with the cycle beside it
-  pub found-beside : (v : Verdict) → besideIt c (foundAnswer v) ≡ readAnswer c v
-  found-beside (accepted f frames) = refl
-  found-beside (refusal number) = refl
+  pub found_beside : (v : Verdict) → beside_it c (found_answer v) ≡ read_answer c v
+  found_beside (accepted f frames) = refl
+  found_beside (refusal number) = refl
 
-  pub answer-number : (v : Verdict) → (readAnswer c v).refusal ≡ verdictNumber v
-  answer-number (accepted f frames) = refl
-  answer-number (refusal number) = refl
+  pub answer_number : (v : Verdict) → (read_answer c v).refusal ≡ verdict_number v
+  answer_number (accepted f frames) = refl
+  answer_number (refusal number) = refl
 
-  pub answer-cycle : (v : Verdict) → (readAnswer c v).cycle ≡ c
-  answer-cycle (accepted f frames) = refl
-  answer-cycle (refusal number) = refl
+  pub answer_cycle : (v : Verdict) → (read_answer c v).cycle ≡ c
+  answer_cycle (accepted f frames) = refl
+  answer_cycle (refusal number) = refl

@@ -2,13 +2,13 @@
 mod walk;
 
 ghost use Rattle.std.specs.Prelude.{◌≡◌, ◌≤◌};
-ghost use Rattle.cycle.specs.Cycle.{cycleOf};
-ghost use Rattle.cycle.specs.Answers.{cycleAnswered};
+ghost use Rattle.cycle.specs.Cycle.{cycle_of};
+ghost use Rattle.cycle.specs.Answers.{cycle_answered};
 ghost use Rattle.table.specs.Table.{decode};
-ghost use Rattle.model.specs.Answers.{instanceOf};
+ghost use Rattle.model.specs.Answers.{instance_of};
 ghost use Rattle.model.specs.Within.{InLimits};
-ghost use Rattle.checker.specs.Checked.{plan_of, checked, checkNumber, refusal};
-ghost use Rattle.checker.specs.Answers.{readAnswer, foundAnswer, besideIt, cycleIn, rows_of};
+ghost use Rattle.checker.specs.Checked.{plan_of, checked, check_number, refusal};
+ghost use Rattle.checker.specs.Answers.{read_answer, found_answer, beside_it, cycle_in, rows_of};
 
 use cycle::Cycle;
 
@@ -32,7 +32,7 @@ struct Found {
 }
 
 fn refused(number: u8) -> Found
-    ensures { result ≡ foundAnswer (refusal number) }
+    ensures { result ≡ found_answer (refusal number) }
 {
     Found {
         refusal: number,
@@ -44,7 +44,7 @@ fn refused(number: u8) -> Found
 // The plan that the table's rows describe, or 14.
 fn read_rows(cycle: Cycle, table: &[u8], height: u16, f: u16) -> Found
     requires { (cycle.count ≤ 128) × (height ≤ 256) }
-    ensures { result ≡ foundAnswer (plan_of (instanceOf cycle) f (rows_of table.now height)) }
+    ensures { result ≡ found_answer (plan_of (instance_of cycle) f (rows_of table.now height)) }
 {
     let jobs = cycle.jobs;
     let count = cycle.count;
@@ -70,7 +70,7 @@ fn read_rows(cycle: Cycle, table: &[u8], height: u16, f: u16) -> Found
 // The plan of the cycle that the table describes; or the number, from 12 to 14, that the table is refused with.
 fn judge(cycle: Cycle, table: &[u8]) -> Found
     requires { InLimits cycle }
-    ensures { result ≡ foundAnswer (checked (cycleIn cycle) (decode table.now)) }
+    ensures { result ≡ found_answer (checked (cycle_in cycle) (decode table.now)) }
 {
     let sizes = table::read::sizes(table);
     if sizes.refusal != 0 {
@@ -87,7 +87,7 @@ fn judge(cycle: Cycle, table: &[u8]) -> Found
 
 // What was found, with the cycle beside it.
 fn beside(cycle: Cycle, found: Found) -> Read
-    ensures { result ≡ besideIt cycle found }
+    ensures { result ≡ beside_it cycle found }
 {
     let frames = found.frames;
     Read {
@@ -100,7 +100,7 @@ fn beside(cycle: Cycle, found: Found) -> Read
 
 // The request's cycle, and the plan that the table describes; or the number, from 1 to 8, 17 or from 12 to 14, that request or table is refused with.
 pub fn read_plan(request: &[u8], table: &[u8]) -> Read
-    ensures { result ≡ readAnswer (cycleAnswered (cycleOf request.now)) (checked (cycleOf request.now) (decode table.now)) }
+    ensures { result ≡ read_answer (cycle_answered (cycle_of request.now)) (checked (cycle_of request.now) (decode table.now)) }
 {
     let cycle = cycle::read(request);
     if cycle.refusal != 0 {
@@ -111,7 +111,7 @@ pub fn read_plan(request: &[u8], table: &[u8]) -> Read
 
 // 0 where the table describes a plan of the request; or the number.
 pub fn check(request: &[u8], table: &[u8]) -> u8
-    ensures { result ≡ checkNumber request.now table.now }
+    ensures { result ≡ check_number request.now table.now }
 {
     let cycle = cycle::read(request);
     if cycle.refusal != 0 {

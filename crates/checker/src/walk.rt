@@ -1,10 +1,10 @@
 // The walk over a table's rows and entries: the entry that names a job, and whether each entry is a job's.
 ghost use Rattle.std.specs.Prelude.{◌≡◌, [], false, ◌≤◌, ◌<◌, get_or};
 ghost use Rattle.cursor.specs.Padded.{firsts};
-ghost use Rattle.cycle.specs.Planned.{noJob};
+ghost use Rattle.cycle.specs.Planned.{no_job};
 ghost use Rattle.plan_rules.specs.Every.{every, some};
-ghost use Rattle.checker.specs.Checked.{positionIn, frame_for, framesIn, is_placed, isThere, rowKept, rowsKept};
-ghost use Rattle.checker.specs.Answers.{framesAnswer, entriesIn, rows_of, names_of, named};
+ghost use Rattle.checker.specs.Checked.{position_in, frame_for, frames_in, is_placed, is_there, row_kept, rows_kept};
+ghost use Rattle.checker.specs.Answers.{frames_answer, entries_in, rows_of, names_of, named};
 
 use cycle::Job;
 
@@ -38,7 +38,7 @@ fn frame(height: u16, row: u16, carried: bool) -> u16
 
 // Walks the rows, and in each row its entries, and stops at the first entry naming the job.
 fn find(table: &[u8], height: u16, job: Job) -> Position
-    ensures { result ≡ positionIn job 0 (rows_of table.now height) }
+    ensures { result ≡ position_in job 0 (rows_of table.now height) }
 {
     let mut place = Position::Nowhere;
     let mut at: usize = 7;
@@ -63,7 +63,7 @@ fn find(table: &[u8], height: u16, job: Job) -> Position
 }
 
 fn no_frames() -> Frames
-    ensures { result ≡ framesAnswer false [] }
+    ensures { result ≡ frames_answer false [] }
 {
     Frames {
         all: false,
@@ -74,8 +74,8 @@ fn no_frames() -> Frames
 // The frame of each job, from its entry.
 pub(super) fn read_frames(table: &[u8], height: u16, jobs: [Job; 128], count: usize) -> Frames
     requires { (height ≤ 256) × (count ≤ 128) }
-    ensures { result ≡ framesAnswer (every count (is_placed (rows_of table.now height) (firsts count noJob jobs)))
-        (framesIn (rows_of table.now height) (firsts count noJob jobs)) }
+    ensures { result ≡ frames_answer (every count (is_placed (rows_of table.now height) (firsts count no_job jobs)))
+        (frames_in (rows_of table.now height) (firsts count no_job jobs)) }
 {
     let mut frames = [0u16; 128];
     let mut y: usize = 0;
@@ -93,7 +93,7 @@ pub(super) fn read_frames(table: &[u8], height: u16, jobs: [Job; 128], count: us
 // The names of the jobs: the task of each, and its number.
 pub(super) fn names(jobs: [Job; 128], count: usize) -> [[u8; 128]; 2]
     requires { count ≤ 128 }
-    ensures { result ≡ names_of (firsts count noJob jobs) }
+    ensures { result ≡ names_of (firsts count no_job jobs) }
 {
     let mut tasks = [0u8; 128];
     let mut numbers = [0u8; 128];
@@ -117,7 +117,7 @@ fn is_there(
     k: u16,
 ) -> bool
     requires { count ≤ 128 }
-    ensures { result ≡ some count (isThere (named names.now count) (firsts count 0 frames.now) task number k) }
+    ensures { result ≡ some count (is_there (named names.now count) (firsts count 0 frames.now) task number k) }
 {
     let mut y: usize = 0;
     while y < count {
@@ -145,7 +145,7 @@ fn row_kept(
     count: usize,
 ) -> bool
     requires { (first ≤ 200000) × (row < height) × (height ≤ 256) × (count ≤ 128) }
-    ensures { result ≡ rowKept (named names.now count) (firsts count 0 frames.now) count height row (entriesIn table.now n first) }
+    ensures { result ≡ row_kept (named names.now count) (firsts count 0 frames.now) count height row (entries_in table.now n first) }
 {
     let mut at = first;
     let mut e: u8 = 0;
@@ -172,7 +172,7 @@ pub(super) fn rows_kept(
     count: usize,
 ) -> bool
     requires { (height ≤ 256) × (count ≤ 128) }
-    ensures { result ≡ rowsKept (named names.now count) (firsts count 0 frames.now) count height 0 (rows_of table.now height) }
+    ensures { result ≡ rows_kept (named names.now count) (firsts count 0 frames.now) count height 0 (rows_of table.now height) }
 {
     let mut at: usize = 7;
     let mut row: u16 = 0;

@@ -6,31 +6,31 @@ use native.Mathlib.Omega.{arith}
 use Rattle.std.proofs.Math.ListN.{length, replicate, length-append, replicate-append-replicate}
 use Rattle.std.proofs.lemmas.List.{set-append_left}
 use Rattle.cursor.specs.Padded.{padded}
-use Rattle.cursor.specs.PaddedLaws.{padded-length}
+use Rattle.cursor.specs.PaddedLaws.{padded_length}
 
-blanks-left : {A : Type 0} (blank : A) (k n : ℕ) → drop n (replicate k blank) ≡ replicate (k - n) blank
-blanks-left blank k zero = let all : k - 0 ≡ k = omega arith in rw all
-blanks-left blank zero (suc n) = let none : 0 - suc n ≡ 0 = omega arith in rw none
-blanks-left blank (suc k) (suc n) = let fewer : suc k - suc n ≡ k - n = omega arith in rw fewer (blanks-left blank k n)
+blanks_left : {A : Type 0} (blank : A) (k n : ℕ) → drop n (replicate k blank) ≡ replicate (k - n) blank
+blanks_left blank k zero = let all : k - 0 ≡ k = omega arith in rw all
+blanks_left blank zero (suc n) = let none : 0 - suc n ≡ 0 = omega arith in rw none
+blanks_left blank (suc k) (suc n) = let fewer : suc k - suc n ≡ k - n = omega arith in rw fewer (blanks_left blank k n)
 
 module _ {A : Type 0} (size : ℕ) (blank : A) where
-  pub set-inside : (xs : List A) (i : ℕ) (x : A) → i < length xs → set (padded size blank xs) i x ≡ padded size blank (set xs i x)
+  pub set_inside : (xs : List A) (i : ℕ) (x : A) → i < length xs → set (padded size blank xs) i x ≡ padded size blank (set xs i x)
   unfolding padded
-  set-inside xs i x h = rw (length-set xs i x) (set-append_left xs (replicate (size - length xs) blank) i x h)
+  set_inside xs i x h = rw (length-set xs i x) (set-append_left xs (replicate (size - length xs) blank) i x h)
 
   -- an array that is blank from place n on holds its first n elements
-  pub blank-behind : (xs : List A) (n : ℕ) → n ≤ length xs → drop n xs ≡ drop n (replicate size blank) → padded size blank (take n xs) ≡ xs
+  pub blank_behind : (xs : List A) (n : ℕ) → n ≤ length xs → drop n xs ≡ drop n (replicate size blank) → padded size blank (take n xs) ≡ xs
   unfolding padded
-  blank-behind xs n h e = rw (length-take-le n xs h, ← blanks-left blank size n, ← e) (take-append-drop n xs)
+  blank_behind xs n h e = rw (length-take-le n xs h, ← blanks_left blank size n, ← e) (take-append-drop n xs)
 
   -- a blank behind the elements of a part is one behind those of the whole
-  pub padded-part : (k : ℕ) (xs ys : List A) → length ys ≤ k → length xs + k ≤ size
+  pub padded_part : (k : ℕ) (xs ys : List A) → length ys ≤ k → length xs + k ≤ size
       → padded size blank (xs ++ ys) ≡ padded size blank (xs ++ padded k blank ys)
   unfolding padded
-  padded-part k xs ys few room =
+  padded_part k xs ys few room =
       let part = replicate (k - length ys) blank in
       let rest = replicate (size - (length xs + k)) blank in
-      let long : length (xs ++ (ys ++ part)) ≡ length xs + k = omega (arith, length-append xs (ys ++ part), padded-length k blank ys few) in
+      let long : length (xs ++ (ys ++ part)) ≡ length xs + k = omega (arith, length-append xs (ys ++ part), padded_length k blank ys few) in
       let split : size - (length xs + length ys) ≡ (k - length ys) + (size - (length xs + k)) = omega arith in
       rw (long, length-append xs ys, split, ← replicate-append-replicate (k - length ys) (size - (length xs + k)) blank)
       (append_assoc xs ys (part ++ rest) ∙ ap (λ l. xs ++ l) (sym (append_assoc ys part rest)) ∙ sym (append_assoc xs (ys ++ part) rest))

@@ -25,17 +25,17 @@ word_bytes w = (w % 256) ∷ (w / 256) ∷ []
 
 -- The cursor's answers at a place, for each case of a reading: the value with the cursor behind the field; or, where the bytes have ended, that there is none.
 -- Its number is the one that the reading was given for this case: 1 in a request, 12 in a table.
-abbrev pub byteRead : ℕ → Parsed ℕ → ByteRead
-byteRead at (got b rest) = Byte b (record { at = at + 1 })
-byteRead at (refused number) = NoByte
+abbrev pub byte_read : ℕ → Parsed ℕ → ByteRead
+byte_read at (got b rest) = Byte b (record { at = at + 1 })
+byte_read at (refused number) = NoByte
 
-abbrev pub wordRead : ℕ → Parsed ℕ → WordRead
-wordRead at (got w rest) = Word w (record { at = at + 1 + 1 })
-wordRead at (refused number) = NoWord
+abbrev pub word_read : ℕ → Parsed ℕ → WordRead
+word_read at (got w rest) = Word w (record { at = at + 1 + 1 })
+word_read at (refused number) = NoWord
 
 -- the answer at a place of a byte string; it is the same for every number (FieldLaws)
 unfoldable pub byte_at : List ℕ → ℕ → ByteRead
-byte_at s at = byteRead at (byte_of 1 (drop at s))
+byte_at s at = byte_read at (byte_of 1 (drop at s))
 
 unfoldable pub word_at : List ℕ → ℕ → WordRead
-word_at s at = wordRead at (word_of 1 (drop at s))
+word_at s at = word_read at (word_of 1 (drop at s))

@@ -13,15 +13,15 @@ pub record TwoSteps {A B : Type 0} (r : Parsed A) (next : A → List ℕ → Par
   pub first : r ≡ got value tail
   pub second : next value tail ≡ got y rest
 
-pub then-got : {A B : Type 0} (r : Parsed A) (next : A → List ℕ → Parsed B) (y : B) (rest : List ℕ) → then r next ≡ got y rest → TwoSteps r next y rest
-then-got (got x tail) next y rest e = record { value = x; tail = tail; first = refl; second = e }
-then-got (refused number) next y rest e = absurd (never (cc))
+pub then_got : {A B : Type 0} (r : Parsed A) (next : A → List ℕ → Parsed B) (y : B) (rest : List ℕ) → then r next ≡ got y rest → TwoSteps r next y rest
+then_got (got x tail) next y rest e = record { value = x; tail = tail; first = refl; second = e }
+then_got (refused number) next y rest e = absurd (never (cc))
 
 -- a rule that was judged held
-pub rule-got : {A : Type 0} (test : Bool) (r : Parsed A) (number : ℕ) (y : A) (rest : List ℕ) → cond test r (refused number) ≡ got y rest
+pub rule_got : {A : Type 0} (test : Bool) (r : Parsed A) (number : ℕ) (y : A) (rest : List ℕ) → cond test r (refused number) ≡ got y rest
     → (test ≡ true) × (r ≡ got y rest)
-rule-got true r number y rest e = (refl, e)
-rule-got false r number y rest e = absurd (never (cc))
+rule_got true r number y rest e = (refl, e)
+rule_got false r number y rest e = absurd (never (cc))
 
 -- what holds of a value and the bytes behind it holds of what equals them
 pub got_same : {A : Type 0} (P : A → List ℕ → Type 0) {x y : A} {tail rest : List ℕ} → got x tail ≡ got y rest → P x tail → P y rest

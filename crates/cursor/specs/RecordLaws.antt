@@ -11,9 +11,9 @@ use native.Mathlib.Omega.{arith}
 use Rattle.std.proofs.Math.ListN.{length, get_or, length-append, get_or-append}
 use Rattle.std.proofs.Math.Seq.{get_or-append_seam}
 use Rattle.cursor.specs.Parsed.{Parsed, got, refused, records}
-use Rattle.cursor.specs.ParsedLaws.{then-got}
+use Rattle.cursor.specs.ParsedLaws.{then_got}
 use Rattle.cursor.specs.Padded.{padded}
-use Rattle.cursor.specs.PaddedLaws.{padded-none, set-padded}
+use Rattle.cursor.specs.PaddedLaws.{padded_none, set_padded}
 
 pub record SoFar {A : Type 0} (one : List ℕ → Parsed A) (size : ℕ) (blank : A) (whole : Parsed (List A)) (s : List ℕ) (n i at : ℕ) (xs : List A) : Type 0 where
   pub done : List A
@@ -24,34 +24,34 @@ pub record SoFar {A : Type 0} (one : List ℕ → Parsed A) (size : ℕ) (blank 
 module _ {A : Type 0} {one : List ℕ → Parsed A} {size : ℕ} {blank : A} {whole : Parsed (List A)} {s : List ℕ} {n : ℕ} where
   -- nothing is read
   pub none_read : {at : ℕ} → records one n [] (drop at s) ≡ whole → SoFar one size blank whole s n 0 at (replicate size blank)
-  none_read e = record { done = []; count = refl; stored = sym (padded-none size blank); rest = rw sub-zero e }
+  none_read e = record { done = []; count = refl; stored = sym (padded_none size blank); rest = rw sub-zero e }
 
   module _ {i at : ℕ} {xs : List A} (so_far : SoFar one size blank whole s n i at xs) where
     -- one record more
-    pub one-read : i < n → i < size → (x : A) (next : ℕ) → one (drop at s) ≡ got x (drop next s)
+    pub one_read : i < n → i < size → (x : A) (next : ℕ) → one (drop at s) ≡ got x (drop next s)
         → SoFar one size blank whole s n (i + 1) next (set xs i x)
     unfolding records
-    one-read more room x next e =
+    one_read more room x next e =
         let left : n - i ≡ suc (n - (i + 1)) = omega arith in
         let d = so_far.done in
         record {
           done = d ++ (x ∷ []);
           count = omega (arith, length-append d (x ∷ []), so_far.count);
-          stored = rw (so_far.stored, ← so_far.count) (set-padded size blank d x (omega (arith, so_far.count)));
+          stored = rw (so_far.stored, ← so_far.count) (set_padded size blank d x (omega (arith, so_far.count)));
           rest = rw (left, e) at so_far.rest;
         }
 
     -- a record that is refused ends the reading with its number
-    pub one-refused : i < n → {number : ℕ} → one (drop at s) ≡ refused number → whole ≡ refused number
+    pub one_refused : i < n → {number : ℕ} → one (drop at s) ≡ refused number → whole ≡ refused number
     unfolding records
-    one-refused more e =
+    one_refused more e =
         let left : n - i ≡ suc (n - (i + 1)) = omega arith in
         sym (rw (left, e) at so_far.rest)
 
     -- all are read
-    pub all-records : n ≤ i → whole ≡ got so_far.done (drop at s)
+    pub all_records : n ≤ i → whole ≡ got so_far.done (drop at s)
     unfolding records
-    all-records end =
+    all_records end =
         let left : n - i ≡ 0 = omega arith in
         sym (rw left at so_far.rest)
 
@@ -63,7 +63,7 @@ module _ {A : Type 0} (one : List ℕ → Parsed A) (blank : A) (P : A → Type 
   unfolding records
   each_from zero done bytes xs rest before e = let same : done ≡ xs = cc in rw same at before
   each_from (suc k) done bytes xs rest before e =
-      let s = then-got (one bytes) (λ x tail. records one k (done ++ (x ∷ [])) tail) xs rest e in
+      let s = then_got (one bytes) (λ x tail. records one k (done ++ (x ∷ [])) tail) xs rest e in
       each_from k (done ++ (s.value ∷ [])) s.tail xs rest (snoc s.value (judged bytes s.value s.tail s.first)) s.second
     where
       snoc : (x : A) → P x → (i : ℕ) → i < length (done ++ (x ∷ [])) → P (get_or (done ++ (x ∷ [])) i blank)
@@ -74,6 +74,6 @@ module _ {A : Type 0} (one : List ℕ → Parsed A) (blank : A) (P : A → Type 
           (λ l. rw (get_or-append done (x ∷ []) blank i l) (before i l))
           (eq-or-lt_of_le at_most)
 
-  pub records-each : (k : ℕ) (bytes : List ℕ) (xs : List A) (rest : List ℕ)
+  pub records_each : (k : ℕ) (bytes : List ℕ) (xs : List A) (rest : List ℕ)
       → records one k [] bytes ≡ got xs rest → (i : ℕ) → i < length xs → P (get_or xs i blank)
-  records-each k bytes xs rest = each_from k [] bytes xs rest (λ i h. absurd (omega arith))
+  records_each k bytes xs rest = each_from k [] bytes xs rest (λ i h. absurd (omega arith))

@@ -6,7 +6,7 @@ use Rattle.std.proofs.Math.ListN.{length, drop}
 use Rattle.std.proofs.Math.Seq.{take-append_seam, drop-append_seam}
 use Rattle.std.proofs.Common.{lt-ltb, le-ltb}
 use Rattle.cursor.specs.Pieces.{Placed}
-use Rattle.cursor.specs.Written.{tooShort, written, buffer}
+use Rattle.cursor.specs.Written.{too_short, written, buffer}
 use Rattle.cursor.specs.declared.Written.{Written}
 
 module _ (bytes out : List ℕ) where
@@ -18,14 +18,14 @@ module _ (bytes out : List ℕ) where
   not_written h = (rw (lt-ltb _ _ h), rw (lt-ltb _ _ h))
 
   module _ (fits : length bytes ≤ length out) where
-    pub all-written : (out' : List ℕ) (end : ℕ) → Placed bytes out out' end → AnswersAs 0 end out'
+    pub all_written : (out' : List ℕ) (end : ℕ) → Placed bytes out out' end → AnswersAs 0 end out'
     unfolding written buffer
-    all-written out' end b = (rw (le-ltb _ _ fits, b.ends), rw (le-ltb _ _ fits) b.whole)
+    all_written out' end b = (rw (le-ltb _ _ fits, b.ends), rw (le-ltb _ _ fits) b.whole)
 
   -- no more is answered than the file's length
-  pub written-most : (written bytes out).length ≤ length bytes
+  pub written_most : (written bytes out).length ≤ length bytes
   unfolding written
-  written-most = go (tooShort bytes out)
+  written_most = go (too_short bytes out)
     where
       go : (short : Bool) → (cond {A = Written} short (record { refusal = 11; length = 0 }) (record { refusal = 0; length = length bytes })).length ≤ length bytes
       go true = omega arith
@@ -36,9 +36,9 @@ module _ (bytes out : List ℕ) where
     pub file : take (written bytes out).length (buffer bytes out) ≡ bytes
     pub behind : drop (written bytes out).length (buffer bytes out) ≡ drop (written bytes out).length out
 
-  pub file-there : (written bytes out).refusal ≡ 0 → FileThere
+  pub file_there : (written bytes out).refusal ≡ 0 → FileThere
   unfolding written buffer
-  file-there z = let h = go (tooShort bytes out) z in record { file = h.0; behind = h.1 }
+  file_there z = let h = go (too_short bytes out) z in record { file = h.0; behind = h.1 }
     where
       go : (short : Bool)
           → let answer = cond {A = Written} short (record { refusal = 11; length = 0 }) (record { refusal = 0; length = length bytes }) in

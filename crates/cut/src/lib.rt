@@ -1,10 +1,10 @@
 // Cutting a long transfer: a task is replaced by two pieces of it, one behind the other, which run in order.
 ghost use Rattle.std.specs.Prelude.{◌≡◌, ◌+◌, ◌≤◌, ◌<◌, get_or};
 ghost use Rattle.cursor.specs.Padded.{padded, firsts};
-ghost use Rattle.request.specs.Request.{noTask, noPair, reading};
-ghost use Rattle.request.specs.Written.{requestAnswer, requestBuffer};
+ghost use Rattle.request.specs.Request.{no_task, no_pair, reading};
+ghost use Rattle.request.specs.Written.{request_answer, request_buffer};
 ghost use Rattle.request.specs.Places.{Few};
-ghost use Rattle.cut.specs.Cut.{piece, cutTasks, asFirst, asSecond, cutPairs, cuttable, cut};
+ghost use Rattle.cut.specs.Cut.{piece, cut_tasks, as_first, as_second, cut_pairs, cuttable, cut};
 
 use cursor::Written;
 use request::{Pair, Task};
@@ -12,7 +12,7 @@ use request::{Pair, Task};
 // A cut leaves both pieces at least one tick.
 fn can_cut(tasks: [Task; 16], n: usize, i: usize, u: u16) -> bool
     requires { n ≤ 16 }
-    ensures { result ≡ cuttable (firsts n noTask tasks) i u }
+    ensures { result ≡ cuttable (firsts n no_task tasks) i u }
 {
     if n <= i {
         return false;
@@ -37,8 +37,8 @@ fn piece_of(x: Task, c: u16) -> Task
 
 // Task k of the cut request: the pieces are tasks i and i + 1.
 fn task_at(tasks: [Task; 16], n: usize, i: usize, u: u16, k: usize) -> Task
-    requires { (n < 16) × (i < n) × (k ≤ n) × (u < (get_or tasks i noTask).c) }
-    ensures { result ≡ get_or (cutTasks (firsts n noTask tasks) i u) k noTask }
+    requires { (n < 16) × (i < n) × (k ≤ n) × (u < (get_or tasks i no_task).c) }
+    ensures { result ≡ get_or (cut_tasks (firsts n no_task tasks) i u) k no_task }
 {
     if k < i {
         return tasks[k];
@@ -55,8 +55,8 @@ fn task_at(tasks: [Task; 16], n: usize, i: usize, u: u16, k: usize) -> Task
 
 // The tasks of the cut request, of which there is one more.
 fn cut_tasks(tasks: [Task; 16], n: usize, i: usize, u: u16) -> [Task; 16]
-    requires { (n < 16) × (i < n) × (u < (get_or tasks i noTask).c) }
-    ensures { result ≡ padded 16 noTask (cutTasks (firsts n noTask tasks) i u) }
+    requires { (n < 16) × (i < n) × (u < (get_or tasks i no_task).c) }
+    ensures { result ≡ padded 16 no_task (cut_tasks (firsts n no_task tasks) i u) }
 {
     let mut pieces = [Task {
         c: 0,
@@ -75,7 +75,7 @@ fn cut_tasks(tasks: [Task; 16], n: usize, i: usize, u: u16) -> [Task; 16]
 // The number of task a in a pair that it comes first in.
 fn as_first(i: u8, a: u8) -> u8
     requires { a < 16 }
-    ensures { result ≡ asFirst i a }
+    ensures { result ≡ as_first i a }
 {
     if a < i { a } else { a + 1 }
 }
@@ -83,7 +83,7 @@ fn as_first(i: u8, a: u8) -> u8
 // The number of task b in a pair that it comes second in.
 fn as_second(i: u8, b: u8) -> u8
     requires { b < 16 }
-    ensures { result ≡ asSecond i b }
+    ensures { result ≡ as_second i b }
 {
     if b <= i { b } else { b + 1 }
 }
@@ -91,7 +91,7 @@ fn as_second(i: u8, b: u8) -> u8
 // The pairs of the cut request: the pieces' own pair, and then the old ones.
 fn cut_pairs(pairs: [Pair; 16], m: usize, i: u8) -> [Pair; 16]
     requires { (m < 16) × (i < 16) × Few pairs }
-    ensures { result ≡ padded 16 noPair (cutPairs i (firsts m noPair pairs)) }
+    ensures { result ≡ padded 16 no_pair (cut_pairs i (firsts m no_pair pairs)) }
 {
     let mut links = [Pair { a: 0, b: 0 }; 16];
     links[0] = Pair { a: i, b: i + 1 };
@@ -115,8 +115,8 @@ fn refused(refusal: u8) -> Written
 
 // The request with task `task` cut behind its first `first` ticks, written into `out`; the answer holds its length. A refusal leaves `out` as it was.
 pub fn cut(request: &[u8], task: u8, first: u16, out: &mut [u8]) -> Written
-    ensures { (result ≡ requestAnswer (cut task first (reading request.now)) out.old)
-        × (out.new ≡ requestBuffer (cut task first (reading request.now)) out.old) }
+    ensures { (result ≡ request_answer (cut task first (reading request.now)) out.old)
+        × (out.new ≡ request_buffer (cut task first (reading request.now)) out.old) }
 {
     let x = request::read(request);
     if x.refusal != 0 {

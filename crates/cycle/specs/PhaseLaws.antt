@@ -3,9 +3,9 @@ use Rattle.std.specs.Prelude.{ℕ, ◌<◌, ◌≡◌, refl, Bool, true, false, 
 use Rattle.std.proofs.Common.{sym, ap, subst, ◌∙◌, inl, inr, ⊎_elim, arith, length-set, get_or-set_same, get_or-set_other, eqb-true}
 use Rattle.std.proofs.lemmas.Bool.{eqb-false}
 use Rattle.cursor.specs.Padded.{padded}
-use Rattle.cursor.specs.PaddedLaws.{getD-padded}
-use Rattle.cursor.specs.ArrayLaws.{set-inside}
-use Rattle.request.specs.Request.{Reading, readable, unreadable, noTask, periodOf}
+use Rattle.cursor.specs.PaddedLaws.{get_or_padded}
+use Rattle.cursor.specs.ArrayLaws.{set_inside}
+use Rattle.request.specs.Request.{Reading, readable, unreadable, no_task, period_of}
 use Rattle.request.specs.Answers as request
 use Rattle.request.specs.Readable.{Readable, TaskKept, KeptReading}
 use Rattle.request.specs.declared.Task.{Task}
@@ -14,69 +14,69 @@ use Rattle.request.specs.declared.Request.{Request}
 use Rattle.cycle.specs.Answers.{AsRead}
 
 -- task x with phase p
-abbrev pub taskWith : Task → ℕ → Task
-taskWith x p = record { c = x.c; t = x.t; d = x.d; p = p }
+abbrev pub task_with : Task → ℕ → Task
+task_with x p = record { c = x.c; t = x.t; d = x.d; p = p }
 
 -- phase p for task i
-abbrev pub tasksWith : List Task → ℕ → ℕ → List Task
-tasksWith tasks i p = set tasks i (taskWith (get_or tasks i noTask) p)
+abbrev pub tasks_with : List Task → ℕ → ℕ → List Task
+tasks_with tasks i p = set tasks i (task_with (get_or tasks i no_task) p)
 
-abbrev pub requestWith : Request → ℕ → ℕ → Request
-requestWith r i p = record { refusal = r.refusal; n = r.n; tasks = tasksWith r.tasks i p; m = r.m; pairs = r.pairs; g = r.g }
+abbrev pub request_with : Request → ℕ → ℕ → Request
+request_with r i p = record { refusal = r.refusal; n = r.n; tasks = tasks_with r.tasks i p; m = r.m; pairs = r.pairs; g = r.g }
 
-module _ (tasks : List Task) (i p : ℕ) (known : i < length tasks) (early : p < periodOf tasks i) where
+module _ (tasks : List Task) (i p : ℕ) (known : i < length tasks) (early : p < period_of tasks i) where
   -- task i changed, or another one as it was
   abbrev Changed : ℕ → Type 0
   Changed k =
-      ((k ≡ i) × (get_or (tasksWith tasks i p) k noTask ≡ taskWith (get_or tasks i noTask) p)) ⊎ (get_or (tasksWith tasks i p) k noTask ≡ get_or tasks k noTask)
+      ((k ≡ i) × (get_or (tasks_with tasks i p) k no_task ≡ task_with (get_or tasks i no_task) p)) ⊎ (get_or (tasks_with tasks i p) k no_task ≡ get_or tasks k no_task)
 
-  task-with : (k : ℕ) → Changed k
-  task-with k = go (eqb k i) refl
+  task_with_lem : (k : ℕ) → Changed k
+  task_with_lem k = go (eqb k i) refl
     where
       go : (b : Bool) → eqb k i ≡ b → Changed k
       go true e =
           let same = eqb-true k i e in
-          inl (same, ap (λ (j : ℕ). get_or (tasksWith tasks i p) j noTask) same ∙ get_or-set_same tasks i (taskWith (get_or tasks i noTask) p) noTask known)
-      go false e = inr (get_or-set_other tasks i k (taskWith (get_or tasks i noTask) p) noTask (eqb-false k i e))
+          inl (same, ap (λ (j : ℕ). get_or (tasks_with tasks i p) j no_task) same ∙ get_or-set_same tasks i (task_with (get_or tasks i no_task) p) no_task known)
+      go false e = inr (get_or-set_other tasks i k (task_with (get_or tasks i no_task) p) no_task (eqb-false k i e))
 
   -- no period changes
-  pub periods-with : (k : ℕ) → periodOf (tasksWith tasks i p) k ≡ periodOf tasks k
-  periods-with k =
-      ⊎_elim (λ e. ap (λ (x : Task). x.t) e.1 ∙ ap (periodOf tasks) (sym e.0)) (λ e. ap (λ (x : Task). x.t) e) (task-with k)
+  pub periods_with : (k : ℕ) → period_of (tasks_with tasks i p) k ≡ period_of tasks k
+  periods_with k =
+      ⊎_elim (λ e. ap (λ (x : Task). x.t) e.1 ∙ ap (period_of tasks) (sym e.0)) (λ e. ap (λ (x : Task). x.t) e) (task_with_lem k)
 
   -- the form is kept
-  pub readable-with : (pairs : List Pair) → Readable tasks pairs → Readable (tasksWith tasks i p) pairs
-  readable-with pairs kept = record {
-    some-task = omega (arith, size, kept.some-task);
-    few-tasks = omega (arith, size, kept.few-tasks);
-    few-pairs = kept.few-pairs;
-    task = λ k h. ⊎_elim (λ e. subst TaskKept (sym e.1) changed) (λ e. subst TaskKept (sym e) (kept.task k (omega (arith, size)))) (task-with k);
+  pub readable_with : (pairs : List Pair) → Readable tasks pairs → Readable (tasks_with tasks i p) pairs
+  readable_with pairs kept = record {
+    some_task = omega (arith, size, kept.some_task);
+    few_tasks = omega (arith, size, kept.few_tasks);
+    few_pairs = kept.few_pairs;
+    task = λ k h. ⊎_elim (λ e. subst TaskKept (sym e.1) changed) (λ e. subst TaskKept (sym e) (kept.task k (omega (arith, size)))) (task_with_lem k);
     pair = λ u h.
         let q = kept.pair u h in
-        record { rises = q.rises; known = omega (arith, size, q.known); period = periods-with _ ∙ q.period ∙ sym (periods-with _) };
+        record { rises = q.rises; known = omega (arith, size, q.known); period = periods_with _ ∙ q.period ∙ sym (periods_with _) };
   }
     where
-      size : length (tasksWith tasks i p) ≡ length tasks
-      size = length-set tasks i (taskWith (get_or tasks i noTask) p)
+      size : length (tasks_with tasks i p) ≡ length tasks
+      size = length-set tasks i (task_with (get_or tasks i no_task) p)
 
-      changed : TaskKept (taskWith (get_or tasks i noTask) p)
+      changed : TaskKept (task_with (get_or tasks i no_task) p)
       changed = let x = kept.task i known in record { some = x.some; room = x.room; due = x.due; phase = early }
 
 -- "phases from 0 to T − 1": the request with such a phase is as if it had been read
-pub phase-as-read : {r : Request} → AsRead r → (i p : ℕ) → i < r.n → p < periodOf r.tasks i → AsRead (requestWith r i p)
-phase-as-read {r} a i p known early = go a.read a.is a.kept
+pub phase_as_read : {r : Request} → AsRead r → (i p : ℕ) → i < r.n → p < period_of r.tasks i → AsRead (request_with r i p)
+phase_as_read {r} a i p known early = go a.read a.is a.kept
   where
-    go : (x : Reading) → r ≡ request.requestAnswered x → KeptReading x → AsRead (requestWith r i p)
+    go : (x : Reading) → r ≡ request.request_answered x → KeptReading x → AsRead (request_with r i p)
     go (readable tasks pairs g) is kept =
         let inside : i < length tasks = omega (arith, known, ap (λ (y : Request). y.n) is) in
-        let task : get_or r.tasks i noTask ≡ get_or tasks i noTask = ap (λ (y : Request). get_or y.tasks i noTask) is ∙ getD-padded 16 noTask tasks i inside in
-        let soon : p < periodOf tasks i = omega (arith, early, ap (λ (x : Task). x.t) task) in
-        let size : length (tasksWith tasks i p) ≡ length tasks = length-set tasks i (taskWith (get_or tasks i noTask) p) in
-        let places : tasksWith r.tasks i p ≡ padded 16 noTask (tasksWith tasks i p)
-        = rw (task, ap (λ (y : Request). y.tasks) is) (set-inside 16 noTask tasks i (taskWith (get_or tasks i noTask) p) inside) in
+        let task : get_or r.tasks i no_task ≡ get_or tasks i no_task = ap (λ (y : Request). get_or y.tasks i no_task) is ∙ get_or_padded 16 no_task tasks i inside in
+        let soon : p < period_of tasks i = omega (arith, early, ap (λ (x : Task). x.t) task) in
+        let size : length (tasks_with tasks i p) ≡ length tasks = length-set tasks i (task_with (get_or tasks i no_task) p) in
+        let places : tasks_with r.tasks i p ≡ padded 16 no_task (tasks_with tasks i p)
+        = rw (task, ap (λ (y : Request). y.tasks) is) (set_inside 16 no_task tasks i (task_with (get_or tasks i no_task) p) inside) in
         record {
-          read = readable (tasksWith tasks i p) pairs g;
+          read = readable (tasks_with tasks i p) pairs g;
           is = λ q. record { refusal = (is q).refusal; n = (ap (λ (y : Request). y.n) is ∙ sym size) q; tasks = places q; m = (is q).m; pairs = (is q).pairs; g = (is q).g };
-          kept = readable-with tasks i p inside soon pairs kept;
+          kept = readable_with tasks i p inside soon pairs kept;
         }
     go (unreadable number) is kept = absurd (omega (arith, known, ap (λ (y : Request). y.n) is))

@@ -2,15 +2,15 @@
 // number that says why there is none: what the full search comes to. The plain search goes first, for a few tries; where they do not suffice, the
 // exact search is made, of the same lengths.
 ghost use Rattle.std.specs.Prelude.{◌≡◌, []};
-ghost use Rattle.search.specs.Placing.{planWalk};
-ghost use Rattle.model.specs.Answers.{instanceOf};
+ghost use Rattle.search.specs.Placing.{plan_walk};
+ghost use Rattle.model.specs.Answers.{instance_of};
 ghost use Rattle.model.specs.Within.{InLimits};
-ghost use Rattle.model.specs.Chosen.{problemAt};
+ghost use Rattle.model.specs.Chosen.{problem_at};
 ghost use Rattle.model.specs.Chosen as chosen;
-ghost use Rattle.plan_writer.specs.Outcome.{outcomeAnswer, outcomeBuffer};
+ghost use Rattle.plan_writer.specs.Outcome.{outcome_answer, outcome_buffer};
 ghost use Rattle.planner.specs.Outcome.{outcome};
-ghost use Rattle.planner.specs.Choices.{Searchable, choiceAnswer};
-ghost use Rattle.exact_searcher.specs.Arrays.{foundAnswer};
+ghost use Rattle.planner.specs.Choices.{Searchable, choice_answer};
+ghost use Rattle.exact_searcher.specs.Arrays.{found_answer};
 
 use cursor::Written;
 use cycle::Cycle;
@@ -21,7 +21,7 @@ use problem::JobLinks;
 // The first plan with frames of length f.
 fn plan_with(cycle: Cycle, cost: [u32; 128], links: JobLinks, f: u16) -> FirstPlacing
     requires { Searchable cycle cost links f }
-    ensures { result ≡ foundAnswer (planWalk (problemAt (instanceOf cycle) f) []).found }
+    ensures { result ≡ found_answer (plan_walk (problem_at (instance_of cycle) f) []).found }
 {
     let given = planner::choose::given_at(cycle, cost, links, f);
     exact_searcher::place_all(given)
@@ -30,7 +30,7 @@ fn plan_with(cycle: Cycle, cost: [u32; 128], links: JobLinks, f: u16) -> FirstPl
 // The chosen plan by the exact search: that of the first length with a plan. It counts no tries.
 fn choose_exactly(cycle: Cycle) -> ChosenPlan
     requires { InLimits cycle }
-    ensures { result ≡ choiceAnswer (chosen.choose (instanceOf cycle)) 0 }
+    ensures { result ≡ choice_answer (chosen.choose (instance_of cycle)) 0 }
 {
     let cost = problem::costs(cycle);
     let links = problem::links(cycle);
@@ -60,7 +60,7 @@ pub const EASY_TRIES: u64 = 10_000;
 // The chosen plan: as the plain search chooses, if a few tries suffice; else as the exact one does.
 fn choose(cycle: Cycle) -> ChosenPlan
     requires { InLimits cycle }
-    ensures { result ≡ choiceAnswer (chosen.choose (instanceOf cycle)) result.tries }
+    ensures { result ≡ choice_answer (chosen.choose (instance_of cycle)) result.tries }
 {
     let easy = planner::choose::choose(cycle, EASY_TRIES);
     if easy.refusal != 23 {
@@ -80,8 +80,8 @@ fn refused(number: u8) -> Written
 
 // The table of the request's chosen plan, written into `out`; or a refusal, from 1 to 11 or 17, which leaves `out` as it was.
 pub fn decide(request: &[u8], out: &mut [u8]) -> Written
-    ensures { (result ≡ outcomeAnswer (outcome request.now) out.old)
-        × (out.new ≡ outcomeBuffer (outcome request.now) out.old) }
+    ensures { (result ≡ outcome_answer (outcome request.now) out.old)
+        × (out.new ≡ outcome_buffer (outcome request.now) out.old) }
 {
     let cycle = cycle::read(request);
     if cycle.refusal != 0 {

@@ -1,10 +1,10 @@
 -- Which answer next-frame and a report get, exactly, for all byte strings and states, and the whole state after the call. 01, "Dispatching"; 02, R-2.
 -- Nothing here names a definition of Dispatch: to be believed are these records.
 use Rattle.std.specs.Prelude.{ℕ, ◌+◌, ◌≤◌, ◌<◌, ◌≡◌, Bool, true, false, ◌↔◌, ◌⊎◌, ◌≢◌, List, [], ◌∷◌, map, length, get_or}
-use Rattle.request.specs.Request.{readable, unreadable, reading, noTask}
+use Rattle.request.specs.Request.{readable, unreadable, reading, no_task}
 use Rattle.request.specs.declared.Task.{Task}
 use Rattle.request.specs.declared.Pair.{Pair}
-use Rattle.table.specs.Table.{Entry, Table, jobByte, row_of}
+use Rattle.table.specs.Table.{Entry, Table, job_byte, row_of}
 use Rattle.table.specs.TableBytes.{SaysTable}
 use Rattle.dispatcher.specs.declared.State.{State}
 use Rattle.dispatcher.specs.declared.Frame.{Frame}
@@ -24,8 +24,8 @@ pub record Shows (es : List Entry) (r : Frame) : Type 0 where
   pub number : r.count ≡ length es
   pub places : (length r.tasks ≡ 16) × (length r.jobs ≡ 16)
   -- of place k: the byte of entry k, or 0 where there is none
-  pub task-bytes : (k : ℕ) → get_or r.tasks k 0 ≡ get_or (map (λ (e : Entry). e.task) es) k 0
-  pub job-bytes : (k : ℕ) → get_or r.jobs k 0 ≡ get_or (map jobByte es) k 0
+  pub task_bytes : (k : ℕ) → get_or r.tasks k 0 ≡ get_or (map (λ (e : Entry). e.task) es) k 0
+  pub job_bytes : (k : ℕ) → get_or r.jobs k 0 ≡ get_or (map job_byte es) k 0
 
 -- the state s is followed by the state s', of a table of so many rows
 pub record MovesOn (height : ℕ) (s s' : State) : Type 0 where
@@ -33,7 +33,7 @@ pub record MovesOn (height : ℕ) (s s' : State) : Type 0 where
   pub onward : s.row + 1 < height → (s'.row ≡ s.row + 1) × (s'.first ≡ s.first)
   -- "and from the last row to 0 with the mark cleared"
   pub around : s.row + 1 ≡ height → (s'.row ≡ 0) × (s'.first ≡ false)
-  pub counts-stay : s'.counts ≡ s.counts
+  pub counts_stay : s'.counts ≡ s.counts
 
 module _ (bytes : List ℕ) (s : State) where
   -- the bytes have the form, and the table that they say has `Claim`
@@ -49,9 +49,9 @@ module _ (bytes : List ℕ) (s : State) where
     pub served : (r.refusal ≡ 0) ↔ OfTable (λ t. s.row < length t.rows)
     -- "Next-frame answers the row's entries"
     pub entries : (t : Table) → SaysTable bytes t → s.row < length t.rows → (es : List Entry) × Serves s.first (row_of t s.row) es × Shows es r
-    pub state-after : (t : Table) → SaysTable bytes t → s.row < length t.rows → MovesOn (length t.rows) s r.state
+    pub state_after : (t : Table) → SaysTable bytes t → s.row < length t.rows → MovesOn (length t.rows) s r.state
     -- "A refusal returns its number, .. no entries, the state unchanged"
-    pub refused-still : (r.refusal ≡ 0 → ⊥) → Shows [] r × (r.state ≡ s)
+    pub refused_still : (r.refusal ≡ 0 → ⊥) → Shows [] r × (r.state ≡ s)
 
 -- the count of a task whose transfer used so many ticks, before and after the report
 pub record Counts (c ticks before after : ℕ) : Type 0 where
@@ -68,7 +68,7 @@ pub record Counted (task c ticks : ℕ) (s s' : State) : Type 0 where
   pub as_many : length s'.counts ≡ length s.counts
   -- "Report moves no row."
   pub row_stays : s'.row ≡ s.row
-  pub mark-stays : s'.first ≡ s.first
+  pub mark_stays : s'.first ≡ s.first
 
 module _ (request : List ℕ) (task ticks : ℕ) (s : State) where
   -- the request is read, and its tasks have `Claim`
@@ -78,12 +78,12 @@ module _ (request : List ℕ) (task ticks : ℕ) (s : State) where
   -- of what a report answers
   pub record ReportExact (r : Reported) : Type 0 where
     -- "report 1 to 6 then 16"; 17 since R-1
-    pub own-number : (number : ℕ) → reading request ≡ unreadable number → r.refusal ≡ number
+    pub own_number : (number : ℕ) → reading request ≡ unreadable number → r.refusal ≡ number
     -- 16: "task number not below n"
     pub sixteen : (r.refusal ≡ 16) ↔ OfTasks (λ tasks. length tasks ≤ task)
     pub taken : (r.refusal ≡ 0) ↔ OfTasks (λ tasks. task < length tasks)
-    pub state-after : r.refusal ≡ 0 → OfTasks (λ tasks. Counted task (get_or tasks task noTask).c ticks s r.state)
+    pub state_after : r.refusal ≡ 0 → OfTasks (λ tasks. Counted task (get_or tasks task no_task).c ticks s r.state)
     -- the answer tells whether "the ticks exceed that task's C"
-    pub above : (r.over ≡ true) ↔ OfTasks (λ tasks. (task < length tasks) × ((get_or tasks task noTask).c < ticks))
+    pub above : (r.over ≡ true) ↔ OfTasks (λ tasks. (task < length tasks) × ((get_or tasks task no_task).c < ticks))
     -- "A refusal returns its number, .. the state unchanged"
-    pub refused-still : (r.refusal ≡ 0 → ⊥) → r.state ≡ s
+    pub refused_still : (r.refusal ≡ 0 → ⊥) → r.state ≡ s

@@ -2,8 +2,8 @@
 ghost use Rattle.std.specs.Prelude.{◌≡◌, ◌≤◌, ◌<◌};
 ghost use Rattle.request.specs.Request.{reading};
 ghost use Rattle.table.specs.Table.{decode};
-ghost use Rattle.table.specs.Answers.{rowGiven, entriesSaid};
-ghost use Rattle.dispatcher.specs.Dispatch.{freshState, uncarried, framed, moved, nextFrame, raised, reported};
+ghost use Rattle.table.specs.Answers.{row_given, entries_said};
+ghost use Rattle.dispatcher.specs.Dispatch.{fresh_state, uncarried, framed, moved, next_frame, raised, reported};
 
 use table::Row;
 
@@ -34,7 +34,7 @@ pub struct Reported {
 }
 
 pub fn fresh() -> State
-    ensures { result ≡ freshState }
+    ensures { result ≡ fresh_state }
 {
     State {
         row: 0,
@@ -60,7 +60,7 @@ fn frame_of(row: Row, state: State) -> Frame
 // The row without its carried entries: those left close up.
 fn without_carried(row: Row) -> Row
     requires { row.count ≤ 16 }
-    ensures { result ≡ rowGiven (uncarried (entriesSaid row)) }
+    ensures { result ≡ row_given (uncarried (entries_said row)) }
 {
     let tasks = row.tasks;
     let jobs = row.jobs;
@@ -108,7 +108,7 @@ fn move_on(height: u16, state: State) -> State
 
 // The entries of the state's row, without the carried ones in the first cycle: 12 where the bytes are no table, 15 where the row is not below F.
 pub fn next_frame(table: &[u8], state: State) -> Frame
-    ensures { result ≡ nextFrame (decode table.now) state }
+    ensures { result ≡ next_frame (decode table.now) state }
 {
     let read = table::read::row_and_sizes(table, state.row);
     let row = read.row;

@@ -6,142 +6,142 @@ use Rattle.std.proofs.Math.Bool.{false}
 use mathlib.Core.List.{List, foldr}
 use Rattle.std.proofs.Math.Dec.{eqb}
 use Rattle.cursor.specs.Padded.{padded, firsts}
-use Rattle.cursor.specs.PaddedLaws.{firsts-length, firsts-padded}
-use Rattle.cursor.specs.RangeLaws.{over-same}
-use Rattle.cycle.specs.Planned.{noJob}
+use Rattle.cursor.specs.PaddedLaws.{firsts_length, firsts_padded}
+use Rattle.cursor.specs.RangeLaws.{over_same}
+use Rattle.cycle.specs.Planned.{no_job}
 use Rattle.cycle.specs.declared.Job.{Job}
 use Rattle.cycle.specs.declared.Cycle as answer
 use Rattle.model.specs.Plan.{Instance, costs}
-use Rattle.model.specs.PlanLaws.{costs-length}
+use Rattle.model.specs.PlanLaws.{costs_length}
 use Rattle.model.specs.Plausible.{plausible}
-use Rattle.model.specs.PlausibleLaws.{plausible-says}
-use Rattle.model.specs.Answers.{instanceOf}
+use Rattle.model.specs.PlausibleLaws.{plausible_says}
+use Rattle.model.specs.Answers.{instance_of}
 use Rattle.plan_rules.specs.Every.{every}
-use Rattle.plan_rules.specs.Rules.{rulesRight}
-use Rattle.plan_rules.specs.RulesSay.{RulesKept, rules-say}
-use Rattle.draft.specs.Draft.{placed_of, framesHeld, placedPart, placedFrames, loadRight, soundDraft}
-use Rattle.draft.specs.Answers.{placing, withJobs, sameAt, RowsFit, LoadsAre}
-use Rattle.draft.specs.PlacedLaws.{placed-count, placed-few}
+use Rattle.plan_rules.specs.Rules.{rules_right}
+use Rattle.plan_rules.specs.RulesSay.{RulesKept, rules_say}
+use Rattle.draft.specs.Draft.{placed_of, frames_held, placed_part, placed_frames, load_right, sound_draft}
+use Rattle.draft.specs.Answers.{placing, with_jobs, same_at, RowsFit, LoadsAre}
+use Rattle.draft.specs.PlacedLaws.{placed_count, placed_few}
 use Rattle.draft.specs.declared.Draft.{Draft}
 use Rattle.draft.specs.declared.Placing.{Placing}
 
 -- two tests that answer alike of every number below n
-every-same : (a b : ℕ → Bool) (n : ℕ) → ((r : ℕ) → r < n → a r ≡ b r) → every n a ≡ every n b
-every-same a b n h = ap (foldr ◌&&◌ true) (over-same a b 0 n (λ r low high. h r (omega arith)))
+every_same : (a b : ℕ → Bool) (n : ℕ) → ((r : ℕ) → r < n → a r ≡ b r) → every n a ≡ every n b
+every_same a b n h = ap (foldr ◌&&◌ true) (over_same a b 0 n (λ r low high. h r (omega arith)))
 
 module _ (c : answer.Cycle) (d : Draft) where
   abbrev x : Instance
-  x = instanceOf c
+  x = instance_of c
 
-  pub not-plausible : plausible (instanceOf c) d.f ≡ false → false ≡ soundDraft (instanceOf c) d
-  unfolding soundDraft
-  not-plausible e = rw e
+  pub not_plausible : plausible (instance_of c) d.f ≡ false → false ≡ sound_draft (instance_of c) d
+  unfolding sound_draft
+  not_plausible e = rw e
 
-  module _ (can : plausible (instanceOf c) d.f ≡ true) where
-    pub some-length : 0 < d.f
-    some-length = (plausible-says (instanceOf c) d.f can).some
+  module _ (can : plausible (instance_of c) d.f ≡ true) where
+    pub some_length : 0 < d.f
+    some_length = (plausible_says (instance_of c) d.f can).some
 
-    module _ (n : ℕ) (n-is : n ≡ min c.count 128) (p : Placing) (so : p ≡ placing (firsts n 0 d.frames) (firsts n noJob c.jobs)) where
+    module _ (n : ℕ) (n_is : n ≡ min c.count 128) (p : Placing) (so : p ≡ placing (firsts n 0 d.frames) (firsts n no_job c.jobs)) where
       abbrev part : answer.Cycle
-      part = withJobs c p.jobs p.count
+      part = with_jobs c p.jobs p.count
 
       abbrev jobs : List Job
-      jobs = placed_of (firsts n 0 d.frames) (firsts n noJob c.jobs)
+      jobs = placed_of (firsts n 0 d.frames) (firsts n no_job c.jobs)
 
       abbrev frames : List ℕ
       frames = placed_of (firsts n 0 d.frames) (firsts n 0 d.frames)
 
       few : length jobs ≤ 128
-      few = omega (arith, placed-few (firsts n 0 d.frames) (firsts n noJob c.jobs), firsts-length 0 d.frames n)
+      few = omega (arith, placed_few (firsts n 0 d.frames) (firsts n no_job c.jobs), firsts_length 0 d.frames n)
 
       same_count : length jobs ≡ length frames
       same_count =
-          placed-count (firsts n 0 d.frames) (firsts n noJob c.jobs) (firsts n 0 d.frames)
-          (firsts-length 0 d.frames n ∙ sym (firsts-length noJob c.jobs n)) refl
+          placed_count (firsts n 0 d.frames) (firsts n no_job c.jobs) (firsts n 0 d.frames)
+          (firsts_length 0 d.frames n ∙ sym (firsts_length no_job c.jobs n)) refl
 
-      count-is : p.count ≡ length jobs
+      count_is : p.count ≡ length jobs
       unfolding placing
-      count-is = ap (λ (q : Placing). q.count) so
+      count_is = ap (λ (q : Placing). q.count) so
 
-      held-is : framesHeld (instanceOf c) d ≡ firsts n 0 d.frames
-      held-is = rw (firsts-length noJob c.jobs (min c.count 128), n-is)
+      held_is : frames_held (instance_of c) d ≡ firsts n 0 d.frames
+      held_is = rw (firsts_length no_job c.jobs (min c.count 128), n_is)
 
-      jobs-are : (instanceOf c).jobs ≡ firsts n noJob c.jobs
-      jobs-are = rw n-is
+      jobs_are : (instance_of c).jobs ≡ firsts n no_job c.jobs
+      jobs_are = rw n_is
 
-      placed-jobs : placed_of (framesHeld (instanceOf c) d) (instanceOf c).jobs ≡ jobs
-      placed-jobs = rw (held-is, jobs-are)
+      placed_jobs : placed_of (frames_held (instance_of c) d) (instance_of c).jobs ≡ jobs
+      placed_jobs = rw (held_is, jobs_are)
 
-      their-jobs : firsts p.count noJob p.jobs ≡ jobs
+      their_jobs : firsts p.count no_job p.jobs ≡ jobs
       unfolding placing
-      their-jobs = rw so (firsts-padded 128 noJob jobs)
+      their_jobs = rw so (firsts_padded 128 no_job jobs)
 
-      their-frames : firsts p.count 0 p.frames ≡ frames
+      their_frames : firsts p.count 0 p.frames ≡ frames
       unfolding placing
-      their-frames = rw (so, same_count) (firsts-padded 128 0 frames)
+      their_frames = rw (so, same_count) (firsts_padded 128 0 frames)
 
       small : min p.count 128 ≡ p.count
-      small = omega (arith, count-is, few)
+      small = omega (arith, count_is, few)
 
-      pub part-is : instanceOf part ≡ placedPart (instanceOf c) d
-      part-is =
-          let same : firsts (min p.count 128) noJob p.jobs ≡ placed_of (framesHeld (instanceOf c) d) (instanceOf c).jobs = rw (small, their-jobs) (sym placed-jobs) in
+      pub part_is : instance_of part ≡ placed_part (instance_of c) d
+      part_is =
+          let same : firsts (min p.count 128) no_job p.jobs ≡ placed_of (frames_held (instance_of c) d) (instance_of c).jobs = rw (small, their_jobs) (sym placed_jobs) in
           λ i. record {
-            tasks = (instanceOf c).tasks;
-            pairs = (instanceOf c).pairs;
+            tasks = (instance_of c).tasks;
+            pairs = (instance_of c).pairs;
             g = c.g;
             h = c.h;
             jobs = same i;
           }
 
-      frames-are : firsts p.count 0 p.frames ≡ placedFrames (instanceOf c) d
-      frames-are = rw held-is their-frames
+      frames_are : firsts p.count 0 p.frames ≡ placed_frames (instance_of c) d
+      frames_are = rw held_is their_frames
 
-      abbrev rulesAnswer : Bool
-      rulesAnswer = rulesRight (instanceOf part) (c.h / d.f) d.f (firsts (min p.count 128) 0 p.frames)
+      abbrev rules_answer : Bool
+      rules_answer = rules_right (instance_of part) (c.h / d.f) d.f (firsts (min p.count 128) 0 p.frames)
 
-      answer-is : rulesAnswer ≡ rulesRight (placedPart (instanceOf c) d) (c.h / d.f) d.f (placedFrames (instanceOf c) d)
-      answer-is = rw (part-is, small, frames-are)
+      answer_is : rules_answer ≡ rules_right (placed_part (instance_of c) d) (c.h / d.f) d.f (placed_frames (instance_of c) d)
+      answer_is = rw (part_is, small, frames_are)
 
-      pub rules-broken : rulesAnswer ≡ false → false ≡ soundDraft (instanceOf c) d
-      unfolding soundDraft
-      rules-broken e =
-          let broken : rulesRight (placedPart (instanceOf c) d) (c.h / d.f) d.f (placedFrames (instanceOf c) d) ≡ false = sym answer-is ∙ e in
+      pub rules_broken : rules_answer ≡ false → false ≡ sound_draft (instance_of c) d
+      unfolding sound_draft
+      rules_broken e =
+          let broken : rules_right (placed_part (instance_of c) d) (c.h / d.f) d.f (placed_frames (instance_of c) d) ≡ false = sym answer_is ∙ e in
           rw (can, broken)
 
-      module _ (kept : rulesAnswer ≡ true) where
-        right : rulesRight (placedPart (instanceOf c) d) (c.h / d.f) d.f (placedFrames (instanceOf c) d) ≡ true
-        right = sym answer-is ∙ kept
+      module _ (kept : rules_answer ≡ true) where
+        right : rules_right (placed_part (instance_of c) d) (c.h / d.f) d.f (placed_frames (instance_of c) d) ≡ true
+        right = sym answer_is ∙ kept
 
-        say : RulesKept (placedPart (instanceOf c) d) (c.h / d.f) d.f (placedFrames (instanceOf c) d)
-        say = rules-say (placedPart (instanceOf c) d) (c.h / d.f) d.f (placedFrames (instanceOf c) d) right
+        say : RulesKept (placed_part (instance_of c) d) (c.h / d.f) d.f (placed_frames (instance_of c) d)
+        say = rules_say (placed_part (instance_of c) d) (c.h / d.f) d.f (placed_frames (instance_of c) d) right
 
-        pub count-few : p.count ≤ 128
-        count-few = omega (arith, count-is, few)
+        pub count_few : p.count ≤ 128
+        count_few = omega (arith, count_is, few)
 
         pub rows_few : c.h / d.f ≤ 256
-        rows_few = say.few-rows
+        rows_few = say.few_rows
 
-        module _ (cost : List ℕ) (cost-is : cost ≡ padded 128 0 (costs (instanceOf part))) where
-          costs-are : firsts p.count 0 cost ≡ costs (placedPart (instanceOf c) d)
-          costs-are =
-              let size : length (costs (placedPart (instanceOf c) d)) ≡ p.count
-              = costs-length (placedPart (instanceOf c) d) ∙ ap length placed-jobs ∙ sym count-is in
-              rw (cost-is, part-is, ← size) (firsts-padded 128 0 (costs (placedPart (instanceOf c) d)))
+        module _ (cost : List ℕ) (cost_is : cost ≡ padded 128 0 (costs (instance_of part))) where
+          costs_are : firsts p.count 0 cost ≡ costs (placed_part (instance_of c) d)
+          costs_are =
+              let size : length (costs (placed_part (instance_of c) d)) ≡ p.count
+              = costs_length (placed_part (instance_of c) d) ∙ ap length placed_jobs ∙ sym count_is in
+              rw (cost_is, part_is, ← size) (firsts_padded 128 0 (costs (placed_part (instance_of c) d)))
 
           pub rows_fit : d.f ≤ 65535 → RowsFit (c.h / d.f) (firsts p.count 0 cost) (firsts p.count 0 p.frames)
           rows_fit wide = record {
-            some-row = say.some-row;
-            few-rows = say.few-rows;
-            small = rw (costs-are, frames-are) (λ r low. omega (arith, say.capacity r low));
+            some_row = say.some_row;
+            few_rows = say.few_rows;
+            small = rw (costs_are, frames_are) (λ r low. omega (arith, say.capacity r low));
           }
 
-          pub loads-decide : (sums : List ℕ) → LoadsAre (c.h / d.f) (firsts p.count 0 cost) (firsts p.count 0 p.frames) sums
-              → every (c.h / d.f) (sameAt d.loads sums) ≡ soundDraft (instanceOf c) d
-          unfolding soundDraft sameAt
-          loads-decide sums are =
-              let told = rw (costs-are, frames-are) at are.sums in
-              let same : every (c.h / d.f) (sameAt d.loads sums) ≡ every (c.h / d.f) (loadRight (instanceOf c) d)
-              = every-same (sameAt d.loads sums) (loadRight (instanceOf c) d) (c.h / d.f)
+          pub loads_decide : (sums : List ℕ) → LoadsAre (c.h / d.f) (firsts p.count 0 cost) (firsts p.count 0 p.frames) sums
+              → every (c.h / d.f) (same_at d.loads sums) ≡ sound_draft (instance_of c) d
+          unfolding sound_draft same_at
+          loads_decide sums are =
+              let told = rw (costs_are, frames_are) at are.sums in
+              let same : every (c.h / d.f) (same_at d.loads sums) ≡ every (c.h / d.f) (load_right (instance_of c) d)
+              = every_same (same_at d.loads sums) (load_right (instance_of c) d) (c.h / d.f)
               (λ r low. ap (λ (s : ℕ). eqb (get_or d.loads r 0) s) (told r low)) in
               rw (can, right) same

@@ -2,14 +2,14 @@
 // with numbers 26 to 28. A job is named by its place in planning order.
 ghost use Rattle.std.specs.Prelude.{◌≡◌, true, false, not, ◌≤◌, ◌<◌, ◌%◌, ◌/◌, min, get_or};
 ghost use Rattle.cursor.specs.Padded.{firsts};
-ghost use Rattle.cycle.specs.Planned.{noJob};
-ghost use Rattle.search.specs.Placing.{hasRoom};
+ghost use Rattle.cycle.specs.Planned.{no_job};
+ghost use Rattle.search.specs.Placing.{has_room};
 ghost use Rattle.model.specs.Plan.{costs};
-ghost use Rattle.model.specs.Answers.{instanceOf};
+ghost use Rattle.model.specs.Answers.{instance_of};
 ghost use Rattle.plan_rules.specs.Every.{every};
-ghost use Rattle.plan_writer.specs.Outcome.{outcomeAnswer, outcomeBuffer};
-ghost use Rattle.draft.specs.Draft.{isLifted, isDown, soundDraft, noDraft, kept, touched, afterLift, afterPut, canMove, putThere, start, lift, put, write};
-ghost use Rattle.draft.specs.Answers.{placing, withJobs, sameAt, RowsFit, LoadsAre, Movable};
+ghost use Rattle.plan_writer.specs.Outcome.{outcome_answer, outcome_buffer};
+ghost use Rattle.draft.specs.Draft.{is_lifted, is_down, sound_draft, no_draft, kept, touched, after_lift, after_put, can_move, put_there, start, lift, put, write};
+ghost use Rattle.draft.specs.Answers.{placing, with_jobs, same_at, RowsFit, LoadsAre, Movable};
 
 use cursor::Written;
 use cycle::{Cycle, Job};
@@ -38,7 +38,7 @@ struct Placing {
 }
 
 fn no_draft() -> Draft
-    ensures { result ≡ noDraft }
+    ensures { result ≡ no_draft }
 {
     Draft {
         f: 0,
@@ -59,7 +59,7 @@ fn kept(number: u8, draft: Draft) -> Drafted
 // Those of the first `count` jobs that are not lifted.
 fn placed(jobs: [Job; 128], frames: [u16; 128], count: usize) -> Placing
     requires { count ≤ 128 }
-    ensures { result ≡ placing (firsts count 0 frames) (firsts count noJob jobs) }
+    ensures { result ≡ placing (firsts count 0 frames) (firsts count no_job jobs) }
 {
     let mut their_jobs = [Job {
         task: 0,
@@ -89,7 +89,7 @@ fn placed(jobs: [Job; 128], frames: [u16; 128], count: usize) -> Placing
 
 // The cycle with these jobs alone.
 fn with_jobs(cycle: Cycle, jobs: [Job; 128], count: usize) -> Cycle
-    ensures { result ≡ withJobs cycle jobs count }
+    ensures { result ≡ with_jobs cycle jobs count }
 {
     let tasks = cycle.tasks;
     let pairs = cycle.pairs;
@@ -125,7 +125,7 @@ fn row_loads(cost: [u32; 128], frames: [u16; 128], count: usize, rows: u16) -> [
 // Whether the loads of the first rows are these sums.
 fn same_loads(loads: [u16; 256], sums: [u16; 256], rows: usize) -> bool
     requires { rows ≤ 256 }
-    ensures { result ≡ every rows (sameAt loads sums) }
+    ensures { result ≡ every rows (same_at loads sums) }
 {
     let mut r: usize = 0;
     while r < rows {
@@ -140,7 +140,7 @@ fn same_loads(loads: [u16; 256], sums: [u16; 256], rows: usize) -> bool
 // Whether none of the first `count` jobs is lifted.
 fn none_lifted(frames: [u16; 128], count: usize) -> bool
     requires { count ≤ 128 }
-    ensures { result ≡ every count (isDown frames) }
+    ensures { result ≡ every count (is_down frames) }
 {
     let mut y: usize = 0;
     while y < count {
@@ -154,7 +154,7 @@ fn none_lifted(frames: [u16; 128], count: usize) -> bool
 
 // Whether the frame length is plausible, the placed jobs keep window, capacity and order, and each load is its row's sum.
 fn is_sound(cycle: Cycle, draft: Draft) -> bool
-    ensures { result ≡ soundDraft (instanceOf cycle) draft }
+    ensures { result ≡ sound_draft (instance_of cycle) draft }
 {
     if !model::plausible(cycle, draft.f) {
         return false;
@@ -178,7 +178,7 @@ fn is_sound(cycle: Cycle, draft: Draft) -> bool
 
 // Whether there is a job at place y, and the draft is sound.
 fn can_move(cycle: Cycle, draft: Draft, y: usize) -> bool
-    ensures { result ≡ canMove (instanceOf cycle) draft y }
+    ensures { result ≡ can_move (instance_of cycle) draft y }
 {
     if arith::at_most(cycle.count, 128) <= y {
         return false;
@@ -197,7 +197,7 @@ fn row_of(h: u16, f: u16, k: u16) -> usize
 // The C + g of the job at place y.
 fn cost_at(cycle: Cycle, y: usize) -> u32
     requires { (y < cycle.count) × (cycle.count ≤ 128) }
-    ensures { result ≡ get_or (costs (instanceOf cycle)) y 0 }
+    ensures { result ≡ get_or (costs (instance_of cycle)) y 0 }
 {
     let tasks = cycle.tasks;
     let jobs = cycle.jobs;
@@ -223,8 +223,8 @@ fn touched(draft: Draft, y: usize, k: u16, row: usize, load: u16) -> Draft
 
 // The job is marked lifted, and its row has its C + g less.
 fn after_lift(cycle: Cycle, draft: Draft, y: usize) -> Draft
-    requires { Movable cycle draft y × (isLifted (get_or draft.frames y 0) ≡ false) }
-    ensures { result ≡ afterLift (instanceOf cycle) draft y }
+    requires { Movable cycle draft y × (is_lifted (get_or draft.frames y 0) ≡ false) }
+    ensures { result ≡ after_lift (instance_of cycle) draft y }
 {
     let frames = draft.frames;
     let loads = draft.loads;
@@ -235,7 +235,7 @@ fn after_lift(cycle: Cycle, draft: Draft, y: usize) -> Draft
 
 // Whether a row with this load has room for a job of this cost.
 fn has_room(load: u16, f: u16, cost: u32) -> bool
-    ensures { result ≡ hasRoom load f cost }
+    ensures { result ≡ has_room load f cost }
 {
     (load as u64) + (cost as u64) <= (f as u64)
 }
@@ -243,7 +243,7 @@ fn has_room(load: u16, f: u16, cost: u32) -> bool
 // A lifted job is put into frame k; 27 where k lies outside its window, 28 where its row is over f or a pair is out of order.
 fn put_there(cycle: Cycle, draft: Draft, y: usize, k: u16) -> Drafted
     requires { Movable cycle draft y }
-    ensures { result ≡ putThere (instanceOf cycle) draft y k }
+    ensures { result ≡ put_there (instance_of cycle) draft y k }
 {
     let jobs = cycle.jobs;
     let job = jobs[y];
@@ -326,8 +326,8 @@ pub fn put(request: &[u8], draft: Draft, job: u8, frame: u16) -> Drafted
 // The table of the draft's frame length and frames, written into `out`; the answer holds its length. A refusal, by the request's number, 26 or 11, leaves `out`
 // as it was.
 pub fn write(request: &[u8], draft: Draft, out: &mut [u8]) -> Written
-    ensures { (result ≡ outcomeAnswer (write request.now draft) out.old)
-        × (out.new ≡ outcomeBuffer (write request.now draft) out.old) }
+    ensures { (result ≡ outcome_answer (write request.now draft) out.old)
+        × (out.new ≡ outcome_buffer (write request.now draft) out.old) }
 {
     let cycle = cycle::read(request);
     if cycle.refusal != 0 {

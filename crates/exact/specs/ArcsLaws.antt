@@ -10,13 +10,13 @@ use native.Mathlib.Omega.{arith}
 use Rattle.std.proofs.Math.Seq.{drop-cons}
 use Rattle.std.proofs.Math.Dec.{ltb}
 use borrow.Author.Tests.{ltb-true, ltb-false, lt-ltb, eq-eqb, eqb-true, eqb-false}
-use Rattle.search.specs.Placing.{Problem, row-sum, Proper}
+use Rattle.search.specs.Placing.{Problem, row_sum, Proper}
 use Rattle.search.specs.Plans.{IsPlacing}
 use Rattle.exact.specs.Sweep.{sum}
-use Rattle.exact.specs.Intervals.{sum-le, sum-add, sum-zero}
+use Rattle.exact.specs.Intervals.{sum_le, sum_add, sum_zero}
 use Rattle.exact.specs.Domains.{Domains, low_of, high_of, Held}
 use Rattle.exact.specs.None.{None}
-use Rattle.exact.specs.Arcs.{step_of, roomOf, lastIn, arcNeed}
+use Rattle.exact.specs.Arcs.{step_of, room_of, last_in, arc_need}
 
 module _ (f k : ℕ) (g : ℕ → ℕ) where
   abbrev step : ℕ → ℕ
@@ -28,23 +28,23 @@ module _ (f k : ℕ) (g : ℕ → ℕ) where
   abbrev left : ℕ → ℕ
   left x = (k + 1) * g x % f
 
-  one-step : (c : ℕ) → step c ≤ (k + 1) * c / f * f
-  one-step c = go (eqb ((k + 1) * c % f) 0) refl
+  one_step : (c : ℕ) → step c ≤ (k + 1) * c / f * f
+  one_step c = go (eqb ((k + 1) * c % f) 0) refl
     where
       go : (b : Bool) → eqb ((k + 1) * c % f) 0 ≡ b → cond b (k * c) ((k + 1) * c / f * f) ≤ (k + 1) * c / f * f
       go false e = omega arith
       go true e = omega (arith, eqb-true ((k + 1) * c % f) 0 e, div-add-mod' ((k + 1) * c) f, add-mul k 1 c)
 
-  steps-below : (j a : ℕ) → sum (λ x. step (g x)) j a ≤ sum whole j a * f
+  steps_below : (j a : ℕ) → sum (λ x. step (g x)) j a ≤ sum whole j a * f
   unfolding sum
-  steps-below zero a = omega arith
-  steps-below (suc j) a = omega (arith, one-step (g a), steps-below j (a + 1), add-mul (whole a) (sum whole j (a + 1)) f)
+  steps_below zero a = omega arith
+  steps_below (suc j) a = omega (arith, one_step (g a), steps_below j (a + 1), add-mul (whole a) (sum whole j (a + 1)) f)
 
-  all-counted : (j a : ℕ) → sum whole j a * f + sum left j a ≡ (k + 1) * sum g j a
+  all_counted : (j a : ℕ) → sum whole j a * f + sum left j a ≡ (k + 1) * sum g j a
   unfolding sum
-  all-counted zero a = omega arith
-  all-counted (suc j) a =
-      omega (arith, all-counted j (a + 1), div-add-mod' ((k + 1) * g a) f, add-mul (whole a) (sum whole j (a + 1)) f, mul-add (k + 1) (g a) (sum g j (a + 1)))
+  all_counted zero a = omega arith
+  all_counted (suc j) a =
+      omega (arith, all_counted j (a + 1), div-add-mod' ((k + 1) * g a) f, add-mul (whole a) (sum whole j (a + 1)) f, mul-add (k + 1) (g a) (sum g j (a + 1)))
 
   none_left : (j a : ℕ) → sum left j a ≡ 0 → sum (λ x. step (g x)) j a ≡ k * sum g j a
   unfolding sum
@@ -54,8 +54,8 @@ module _ (f k : ℕ) (g : ℕ → ℕ) where
       let h : step (g a) ≡ k * g a = rw (eq-eqb (left a) 0 z) in
       omega (arith, none_left j (a + 1) (omega arith), mul-add k (g a) (sum g j (a + 1)))
 
-  steps-within : 0 < f → (j a : ℕ) → sum g j a ≤ f → sum (λ x. step (g x)) j a ≤ k * f
-  steps-within some j a h = go (eqb (sum left j a) 0) refl
+  steps_within : 0 < f → (j a : ℕ) → sum g j a ≤ f → sum (λ x. step (g x)) j a ≤ k * f
+  steps_within some j a h = go (eqb (sum left j a) 0) refl
     where
       times : (a b c : ℕ) → a ≤ b → c * a ≤ c * b
       times a b c l = rw (mul_comm c a, mul_comm c b) (mul-le-mul_right c l)
@@ -65,20 +65,20 @@ module _ (f k : ℕ) (g : ℕ → ℕ) where
       below false e q =
           let l : k + 1 ≤ sum whole j a = ltb-false (sum whole j a) (k + 1) e in
           let ne : sum left j a ≡ 0 → ⊥ = eqb-false (sum left j a) 0 q in
-          absurd (omega (arith, mul-le-mul_right f l, all-counted j a, times (sum g j a) f (k + 1) h))
+          absurd (omega (arith, mul-le-mul_right f l, all_counted j a, times (sum g j a) f (k + 1) h))
 
       go : (b : Bool) → eqb (sum left j a) 0 ≡ b → sum (λ x. step (g x)) j a ≤ k * f
       go true e = omega (arith, none_left j a (eqb-true (sum left j a) 0 e), times (sum g j a) f k h)
-      go false e = omega (arith, steps-below j a, mul-le-mul_right f (below (ltb (sum whole j a) (k + 1)) refl e))
+      go false e = omega (arith, steps_below j a, mul-le-mul_right f (below (ltb (sum whole j a) (k + 1)) refl e))
 
 -- costs that a row holds
-pub steps-fit : (f k : ℕ) → 0 < f → (g : ℕ → ℕ) (j a : ℕ) → sum g j a ≤ f → sum (λ x. step_of f k (g x)) j a ≤ roomOf f k
-unfolding step_of roomOf
-steps-fit f k some g j a h = go (eqb k 0)
+pub steps_fit : (f k : ℕ) → 0 < f → (g : ℕ → ℕ) (j a : ℕ) → sum g j a ≤ f → sum (λ x. step_of f k (g x)) j a ≤ room_of f k
+unfolding step_of room_of
+steps_fit f k some g j a h = go (eqb k 0)
   where
     go : (b : Bool) → sum (λ x. cond b (g x) (cond (eqb ((k + 1) * g x % f) 0) (k * g x) ((k + 1) * g x / f * f))) j a ≤ cond b f (k * f)
     go true = h
-    go false = steps-within f k g some j a h
+    go false = steps_within f k g some j a h
 
 -- where a frame stands, counted from row s on
 unfoldable pub place_in : ℕ → ℕ → ℕ → ℕ
@@ -91,14 +91,14 @@ round : (from span rows w p : ℕ) → rows ≤ from + span → min (from + span
 round from span rows w p a b c = omega arith
 
 module _ (rows s : ℕ) (some : 0 < rows) where
-  place-from : (l j : ℕ) → (l + (rows - s)) % rows + j < rows → (l + j + (rows - s)) % rows ≡ (l + (rows - s)) % rows + j
-  place-from l j lt =
+  place_from_lem : (l j : ℕ) → (l + (rows - s)) % rows + j < rows → (l + j + (rows - s)) % rows ≡ (l + (rows - s)) % rows + j
+  place_from_lem l j lt =
       let z : l + j + (rows - s) ≡ l + (rows - s) + j = omega arith in
       ap (λ (y : ℕ). y % rows) z ∙ sym (mod-add-mod (l + (rows - s)) rows j) ∙ mod-eq_of_lt lt
 
-  stands-before : (l h k w : ℕ) → l ≤ k → k < h → lastIn rows s l h < w → place_in rows s k < w
-  unfolding place_in lastIn
-  stands-before l h k w a b e =
+  stands_before : (l h k w : ℕ) → l ≤ k → k < h → last_in rows s l h < w → place_in rows s k < w
+  unfolding place_in last_in
+  stands_before l h k w a b e =
       let z : l + (k - l) ≡ k = omega arith in
       let le : k - l ≤ h - 1 - l = omega arith in
       go z ((l + (rows - s)) % rows) refl (h - 1 - l) le e
@@ -110,7 +110,7 @@ module _ (rows s : ℕ) (some : 0 < rows) where
           by true t =
               let lt : from + span < rows = ltb-true (from + span) rows t in
               let near : (l + (rows - s)) % rows + (k - l) < rows = rw q (within from span (k - l) le lt) in
-              let at : (k + (rows - s)) % rows ≡ from + (k - l) = rw (z, q) at (place-from l (k - l) near) in
+              let at : (k + (rows - s)) % rows ≡ from + (k - l) = rw (z, q) at (place_from_lem l (k - l) near) in
               rw at (not_round from span (k - l) rows w le lt e)
             where
               within : (from span j : ℕ) → j ≤ span → from + span < rows → from + j < rows
@@ -140,13 +140,13 @@ no_place p c = go (ltb p 0) refl
     go false e = refl
     go true e = absurd (omega (arith, ltb-true p 0 e))
 
-cond-le-cond : (a b : Bool) (c : ℕ) → (a ≡ true → b ≡ true) → cond a c 0 ≤ cond b c 0
-cond-le-cond false b c h = omega arith
-cond-le-cond true b c h = rw (h refl) (omega arith)
+cond_le_cond : (a b : Bool) (c : ℕ) → (a ≡ true → b ≡ true) → cond a c 0 ≤ cond b c 0
+cond_le_cond false b c h = omega arith
+cond_le_cond true b c h = rw (h refl) (omega arith)
 
-step-of-cond : (u : ℕ → ℕ) (b : Bool) (c : ℕ) → cond b (u c) 0 ≤ u (cond b c 0)
-step-of-cond u true c = omega arith
-step-of-cond u false c = omega arith
+step_of_cond : (u : ℕ → ℕ) (b : Bool) (c : ℕ) → cond b (u c) 0 ≤ u (cond b c 0)
+step_of_cond u true c = omega arith
+step_of_cond u false c = omega arith
 
 module _ {x : Problem} (g : Proper x) (some : 0 < x.f) (k s : ℕ) (inside : s ≤ x.rows) where
   abbrev n : ℕ
@@ -159,56 +159,56 @@ module _ {x : Problem} (g : Proper x) (some : 0 < x.f) (k s : ℕ) (inside : s �
     abbrev place : ℕ → ℕ
     place i = place_in x.rows s (get_or ks i 0)
 
-    in_row : (p j a : ℕ) → a + j ≡ n → sum (λ i. cond (eqb (get_or ks i 0 % x.rows) p) (cost i) 0) j a ≤ row-sum x.rows (drop a x.cost) (drop a ks) p
-    unfolding sum row-sum
+    in_row : (p j a : ℕ) → a + j ≡ n → sum (λ i. cond (eqb (get_or ks i 0 % x.rows) p) (cost i) 0) j a ≤ row_sum x.rows (drop a x.cost) (drop a ks) p
+    unfolding sum row_sum
     in_row p zero a e = omega arith
     in_row p (suc j) a e =
         rw (drop-cons x.cost a 0 (omega arith), drop-cons ks a 0 (omega (arith, v.all)))
         (rw (add-one a) (omega (arith, rw (add-one a) at (in_row p j (a + 1) (omega arith)))))
 
     -- one place holds no more than a row
-    at_place : (q : ℕ) → sum (λ i. cond (eqb (place i) q) (step_of x.f k (cost i)) 0) n 0 ≤ roomOf x.f k
+    at_place : (q : ℕ) → sum (λ i. cond (eqb (place i) q) (step_of x.f k (cost i)) 0) n 0 ≤ room_of x.f k
     at_place q =
         let p : ℕ = (q + s) % x.rows in
         let in_p : ℕ → Bool = λ i. eqb (get_or ks i 0 % x.rows) p in
         omega (
           arith,
-          sum-le (λ i. cond (eqb (place i) q) (step_of x.f k (cost i)) 0) (λ i. step_of x.f k (cond (in_p i) (cost i) 0)) n 0
-              (λ i l. le-both (cond-le-cond (eqb (place i) q) (in_p i) (step_of x.f k (cost i))
-              (λ e. eq-eqb (get_or ks i 0 % x.rows) p (row_of x.rows s g.some-row inside (get_or ks i 0) q (eqb-true (place i) q e))))
-              (step-of-cond (step_of x.f k) (in_p i) (cost i))),
-          steps-fit x.f k some (λ i. cond (in_p i) (cost i) 0) n 0 (omega (arith, in_row p n 0 (omega arith), v.room p (mod-lt (q + s) g.some-row))),
+          sum_le (λ i. cond (eqb (place i) q) (step_of x.f k (cost i)) 0) (λ i. step_of x.f k (cond (in_p i) (cost i) 0)) n 0
+              (λ i l. le_both (cond_le_cond (eqb (place i) q) (in_p i) (step_of x.f k (cost i))
+              (λ e. eq-eqb (get_or ks i 0 % x.rows) p (row_of x.rows s g.some_row inside (get_or ks i 0) q (eqb-true (place i) q e))))
+              (step_of_cond (step_of x.f k) (in_p i) (cost i))),
+          steps_fit x.f k some (λ i. cond (in_p i) (cost i) 0) n 0 (omega (arith, in_row p n 0 (omega arith), v.room p (mod-lt (q + s) g.some_row))),
         )
       where
-        le-both : {a b c : ℕ} → a ≤ b → b ≤ c → a ≤ c
-        le-both h l = omega arith
+        le_both : {a b c : ℕ} → a ≤ b → b ≤ c → a ≤ c
+        le_both h l = omega arith
 
-    places-le : (w : ℕ) → sum (λ i. cond (ltb (place i) w) (step_of x.f k (cost i)) 0) n 0 ≤ roomOf x.f k * w
-    places-le zero = omega (arith, sum-zero (λ i. cond (ltb (place i) 0) (step_of x.f k (cost i)) 0) n 0 (λ i. no_place (place i) (step_of x.f k (cost i))))
-    places-le (suc w) =
+    places_le : (w : ℕ) → sum (λ i. cond (ltb (place i) w) (step_of x.f k (cost i)) 0) n 0 ≤ room_of x.f k * w
+    places_le zero = omega (arith, sum_zero (λ i. cond (ltb (place i) 0) (step_of x.f k (cost i)) 0) n 0 (λ i. no_place (place i) (step_of x.f k (cost i))))
+    places_le (suc w) =
         omega (
           arith,
-          sum-le (λ i. cond (ltb (place i) (suc w)) (step_of x.f k (cost i)) 0)
+          sum_le (λ i. cond (ltb (place i) (suc w)) (step_of x.f k (cost i)) 0)
               (λ i. cond (ltb (place i) w) (step_of x.f k (cost i)) 0 + cond (eqb (place i) w) (step_of x.f k (cost i)) 0) n 0
               (λ i l. one_place (place i) w (step_of x.f k (cost i))),
-          sum-add (λ i. cond (ltb (place i) w) (step_of x.f k (cost i)) 0) (λ i. cond (eqb (place i) w) (step_of x.f k (cost i)) 0) n 0,
-          places-le w,
+          sum_add (λ i. cond (ltb (place i) w) (step_of x.f k (cost i)) 0) (λ i. cond (eqb (place i) w) (step_of x.f k (cost i)) 0) n 0,
+          places_le w,
           at_place w,
         )
 
-    arc-le : (d : Domains) → Held n d ks → (w : ℕ) → arcNeed x d k s w ≤ roomOf x.f k * w
-    unfolding arcNeed
-    arc-le d held w =
+    arc_le : (d : Domains) → Held n d ks → (w : ℕ) → arc_need x d k s w ≤ room_of x.f k * w
+    unfolding arc_need
+    arc_le d held w =
         omega (
           arith,
-          sum-le (λ i. cond (ltb (lastIn x.rows s (low_of d i) (high_of d i)) w) (step_of x.f k (cost i)) 0)
+          sum_le (λ i. cond (ltb (last_in x.rows s (low_of d i) (high_of d i)) w) (step_of x.f k (cost i)) 0)
               (λ i. cond (ltb (place i) w) (step_of x.f k (cost i)) 0) n 0
-              (λ i l. cond-le-cond (ltb (lastIn x.rows s (low_of d i) (high_of d i)) w) (ltb (place i) w) (step_of x.f k (cost i))
-              (λ e. lt-ltb (place i) w (stands-before x.rows s g.some-row (low_of d i) (high_of d i) (get_or ks i 0) w
-              (held i (omega arith)).0 (held i (omega arith)).1 (ltb-true (lastIn x.rows s (low_of d i) (high_of d i)) w e)))),
-          places-le w,
+              (λ i l. cond_le_cond (ltb (last_in x.rows s (low_of d i) (high_of d i)) w) (ltb (place i) w) (step_of x.f k (cost i))
+              (λ e. lt-ltb (place i) w (stands_before x.rows s g.some_row (low_of d i) (high_of d i) (get_or ks i 0) w
+              (held i (omega arith)).0 (held i (omega arith)).1 (ltb-true (last_in x.rows s (low_of d i) (high_of d i)) w e)))),
+          places_le w,
         )
 
   -- an arc that must hold too much
-  pub none-arc : (d : Domains) (w : ℕ) → roomOf x.f k * w < arcNeed x d k s w → None x d
-  none-arc d w h = record { never = λ ks v held. omega (arith, arc-le ks v d held w) }
+  pub none_arc : (d : Domains) (w : ℕ) → room_of x.f k * w < arc_need x d k s w → None x d
+  none_arc d w h = record { never = λ ks v held. omega (arith, arc_le ks v d held w) }

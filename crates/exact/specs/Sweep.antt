@@ -19,8 +19,8 @@ pub record Rules : Type 1 where
   -- the jobs that are put into rows; the others are left out of account
   pub sided : ℕ → Bool
   -- the order, by the flags of those before it in the row: the job may be put into this row, it may be left out of it
-  pub putOk : List Bool → ℕ → Bool
-  pub leaveOk : List Bool → ℕ → Bool
+  pub put_ok : List Bool → ℕ → Bool
+  pub leave_ok : List Bool → ℕ → Bool
   -- all that must not stand in a later row have a row
   pub free : List Bool → ℕ → Bool
   -- the first must not stand in a later row than the second
@@ -40,10 +40,10 @@ abbrev pub skips : Rules → ℕ → List Bool → ℕ → Bool
 skips u p ps x = not (u.sided x) || (get_or ps x false || ltb p (u.first x))
 
 abbrev pub puts : Rules → List Bool → ℕ → ℕ → Bool
-puts u ps room x = leb (u.cost x) room && u.putOk ps x
+puts u ps room x = leb (u.cost x) room && u.put_ok ps x
 
 abbrev pub leaves : Rules → ℕ → List Bool → ℕ → Bool
-leaves u p ps x = ltb (p + 1) (u.end x) && u.leaveOk ps x
+leaves u p ps x = ltb (p + 1) (u.end x) && u.leave_ok ps x
 
 -- the sum of r over j numbers, from x on
 unfoldable pub sum : (ℕ → ℕ) → ℕ → ℕ → ℕ
@@ -55,18 +55,18 @@ unfoldable pub waiting : Rules → ℕ → List Bool → ℕ → ℕ
 waiting u p ps w = sum (λ x. cond (u.sided x && (not (get_or ps x false) && leb (u.end x) (p + w))) (u.cost x) 0) u.n 0
 
 -- the tests of the order hold of job i where the sweep stands between two rows
-abbrev pub inOrder : Rules → List Bool → ℕ → Bool
-inOrder u ps i = cond (get_or ps i false) (u.putOk ps i) (u.leaveOk ps i)
+abbrev pub in_order : Rules → List Bool → ℕ → Bool
+in_order u ps i = cond (get_or ps i false) (u.put_ok ps i) (u.leave_ok ps i)
 
 abbrev pub AllInOrder : Rules → List Bool → Type 0
-AllInOrder u ps = (i : ℕ) → i < u.n → inOrder u ps i ≡ true
+AllInOrder u ps = (i : ℕ) → i < u.n → in_order u ps i ≡ true
 
 -- what the tests of the order must say
 pub record Lawful (u : Rules) : Type 0 where
-  pub put_holds : (ps : List Bool) (x : ℕ) → x < u.n → ((y : ℕ) → y < x → u.sided y ≡ true → u.before y x → get_or ps y false ≡ true) → u.putOk ps x ≡ true
-  pub leave-holds : (ps : List Bool) (x : ℕ) → x < u.n → ((z : ℕ) → z < x → u.sided z ≡ true → u.before x z → get_or ps z false ≡ false) → u.leaveOk ps x ≡ true
-  pub free-says : (ps : List Bool) (x : ℕ) → x < u.n → u.free ps x ≡ true → (y : ℕ) → y < u.n → u.sided y ≡ true → u.before y x → get_or ps y false ≡ true
-  pub order-says : (ps : List Bool) → AllInOrder u ps → (y x : ℕ) → y < u.n → x < u.n → u.before y x → get_or ps x false ≡ true → get_or ps y false ≡ true
+  pub put_holds : (ps : List Bool) (x : ℕ) → x < u.n → ((y : ℕ) → y < x → u.sided y ≡ true → u.before y x → get_or ps y false ≡ true) → u.put_ok ps x ≡ true
+  pub leave_holds : (ps : List Bool) (x : ℕ) → x < u.n → ((z : ℕ) → z < x → u.sided z ≡ true → u.before x z → get_or ps z false ≡ false) → u.leave_ok ps x ≡ true
+  pub free_says : (ps : List Bool) (x : ℕ) → x < u.n → u.free ps x ≡ true → (y : ℕ) → y < u.n → u.sided y ≡ true → u.before y x → get_or ps y false ≡ true
+  pub order_says : (ps : List Bool) → AllInOrder u ps → (y x : ℕ) → y < u.n → x < u.n → u.before y x → get_or ps x false ≡ true → get_or ps y false ≡ true
 
 -- what the jobs from x on, j of them, take of row p
 unfoldable pub load : Rules → (ℕ → ℕ) → ℕ → ℕ → ℕ → ℕ

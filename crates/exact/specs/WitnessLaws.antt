@@ -1,5 +1,5 @@
 -- No witness comes through a state that fails, or there is one with a smaller sum of rows, and so none at all (`none_from`). Rows before b bind nothing:
--- so a state is judged by the jobs without a row alone, and where a state fails, one with less flags fails too (`from-fewer`). Assumes nothing.
+-- so a state is judged by the jobs without a row alone, and where a state fails, one with less flags fails too (`from_fewer`). Assumes nothing.
 use Rattle.std.specs.Prelude.{◌≡◌, Bool, not, ◌&&◌, ◌||◌, List, length, set, replicate, leb}
 use Rattle.std.proofs.Math.Path.{refl, ap}
 use Rattle.std.proofs.Common.{sym, ◌∙◌, length-set, get_or-set_same, get_or-set_other}
@@ -14,26 +14,26 @@ use borrow.Author.Tests.{leb-true, ltb-true, ltb-false, ne_eqb, eqb-true, eqb-fa
 use Rattle.exact.specs.Sweep.{Rules, any_below, more, sum, AllInOrder, Lawful, load, Rows, Trace, Better, From, Fewer, Ordered}
 
 -- tests
-pub or-false-both : (a b : Bool) → (a || b) ≡ false → (a ≡ false) × (b ≡ false)
-or-false-both true b e = (e, absurd (false≢true (sym e)))
-or-false-both false b e = (refl, e)
+pub or_false_both : (a b : Bool) → (a || b) ≡ false → (a ≡ false) × (b ≡ false)
+or_false_both true b e = (e, absurd (false≢true (sym e)))
+or_false_both false b e = (refl, e)
 
-and-true-both : (a b : Bool) → (a && b) ≡ true → (a ≡ true) × (b ≡ true)
-and-true-both true b e = (refl, e)
-and-true-both false b e = (e, absurd (false≢true e))
+and_true_both : (a b : Bool) → (a && b) ≡ true → (a ≡ true) × (b ≡ true)
+and_true_both true b e = (refl, e)
+and_true_both false b e = (e, absurd (false≢true e))
 
-pub not-is-false : (a : Bool) → not a ≡ false → a ≡ true
-not-is-false true e = refl
-not-is-false false e = sym e
+pub not_is_false : (a : Bool) → not a ≡ false → a ≡ true
+not_is_false true e = refl
+not_is_false false e = sym e
 
-not-is-true : (a : Bool) → not a ≡ true → a ≡ false
-not-is-true true e = sym e
-not-is-true false e = refl
+not_is_true : (a : Bool) → not a ≡ true → a ≡ false
+not_is_true true e = sym e
+not_is_true false e = refl
 
-pub any-below-says : (t : ℕ → Bool) (m : ℕ) → any_below t m ≡ true → (x : ℕ) × (x < m) × (t x ≡ true)
+pub any_below_says : (t : ℕ → Bool) (m : ℕ) → any_below t m ≡ true → (x : ℕ) × (x < m) × (t x ≡ true)
 unfolding any_below
-any-below-says t zero e = absurd (false≢true e)
-any-below-says t (suc m) e = go (t m) refl (any-below-says t m)
+any_below_says t zero e = absurd (false≢true e)
+any_below_says t (suc m) e = go (t m) refl (any_below_says t m)
   where
     go : (b : Bool) → t m ≡ b → (any_below t m ≡ true → (x : ℕ) × (x < m) × (t x ≡ true)) → (x : ℕ) × (x < suc m) × (t x ≡ true)
     go true q ih = (m, omega arith, q)
@@ -41,10 +41,10 @@ any-below-says t (suc m) e = go (t m) refl (any-below-says t m)
         let (x, h, w) = ih (rw q at e) in
         (x, omega arith, w)
 
-pub any-below-from : (t : ℕ → Bool) (m y : ℕ) → y < m → t y ≡ true → any_below t m ≡ true
+pub any_below_from : (t : ℕ → Bool) (m y : ℕ) → y < m → t y ≡ true → any_below t m ≡ true
 unfolding any_below
-any-below-from t zero y h e = absurd (omega arith)
-any-below-from t (suc m) y h e = go (eqb y m) refl (any-below-from t m y)
+any_below_from t zero y h e = absurd (omega arith)
+any_below_from t (suc m) y h e = go (eqb y m) refl (any_below_from t m y)
   where
     go : (b : Bool) → eqb y m ≡ b → (y < m → t y ≡ true → any_below t m ≡ true) → (t m || any_below t m) ≡ true
     go true q ih = let w : y ≡ m = eqb-true y m q in rw (rw w at e)
@@ -52,8 +52,8 @@ any-below-from t (suc m) y h e = go (eqb y m) refl (any-below-from t m y)
 
 module _ (u : Rules) (r : ℕ → ℕ) (p x : ℕ) (ps : List Bool) (t : Trace u r p x ps) where
   -- a job that does not stand in row p is passed
-  pub trace-pass : (u.sided x ≡ true → r x ≡ p → ⊥) → Trace u r p (x + 1) ps
-  trace-pass off = record {
+  pub trace_pass : (u.sided x ≡ true → r x ≡ p → ⊥) → Trace u r p (x + 1) ps
+  trace_pass off = record {
     size = t.size;
     past = t.past;
     passed = λ y h a e l. go y h a e l (eqb y x) refl;
@@ -66,25 +66,25 @@ module _ (u : Rules) (r : ℕ → ℕ) (p x : ℕ) (ps : List Bool) (t : Trace u
       go y h a e l false q = let w : y ≡ x → ⊥ = eqb-false y x q in t.passed y h a e (omega arith)
 
   -- one that does is put
-  pub trace-put : x < u.n → r x ≡ p → Trace u r p (x + 1) (set ps x true)
-  trace-put s g = record {
+  pub trace_put : x < u.n → r x ≡ p → Trace u r p (x + 1) (set ps x true)
+  trace_put s g = record {
     size = rw (length-set ps x true) t.size;
-    past = λ y h a e. go-true y (eqb y x) refl (λ w. t.past y h a e);
-    passed = λ y h a e l. go-true y (eqb y x) refl (λ w. t.passed y h a e (omega arith));
-    here = λ y h a e l. go-false y (λ w. omega arith) (t.here y h a e (omega arith));
-    later = λ y h a e. go-false y (λ w. let v : r y ≡ p = rw w g in omega arith) (t.later y h a e);
+    past = λ y h a e. go_true y (eqb y x) refl (λ w. t.past y h a e);
+    passed = λ y h a e l. go_true y (eqb y x) refl (λ w. t.passed y h a e (omega arith));
+    here = λ y h a e l. go_false y (λ w. omega arith) (t.here y h a e (omega arith));
+    later = λ y h a e. go_false y (λ w. let v : r y ≡ p = rw w g in omega arith) (t.later y h a e);
   }
     where
-      go-true : (y : ℕ) (b : Bool) → eqb y x ≡ b → ((y ≡ x → ⊥) → get_or ps y false ≡ true) → get_or (set ps x true) y false ≡ true
-      go-true y true q old = let w : y ≡ x = eqb-true y x q in rw w (get_or-set_same ps x true false (omega (arith, t.size)))
-      go-true y false q old = let w : y ≡ x → ⊥ = eqb-false y x q in get_or-set_other ps x y true false w ∙ old w
+      go_true : (y : ℕ) (b : Bool) → eqb y x ≡ b → ((y ≡ x → ⊥) → get_or ps y false ≡ true) → get_or (set ps x true) y false ≡ true
+      go_true y true q old = let w : y ≡ x = eqb-true y x q in rw w (get_or-set_same ps x true false (omega (arith, t.size)))
+      go_true y false q old = let w : y ≡ x → ⊥ = eqb-false y x q in get_or-set_other ps x y true false w ∙ old w
 
-      go-false : (y : ℕ) → (y ≡ x → ⊥) → get_or ps y false ≡ false → get_or (set ps x true) y false ≡ false
-      go-false y w old = get_or-set_other ps x y true false w ∙ old
+      go_false : (y : ℕ) → (y ≡ x → ⊥) → get_or ps y false ≡ false → get_or (set ps x true) y false ≡ false
+      go_false y w old = get_or-set_other ps x y true false w ∙ old
 
 -- the next row
-pub trace-next : (u : Rules) (r : ℕ → ℕ) (p x : ℕ) (ps : List Bool) → u.n ≤ x → Trace u r p x ps → Trace u r (p + 1) 0 ps
-trace-next u r p x ps end t = record {
+pub trace_next : (u : Rules) (r : ℕ → ℕ) (p x : ℕ) (ps : List Bool) → u.n ≤ x → Trace u r p x ps → Trace u r (p + 1) 0 ps
+trace_next u r p x ps end t = record {
   size = t.size;
   past = λ y h a e. go y h a e (eqb (r y) p) refl;
   passed = λ y h a e l. absurd (omega arith);
@@ -97,8 +97,8 @@ trace-next u r p x ps end t = record {
     go y h a e false q = let w : r y ≡ p → ⊥ = eqb-false (r y) p q in t.past y h a (omega arith)
 
 -- the start
-pub trace-start : (u : Rules) (r : ℕ → ℕ) (k : ℕ) → u.n ≤ k → Trace u r 0 0 (replicate k false)
-trace-start u r k le = record {
+pub trace_start : (u : Rules) (r : ℕ → ℕ) (k : ℕ) → u.n ≤ k → Trace u r 0 0 (replicate k false)
+trace_start u r k le = record {
   size = rw (length-replicate k false) le;
   past = λ y h a e. absurd (omega arith);
   passed = λ y h a e l. absurd (omega arith);
@@ -112,10 +112,10 @@ moved r x p y = cond (eqb y x) p (r y)
 
 module _ (r : ℕ → ℕ) (x p : ℕ) where
   -- the sum gets smaller
-  sum-off : (j a : ℕ) → x < a → sum (moved r x p) j a ≡ sum r j a
+  sum_off : (j a : ℕ) → x < a → sum (moved r x p) j a ≡ sum r j a
   unfolding sum
-  sum-off zero a h = refl
-  sum-off (suc j) a h = let w : a ≡ x → ⊥ = λ e. omega arith in rw (ne_eqb a x w, sum-off j (a + 1) (omega arith))
+  sum_off zero a h = refl
+  sum_off (suc j) a h = let w : a ≡ x → ⊥ = λ e. omega arith in rw (ne_eqb a x w, sum_off j (a + 1) (omega arith))
 
   pub sum_moved : p < r x → (j a : ℕ) → a ≤ x → x < a + j → sum (moved r x p) j a < sum r j a
   unfolding sum
@@ -124,19 +124,19 @@ module _ (r : ℕ → ℕ) (x p : ℕ) where
     where
       go : (b : Bool) → eqb a x ≡ b → (a + 1 ≤ x → x < a + 1 + j → sum (moved r x p) j (a + 1) < sum r j (a + 1))
           → cond b p (r a) + sum (moved r x p) j (a + 1) < r a + sum r j (a + 1)
-      go true q ih = let w : a ≡ x = eqb-true a x q in let v : r a ≡ r x = ap r w in omega (arith, sum-off j (a + 1) (omega arith))
+      go true q ih = let w : a ≡ x = eqb-true a x q in let v : r a ≡ r x = ap r w in omega (arith, sum_off j (a + 1) (omega arith))
       go false q ih = let w : a ≡ x → ⊥ = eqb-false a x q in omega (arith, ih (omega arith) (omega arith))
 
 -- a term of a load
-cond-le : (b : Bool) (c : ℕ) → cond b c 0 ≤ c
-cond-le true c = omega arith
-cond-le false c = omega arith
+cond_le : (b : Bool) (c : ℕ) → cond b c 0 ≤ c
+cond_le true c = omega arith
+cond_le false c = omega arith
 
 module _ (u : Rules) (r : ℕ → ℕ) (x p : ℕ) where
-  load-off : (q j a : ℕ) → x < a → load u (moved r x p) q j a ≡ load u r q j a
+  load_off : (q j a : ℕ) → x < a → load u (moved r x p) q j a ≡ load u r q j a
   unfolding load
-  load-off q zero a h = refl
-  load-off q (suc j) a h = let w : a ≡ x → ⊥ = λ e. omega arith in rw (ne_eqb a x w, load-off q j (a + 1) (omega arith))
+  load_off q zero a h = refl
+  load_off q (suc j) a h = let w : a ≡ x → ⊥ = λ e. omega arith in rw (ne_eqb a x w, load_off q j (a + 1) (omega arith))
 
   -- row p takes no more than the job's cost more
   pub load_moved : (j a : ℕ) → load u (moved r x p) p j a ≤ load u r p j a + u.cost x
@@ -150,14 +150,14 @@ module _ (u : Rules) (r : ℕ → ℕ) (x p : ℕ) where
       go true q ih =
           let w : a ≡ x = eqb-true a x q in
           let v : u.cost a ≡ u.cost x = ap u.cost w in
-          omega (arith, load-off p j (a + 1) (omega arith), cond-le (u.sided a && eqb p p) (u.cost a))
+          omega (arith, load_off p j (a + 1) (omega arith), cond_le (u.sided a && eqb p p) (u.cost a))
       go false q ih = omega arith
 
   -- the other rows take no more
-  pub load-others : (q : ℕ) → (p ≡ q → ⊥) → (j a : ℕ) → load u (moved r x p) q j a ≤ load u r q j a
+  pub load_others : (q : ℕ) → (p ≡ q → ⊥) → (j a : ℕ) → load u (moved r x p) q j a ≤ load u r q j a
   unfolding load
-  load-others q ne zero a = omega arith
-  load-others q ne (suc j) a = go (eqb a x) refl (u.sided a) (load-others q ne j (a + 1))
+  load_others q ne zero a = omega arith
+  load_others q ne (suc j) a = go (eqb a x) refl (u.sided a) (load_others q ne j (a + 1))
     where
       go : (b : Bool) → eqb a x ≡ b → (c : Bool) → load u (moved r x p) q j (a + 1) ≤ load u r q j (a + 1)
           → cond (c && eqb (cond b p (r a)) q) (u.cost a) 0 + load u (moved r x p) q j (a + 1) ≤ cond (c && eqb (r a) q) (u.cost a) 0 + load u r q j (a + 1)
@@ -171,11 +171,11 @@ module _ (u : Rules) (g : Lawful u) (rows : ℕ) (b : ℕ) (r : ℕ → ℕ) (v 
       → (x : ℕ) → x < u.n → more u p ps room x ≡ true → Better u b rows r
   unfolding more
   one_more e ps room end t s x h m =
-      let a = and-true-both (u.sided x) (not (get_or ps x false) && (leb (u.first x) p && (leb (u.cost x) room && u.free ps x))) m in
-      let b = and-true-both (not (get_or ps x false)) (leb (u.first x) p && (leb (u.cost x) room && u.free ps x)) a.1 in
-      let c = and-true-both (leb (u.first x) p) (leb (u.cost x) room && u.free ps x) b.1 in
-      let d = and-true-both (leb (u.cost x) room) (u.free ps x) c.1 in
-      build a.0 (not-is-true (get_or ps x false) b.0) (leb-true (u.first x) p c.0) (leb-true (u.cost x) room d.0) d.1
+      let a = and_true_both (u.sided x) (not (get_or ps x false) && (leb (u.first x) p && (leb (u.cost x) room && u.free ps x))) m in
+      let b = and_true_both (not (get_or ps x false)) (leb (u.first x) p && (leb (u.cost x) room && u.free ps x)) a.1 in
+      let c = and_true_both (leb (u.first x) p) (leb (u.cost x) room && u.free ps x) b.1 in
+      let d = and_true_both (leb (u.cost x) room) (u.free ps x) c.1 in
+      build a.0 (not_is_true (get_or ps x false) b.0) (leb-true (u.first x) p c.0) (leb-true (u.cost x) room d.0) d.1
     where
       build : u.sided x ≡ true → get_or ps x false ≡ false → u.first x ≤ p → u.cost x ≤ room → u.free ps x ≡ true → Better u b rows r
       build us un lo fits fr = record {
@@ -212,7 +212,7 @@ module _ (u : Rules) (g : Lawful u) (rows : ℕ) (b : ℕ) (r : ℕ → ℕ) (v 
 
           rooms : (q : ℕ) → b ≤ q → q < rows → (c : Bool) → eqb p q ≡ c → load u (moved r x p) q u.n 0 ≤ u.f
           rooms q lq hq true k = let w : p ≡ q = eqb-true p q k in rw (sym w) (omega (arith, load_moved u r x p u.n 0))
-          rooms q lq hq false k = omega (arith, load-others u r x p q (eqb-false p q k) u.n 0, v.room q lq hq)
+          rooms q lq hq false k = omega (arith, load_others u r x p q (eqb-false p q k) u.n 0, v.room q lq hq)
 
           order : (y z : ℕ) → y < u.n → z < u.n → u.sided y ≡ true → u.sided z ≡ true → u.before y z
               → (b : Bool) → eqb y x ≡ b → (c : Bool) → eqb z x ≡ c → cond b p (r y) ≤ cond c p (r z)
@@ -223,7 +223,7 @@ module _ (u : Rules) (g : Lawful u) (rows : ℕ) (b : ℕ) (r : ℕ → ℕ) (v 
               omega (arith, after, v.order y z hy hz uy uz w)
           order y z hy hz uy uz w false q true s =
               let k : z ≡ x = eqb-true z x s in
-              let d : get_or ps y false ≡ true = g.free-says ps x h fr y hy uy (rw k at w) in
+              let d : get_or ps y false ≡ true = g.free_says ps x h fr y hy uy (rw k at w) in
               go (ltb p (r y)) refl d
             where
               go : (b : Bool) → ltb p (r y) ≡ b → get_or ps y false ≡ true → r y ≤ p
@@ -241,8 +241,8 @@ module _ (u : Rules) (g : Lawful u) (rows : ℕ) (b : ℕ) (r : ℕ → ℕ) (v 
 
 -- where a state fails, no rows come through it at all
 module _ (u : Rules) (g : Lawful u) (rows p : ℕ) (ps : List Bool) (f : From u rows p ps) where
-  trace-kept : {r : ℕ → ℕ} → Trace u r p 0 ps → (w : Better u p rows r) → Trace u w.other p 0 ps
-  trace-kept {r} t w = record {
+  trace_kept : {r : ℕ → ℕ} → Trace u r p 0 ps → (w : Better u p rows r) → Trace u w.other p 0 ps
+  trace_kept {r} t w = record {
     size = t.size;
     past = λ y h a e. past y h a e (ltb (r y) p) refl;
     passed = λ y h a e l. absurd (omega arith);
@@ -266,7 +266,7 @@ module _ (u : Rules) (g : Lawful u) (rows p : ℕ) (ps : List Bool) (f : From u 
   none_below zero r v t e = let w = f.better g p (omega arith) r v t in omega (arith, w.less)
   none_below (suc s) r v t e =
       let w = f.better g p (omega arith) r v t in
-      none_below s w.other w.good (trace-kept t w) (omega (arith, w.less))
+      none_below s w.other w.good (trace_kept t w) (omega (arith, w.less))
 
   pub none_from : (r : ℕ → ℕ) → Rows u p rows r → Trace u r p 0 ps → ⊥
   none_from r v t = none_below (sum r u.n 0) r v t (omega arith)
@@ -275,10 +275,10 @@ module _ (u : Rules) (g : Lawful u) (rows p : ℕ) (ps : List Bool) (f : From u 
 abbrev unflagged : List Bool → (ℕ → ℕ) → ℕ → ℕ
 unflagged ps r y = cond (get_or ps y false) 0 (r y)
 
-load-fewer : (u : Rules) (ps : List Bool) (r : ℕ → ℕ) (q : ℕ) → 0 < q → (j a : ℕ) → load u (unflagged ps r) q j a ≤ load u r q j a
+load_fewer : (u : Rules) (ps : List Bool) (r : ℕ → ℕ) (q : ℕ) → 0 < q → (j a : ℕ) → load u (unflagged ps r) q j a ≤ load u r q j a
 unfolding load
-load-fewer u ps r q some zero a = omega arith
-load-fewer u ps r q some (suc j) a = go (get_or ps a false) (u.sided a) (load-fewer u ps r q some j (a + 1))
+load_fewer u ps r q some zero a = omega arith
+load_fewer u ps r q some (suc j) a = go (get_or ps a false) (u.sided a) (load_fewer u ps r q some j (a + 1))
   where
     go : (b c : Bool) → load u (unflagged ps r) q j (a + 1) ≤ load u r q j (a + 1)
         → cond (c && eqb (cond b 0 (r a)) q) (u.cost a) 0 + load u (unflagged ps r) q j (a + 1) ≤ cond (c && eqb (r a) q) (u.cost a) 0 + load u r q j (a + 1)
@@ -286,20 +286,20 @@ load-fewer u ps r q some (suc j) a = go (get_or ps a false) (u.sided a) (load-fe
     go true false ih = omega arith
     go false c ih = omega arith
 
-pub ordered-first : (u : Rules) (k : ℕ) → Ordered u (replicate k false)
-ordered-first u k = record { says = λ g y x hy hx uy b e. absurd (false≢true (sym (no_flag k x) ∙ e)) }
+pub ordered_first : (u : Rules) (k : ℕ) → Ordered u (replicate k false)
+ordered_first u k = record { says = λ g y x hy hx uy b e. absurd (false≢true (sym (no_flag k x) ∙ e)) }
   where
     no_flag : (k x : ℕ) → get_or (replicate k false) x false ≡ false
     no_flag zero x = refl
     no_flag (suc k) zero = refl
     no_flag (suc k) (suc x) = no_flag k x
 
-pub ordered-tested : {u : Rules} {ps : List Bool} → AllInOrder u ps → Ordered u ps
-ordered-tested {ps = ps} all = record { says = λ g y x hy hx uy b. g.order-says ps all y x hy hx b }
+pub ordered_tested : {u : Rules} {ps : List Bool} → AllInOrder u ps → Ordered u ps
+ordered_tested {ps = ps} all = record { says = λ g y x hy hx uy b. g.order_says ps all y x hy hx b }
 
 -- a job is put that no other must be put before
-pub ordered-put : {u : Rules} {ps : List Bool} → Ordered u ps → (i : ℕ) → i < length ps → i < u.n → u.free ps i ≡ true → Ordered u (set ps i true)
-ordered-put {u} {ps} o i size h fr = record { says = λ g y x hy hx uy b e. go g y x hy hx uy b e (eqb x i) refl }
+pub ordered_put : {u : Rules} {ps : List Bool} → Ordered u ps → (i : ℕ) → i < length ps → i < u.n → u.free ps i ≡ true → Ordered u (set ps i true)
+ordered_put {u} {ps} o i size h fr = record { says = λ g y x hy hx uy b e. go g y x hy hx uy b e (eqb x i) refl }
   where
     stays : (y : ℕ) (c : Bool) → eqb y i ≡ c → get_or ps y false ≡ true → get_or (set ps i true) y false ≡ true
     stays y true q e = let w : y ≡ i = eqb-true y i q in rw w (get_or-set_same ps i true false size)
@@ -307,17 +307,17 @@ ordered-put {u} {ps} o i size h fr = record { says = λ g y x hy hx uy b e. go g
 
     go : Lawful u → (y x : ℕ) → y < u.n → x < u.n → u.sided y ≡ true → u.before y x → get_or (set ps i true) x false ≡ true
         → (c : Bool) → eqb x i ≡ c → get_or (set ps i true) y false ≡ true
-    go g y x hy hx uy b e true q = let w : x ≡ i = eqb-true x i q in stays y (eqb y i) refl (g.free-says ps i h fr y hy uy (rw w at b))
+    go g y x hy hx uy b e true q = let w : x ≡ i = eqb-true x i q in stays y (eqb y i) refl (g.free_says ps i h fr y hy uy (rw w at b))
     go g y x hy hx uy b e false q =
         stays y (eqb y i) refl (o.says g y x hy hx uy b (sym (get_or-set_other ps i x true false (eqb-false x i q)) ∙ e))
 
 -- where a state in which the order is kept fails, a state of the same row with fewer flags fails: its rows, for the jobs without a flag there,
 -- would be rows for the first
-pub from-fewer : (u : Rules) (rows p : ℕ) (ps qs : List Bool) → 0 < p → u.n ≤ length ps → From u rows p ps → Ordered u ps → Fewer qs ps → From u rows p qs
-from-fewer u rows p ps qs some size f closed fewer = record { better = λ g b le r v t. absurd (none g b le r v t) }
+pub from_fewer : (u : Rules) (rows p : ℕ) (ps qs : List Bool) → 0 < p → u.n ≤ length ps → From u rows p ps → Ordered u ps → Fewer qs ps → From u rows p qs
+from_fewer u rows p ps qs some size f closed fewer = record { better = λ g b le r v t. absurd (none g b le r v t) }
   where
     none : Lawful u → (b : ℕ) → b ≤ p → (r : ℕ → ℕ) → Rows u b rows r → Trace u r p 0 qs → ⊥
-    none g b le r v t = none_from u g rows p ps f (unflagged ps r) rows_left trace-left
+    none g b le r v t = none_from u g rows p ps f (unflagged ps r) rows_left trace_left
       where
         within : (y : ℕ) (c : Bool) → p ≤ cond c 0 (r y) → cond c 0 (r y) ≡ r y
         within y true l = absurd (omega arith)
@@ -332,7 +332,7 @@ from-fewer u rows p ps qs some size f closed fewer = record { better = λ g b le
         rows_left = record {
           low = λ x h a l. let e = within x (get_or ps x false) l in rw e (v.low x h a (omega (arith, e)));
           high = λ x h a l. let e = within x (get_or ps x false) l in rw e (v.high x h a (omega (arith, e)));
-          room = λ q l h. omega (arith, load-fewer u ps r q (omega arith) u.n 0, v.room q (omega arith) h);
+          room = λ q l h. omega (arith, load_fewer u ps r q (omega arith) u.n 0, v.room q (omega arith) h);
           order = λ y x hy hx uy ux w. order y x (get_or ps y false) (get_or ps x false) (closed.says g y x hy hx uy w) (v.order y x hy hx uy ux w);
         }
 
@@ -344,8 +344,8 @@ from-fewer u rows p ps qs some size f closed fewer = record { better = λ g b le
         unset y true l = absurd (omega arith)
         unset y false l = refl
 
-        trace-left : Trace u (unflagged ps r) p 0 ps
-        trace-left = record {
+        trace_left : Trace u (unflagged ps r) p 0 ps
+        trace_left = record {
           size = size;
           past = λ y h a l. past y h a (get_or ps y false) refl l;
           passed = λ y h a e l. absurd (omega arith);
@@ -355,4 +355,4 @@ from-fewer u rows p ps qs some size f closed fewer = record { better = λ g b le
 
 -- no row for each job, with k flags and a flag for each job
 pub from_start : (u : Rules) → Lawful u → (rows k : ℕ) → u.n ≤ k → From u rows 0 (replicate k false) → (r : ℕ → ℕ) → Rows u 0 rows r → ⊥
-from_start u g rows k le f r v = none_from u g rows 0 (replicate k false) f r v (trace-start u r k le)
+from_start u g rows k le f r v = none_from u g rows 0 (replicate k false) f r v (trace_start u r k le)

@@ -10,17 +10,17 @@ use native.Mathlib.Omega.{arith}
 use lib.ListN.{length, take, drop, get_or, set, length-set, length-append}
 use lib.Seq.{length-take-le, take-suc-set, take-take, take-set-le, drop-set-lt, set-set, set-get_or}
 use Rattle.search.specs.Search.{Found, none, at, Walk}
-use Rattle.search.specs.Counting.{on_none, on-found, attemptWalk, fromWalk, walk_end, walk_more, walk-all, walk-next, walk-may, walk-not}
-use Rattle.search.specs.Placing.{planWalk, Problem, fits, windowStart, frameCount, Bounds}
-use Rattle.search.specs.BestLaws.{placing-more}
-use Rattle.searcher.specs.Arrays.{jobsIn, problemIn, Ready}
+use Rattle.search.specs.Counting.{on_none, on_found, attempt_walk, from_walk, walk_end, walk_more, walk_all, walk_next, walk_may, walk_not}
+use Rattle.search.specs.Placing.{plan_walk, Problem, fits, window_start, frame_count, Bounds}
+use Rattle.search.specs.BestLaws.{placing_more}
+use Rattle.searcher.specs.Arrays.{jobs_in, problem_in, Ready}
 use Rattle.searcher.proofs.Laws.{put}
 use Rattle.exact_searcher.specs.Arrays.{PlacedSoFar, Searching, Probing, Decided, DecidedJob, DecidedFrame}
 
 -- no job is left
 pub all_placed : {x : Problem} {n : ℕ} {place load : List ℕ} {i : ℕ} → Ready x n place load → i ≡ n → DecidedJob x n place load i true place load
 all_placed {x} {n} {place} {load} {i} r h = record {
-  yes = λ _. rw h (ap (λ (w : Walk). w.found) (walk-all x (take n place) (length-take-le n place r.places ∙ sym r.jobs)));
+  yes = λ _. rw h (ap (λ (w : Walk). w.found) (walk_all x (take n place) (length-take-le n place r.places ∙ sym r.jobs)));
   no = λ e. absurd (false≢true (sym e));
   kept = refl;
   beyond = refl;
@@ -35,7 +35,7 @@ pub record Trying (x : Problem) (n : ℕ) (place₀ load₀ : List ℕ) (i : ℕ
   pub beyond : drop n place ≡ drop n place₀
   pub size : length place ≡ length place₀
   pub undone : load ≡ load₀
-  pub rest : (planWalk x (take i place₀)).found ≡ (fromWalk x (take i place₀) k).found
+  pub rest : (plan_walk x (take i place₀)).found ≡ (from_walk x (take i place₀) k).found
   pub at_row : row ≡ k % x.rows
   pub from : get_or x.first i 0 ≤ k
 
@@ -49,7 +49,7 @@ module _ {x : Problem} {n : ℕ} {place load : List ℕ} {i : ℕ} (more : i < n
   -- the loop begins
   pub none_tried : {k : ℕ} → k ≡ get_or x.first i 0 → Trying x n place load i place load k (k % x.rows)
   none_tried {k} e =
-      let d : planWalk x p ≡ fromWalk x p k = rw e (rw len at (walk-next x p (omega (arith, len, r.jobs)))) in
+      let d : plan_walk x p ≡ from_walk x p k = rw e (rw len at (walk_next x p (omega (arith, len, r.jobs)))) in
       record { kept = refl; beyond = refl; size = refl; undone = refl; rest = ap (λ (w : Walk). w.found) d; at_row = refl; from = omega arith }
 
   module _ {k row : ℕ} {place' load' : List ℕ} (v : Trying x n place load i place' load' k row) where
@@ -66,13 +66,13 @@ module _ {x : Problem} {n : ℕ} {place load : List ℕ} {i : ℕ} (more : i < n
 
     module _ {e : ℕ} (is : e ≡ get_or x.end i 0) (h : k < e) {b : Bool} {place₂ load₂ : List ℕ} (d : DecidedFrame x n place' load' i k b place₂ load₂) where
       abbrev here : Walk
-      here = attemptWalk x p k
+      here = attempt_walk x p k
 
       abbrev behind : Walk
-      behind = fromWalk x p (k + 1)
+      behind = from_walk x p (k + 1)
 
-      of-here : Decided here.found n place' load' i b place₂ load₂
-      of-here = subst (λ (l : List ℕ). Decided (attemptWalk x l k).found n place' load' i b place₂ load₂) v.kept d
+      of_here : Decided here.found n place' load' i b place₂ load₂
+      of_here = subst (λ (l : List ℕ). Decided (attempt_walk x l k).found n place' load' i b place₂ load₂) v.kept d
 
       -- the loop goes on
       pub pass_on : b ≡ false → {row' : ℕ} → row' ≡ (row + 1) % x.rows → Trying x n place load i place₂ load₂ (k + 1) row'
@@ -81,15 +81,15 @@ module _ {x : Problem} {n : ℕ} {place load : List ℕ} {i : ℕ} (more : i < n
         beyond = d.beyond ∙ v.beyond;
         size = d.size ∙ v.size;
         undone = d.undone q ∙ v.undone;
-        rest = v.rest ∙ ap (λ (w : Walk). w.found) (walk_more x p k (rw (len, ← is) h) ∙ on_none here.tries behind (of-here.no q));
+        rest = v.rest ∙ ap (λ (w : Walk). w.found) (walk_more x p k (rw (len, ← is) h) ∙ on_none here.tries behind (of_here.no q));
         at_row = w ∙ rw v.at_row (mod-add-mod k x.rows 1);
         from = omega (arith, v.from);
       }
 
       -- the job and those after it are placed
-      pub pass-yes : b ≡ true → DecidedJob x n place load i true place₂ load₂
-      pass-yes q = record {
-        yes = λ _. v.rest ∙ ap (λ (w : Walk). w.found) (walk_more x p k (rw (len, ← is) h) ∙ on-found here.tries behind (of-here.yes q));
+      pub pass_yes : b ≡ true → DecidedJob x n place load i true place₂ load₂
+      pass_yes q = record {
+        yes = λ _. v.rest ∙ ap (λ (w : Walk). w.found) (walk_more x p k (rw (len, ← is) h) ∙ on_found here.tries behind (of_here.yes q));
         no = λ t. absurd (false≢true (sym t));
         kept = d.kept ∙ v.kept;
         beyond = d.beyond ∙ v.beyond;
@@ -98,10 +98,10 @@ module _ {x : Problem} {n : ℕ} {place load : List ℕ} {i : ℕ} (more : i < n
       }
 
 -- the job is tested in the next frame: things are as they were before a frame was tried
-pub probe : {g : List (List ℕ)} {links tied place load : List ℕ} {i : ℕ} → i < jobsIn g → Searching g links tied place load i
-    → {place' load' : List ℕ} {k row : ℕ} → Trying (problemIn g links) (jobsIn g) place load i place' load' k row
-    → {e : ℕ} → e ≡ get_or (problemIn g links).end i 0 → k < e
-    → {low high : ℕ} → Bounds (problemIn g links) (take i place') i low high → Probing g links tied place' load' i k row low high
+pub probe : {g : List (List ℕ)} {links tied place load : List ℕ} {i : ℕ} → i < jobs_in g → Searching g links tied place load i
+    → {place' load' : List ℕ} {k row : ℕ} → Trying (problem_in g links) (jobs_in g) place load i place' load' k row
+    → {e : ℕ} → e ≡ get_or (problem_in g links).end i 0 → k < e
+    → {low high : ℕ} → Bounds (problem_in g links) (take i place') i low high → Probing g links tied place' load' i k row low high
 probe {g} {links} {tied} {place} {load} {i} more s v is h bounds = record {
   testing = record {
     more = more;
@@ -109,7 +109,7 @@ probe {g} {links} {tied} {place} {load} {i} more s v is h bounds = record {
       proper = r.proper;
       jobs = r.jobs;
       few = r.few;
-      few-rows = r.few-rows;
+      few_rows = r.few_rows;
       short = r.short;
       places = rw v.size r.places;
       row_room = rw v.undone r.row_room;
@@ -123,16 +123,16 @@ probe {g} {links} {tied} {place} {load} {i} more s v is h bounds = record {
   window = record { from = v.from; to = omega (arith, is) };
 }
   where
-    r : Ready (problemIn g links) (jobsIn g) place load
+    r : Ready (problem_in g links) (jobs_in g) place load
     r = s.placing.ready
 
 -- job i is tested in frame k
 module _ {g : List (List ℕ)} {links tied place load : List ℕ} {i k row low high : ℕ} (s : Probing g links tied place load i k row low high) where
   abbrev x : Problem
-  x = problemIn g links
+  x = problem_in g links
 
   abbrev n : ℕ
-  n = jobsIn g
+  n = jobs_in g
 
   abbrev before : List ℕ
   before = take i place
@@ -147,7 +147,7 @@ module _ {g : List (List ℕ)} {links tied place load : List ℕ} {i k row low h
   pub refused : fits x before k ≡ false → DecidedFrame x n place load i k false place load
   refused e = record {
     yes = λ t. absurd (false≢true t);
-    no = λ _. ap (λ (w : Walk). w.found) (walk-not x before k e);
+    no = λ _. ap (λ (w : Walk). w.found) (walk_not x before k e);
     kept = refl;
     beyond = refl;
     size = refl;
@@ -156,41 +156,41 @@ module _ {g : List (List ℕ)} {links tied place load : List ℕ} {i k row low h
 
   module _ (may : fits x before k ≡ true) where
     abbrev sub : Found
-    sub = (planWalk x (before ++ (k ∷ []))).found
+    sub = (plan_walk x (before ++ (k ∷ []))).found
 
-    found_here : (attemptWalk x before k).found ≡ sub
-    found_here = ap (λ (w : Walk). w.found) (walk-may x before k may)
+    found_here : (attempt_walk x before k).found ≡ sub
+    found_here = ap (λ (w : Walk). w.found) (walk_may x before k may)
 
     -- with it the jobs are placed so far
-    pub put-so-far : PlacedSoFar x (take (i + 1) (set place i k)) (i + 1)
-    put-so-far =
+    pub put_so_far : PlacedSoFar x (take (i + 1) (set place i k)) (i + 1)
+    put_so_far =
         let one_more : length (before ++ (k ∷ [])) ≡ i + 1 = length-append before (k ∷ []) ∙ ap (λ (j : ℕ). j + 1) size in
-        let start : windowStart x (length before) ≤ k = rw size s.window.from in
-        let stop : k < windowStart x (length before) + frameCount x (length before) = rw size (omega (arith, s.window.from, s.window.to)) in
-        rw snoc (rw one_more at (placing-more (fits x) (windowStart x) (frameCount x) before k (rw size s.so_far) start stop may))
+        let start : window_start x (length before) ≤ k = rw size s.window.from in
+        let stop : k < window_start x (length before) + frame_count x (length before) = rw size (omega (arith, s.window.from, s.window.to)) in
+        rw snoc (rw one_more at (placing_more (fits x) (window_start x) (frame_count x) before k (rw size s.so_far) start stop may))
 
-    put-size : length (set place i k) ≡ length place
-    put-size = length-set place i k
+    put_size : length (set place i k) ≡ length place
+    put_size = length-set place i k
 
     -- no placing begins so
-    pub pruned-off : (planWalk x (take (i + 1) (set place i k))).found ≡ none → DecidedFrame x n place load i k false (set place i k) load
-    pruned-off e = record {
+    pub pruned_off : (plan_walk x (take (i + 1) (set place i k))).found ≡ none → DecidedFrame x n place load i k false (set place i k) load
+    pruned_off e = record {
       yes = λ t. absurd (false≢true t);
-      no = λ _. found_here ∙ subst (λ (l : List ℕ). (planWalk x l).found ≡ none) snoc e;
+      no = λ _. found_here ∙ subst (λ (l : List ℕ). (plan_walk x l).found ≡ none) snoc e;
       kept = take-set-le i place i k (omega arith);
       beyond = drop-set-lt n place i k s.testing.more;
-      size = put-size;
+      size = put_size;
       undone = λ _. refl;
     }
 
-    module _ {v : ℕ} (v-is : v ≡ get_or load row 0 + get_or x.cost i 0) where
+    module _ {v : ℕ} (v_is : v ≡ get_or load row 0 + get_or x.cost i 0) where
       -- it is put there
-      pub put-searching : Searching g links tied (set place i k) (set load row v) (i + 1)
-      put-searching = record { placing = put s.testing v-is; marks = s.marks; so_far = put-so-far }
+      pub put_searching : Searching g links tied (set place i k) (set load row v) (i + 1)
+      put_searching = record { placing = put s.testing v_is; marks = s.marks; so_far = put_so_far }
 
       module _ {b : Bool} {place' load' : List ℕ} (d : DecidedJob x n (set place i k) (set load row v) (i + 1) b place' load') where
-        of-sub : Decided sub n (set place i k) (set load row v) (i + 1) b place' load'
-        of-sub = subst (λ (l : List ℕ). Decided (planWalk x l).found n (set place i k) (set load row v) (i + 1) b place' load') snoc d
+        of_sub : Decided sub n (set place i k) (set load row v) (i + 1) b place' load'
+        of_sub = subst (λ (l : List ℕ). Decided (plan_walk x l).found n (set place i k) (set load row v) (i + 1) b place' load') snoc d
 
         kept_here : take i place' ≡ take i place
         kept_here =
@@ -200,11 +200,11 @@ module _ {g : List (List ℕ)} {links tied place load : List ℕ} {i k row low h
         -- the jobs after it were placed too
         pub went : b ≡ true → DecidedFrame x n place load i k true place' load'
         went q = record {
-          yes = λ _. found_here ∙ of-sub.yes q;
+          yes = λ _. found_here ∙ of_sub.yes q;
           no = λ t. absurd (false≢true (sym t));
           kept = kept_here;
           beyond = d.beyond ∙ drop-set-lt n place i k s.testing.more;
-          size = d.size ∙ put-size;
+          size = d.size ∙ put_size;
           undone = λ t. absurd (false≢true (sym t));
         }
 
@@ -212,9 +212,9 @@ module _ {g : List (List ℕ)} {links tied place load : List ℕ} {i k row low h
         pub back : b ≡ false → DecidedFrame x n place load i k false place' (set load' row (get_or load row 0))
         back q = record {
           yes = λ t. absurd (false≢true t);
-          no = λ _. found_here ∙ of-sub.no q;
+          no = λ _. found_here ∙ of_sub.no q;
           kept = kept_here;
           beyond = d.beyond ∙ drop-set-lt n place i k s.testing.more;
-          size = d.size ∙ put-size;
+          size = d.size ∙ put_size;
           undone = λ _. ap (λ (l : List ℕ). set l row (get_or load row 0)) (d.undone q) ∙ set-set load row v (get_or load row 0) ∙ set-get_or load row 0;
         }

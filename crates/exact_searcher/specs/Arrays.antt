@@ -3,28 +3,28 @@ use Rattle.std.specs.Prelude.{◌≡◌, Bool, true, false, cond, List, ℕ, ◌
 use Rattle.cursor.specs.Padded.{padded}
 use Rattle.search.specs.Search.{Found, none, at}
 use Rattle.search.specs.Best as best
-use Rattle.search.specs.Placing.{Problem, fits, windowStart, frameCount, planWalk}
-use Rattle.search.specs.Counting.{attemptWalk}
-use Rattle.searcher.specs.Arrays.{partIn, countsIn, jobsIn, problemIn, Placing, Testing}
+use Rattle.search.specs.Placing.{Problem, fits, window_start, frame_count, plan_walk}
+use Rattle.search.specs.Counting.{attempt_walk}
+use Rattle.searcher.specs.Arrays.{part_in, counts_in, jobs_in, problem_in, Placing, Testing}
 use Rattle.prune.specs.Arrays.{Marked}
 use Rattle.exact_searcher.specs.declared.FirstPlacing.{FirstPlacing}
 
 -- the domain of job i where the first `at` jobs are placed: its own frame, or its window
-abbrev pub lowBy : List (List ℕ) → List ℕ → ℕ → ℕ → ℕ
-lowBy g place m i = cond (ltb i m) (get_or place i 0) (get_or (partIn g 1) i 0)
+abbrev pub low_by : List (List ℕ) → List ℕ → ℕ → ℕ → ℕ
+low_by g place m i = cond (ltb i m) (get_or place i 0) (get_or (part_in g 1) i 0)
 
-abbrev pub highBy : List (List ℕ) → List ℕ → ℕ → ℕ → ℕ
-highBy g place m i = cond (ltb i m) (min (get_or place i 0 + 1) (get_or (partIn g 2) i 0)) (get_or (partIn g 2) i 0)
+abbrev pub high_by : List (List ℕ) → List ℕ → ℕ → ℕ → ℕ
+high_by g place m i = cond (ltb i m) (min (get_or place i 0 + 1) (get_or (part_in g 2) i 0)) (get_or (part_in g 2) i 0)
 
 -- the jobs of p are placed, each in its window where it may stand
 abbrev pub PlacedSoFar : Problem → List ℕ → ℕ → Type 0
-PlacedSoFar x p i = best.Placing (fits x) (windowStart x) (frameCount x) i p
+PlacedSoFar x p i = best.Placing (fits x) (window_start x) (frame_count x) i p
 
 -- the first i jobs are placed, with the loads of the rows, and the others are to be; with the jobs that are tied
 pub record Searching (g : List (List ℕ)) (links tied place load : List ℕ) (i : ℕ) : Type 0 where
-  pub placing : Placing (problemIn g links) (jobsIn g) place load i
-  pub marks : Marked (countsIn g) links (jobsIn g) tied
-  pub so_far : PlacedSoFar (problemIn g links) (take i place) i
+  pub placing : Placing (problem_in g links) (jobs_in g) place load i
+  pub marks : Marked (counts_in g) links (jobs_in g) tied
+  pub so_far : PlacedSoFar (problem_in g links) (take i place) i
 
 -- frame k lies in the window of job i
 pub record InWindow (x : Problem) (i k : ℕ) : Type 0 where
@@ -33,10 +33,10 @@ pub record InWindow (x : Problem) (i k : ℕ) : Type 0 where
 
 -- what it takes to test job i in frame k of its window
 pub record Probing (g : List (List ℕ)) (links tied place load : List ℕ) (i k row low high : ℕ) : Type 0 where
-  pub testing : Testing (problemIn g links) (jobsIn g) place load i k row low high
-  pub marks : Marked (countsIn g) links (jobsIn g) tied
-  pub so_far : PlacedSoFar (problemIn g links) (take i place) i
-  pub window : InWindow (problemIn g links) i k
+  pub testing : Testing (problem_in g links) (jobs_in g) place load i k row low high
+  pub marks : Marked (counts_in g) links (jobs_in g) tied
+  pub so_far : PlacedSoFar (problem_in g links) (take i place) i
+  pub window : InWindow (problem_in g links) i k
 
 -- how things are left where the search finds o: yes leaves the placing in `place`; no leaves every load as before; the jobs before i keep their
 -- frames, and what stands behind the n jobs is left alone
@@ -50,13 +50,13 @@ pub record Decided (o : Found) (n : ℕ) (place load : List ℕ) (i : ℕ) (r : 
 
 -- job i was tried in the frames of its window
 abbrev pub DecidedJob : Problem → ℕ → List ℕ → List ℕ → ℕ → Bool → List ℕ → List ℕ → Type 0
-DecidedJob x n place load i r place' load' = Decided (planWalk x (take i place)).found n place load i r place' load'
+DecidedJob x n place load i r place' load' = Decided (plan_walk x (take i place)).found n place load i r place' load'
 
 -- job i was tried in frame k
 abbrev pub DecidedFrame : Problem → ℕ → List ℕ → List ℕ → ℕ → ℕ → Bool → List ℕ → List ℕ → Type 0
-DecidedFrame x n place load i k r place' load' = Decided (attemptWalk x (take i place) k).found n place load i r place' load'
+DecidedFrame x n place load i k r place' load' = Decided (attempt_walk x (take i place) k).found n place load i r place' load'
 
 -- what is found, as it is answered
-unfoldable pub foundAnswer : Found → FirstPlacing
-foundAnswer (at frames) = record { found = true; frames = padded 128 0 frames }
-foundAnswer none = record { found = false; frames = replicate 128 0 }
+unfoldable pub found_answer : Found → FirstPlacing
+found_answer (at frames) = record { found = true; frames = padded 128 0 frames }
+found_answer none = record { found = false; frames = replicate 128 0 }

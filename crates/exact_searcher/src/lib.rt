@@ -6,10 +6,10 @@
 // tried is in the hinted row, it is not asked. `words` is the sweep's. Nothing is known of the three, and nothing need be.
 ghost use Rattle.std.specs.Prelude.{◌≡◌, true, false, cond, [], ◌+◌, ◌≤◌, ◌<◌, min, take};
 ghost use Rattle.search.specs.Search.{none};
-ghost use Rattle.search.specs.Placing.{planWalk};
-ghost use Rattle.searcher.specs.Arrays.{Placeable, problemOf, countsIn, jobsIn, problemIn};
+ghost use Rattle.search.specs.Placing.{plan_walk};
+ghost use Rattle.searcher.specs.Arrays.{Placeable, problem_of, counts_in, jobs_in, problem_in};
 ghost use Rattle.prune.specs.Arrays.{Packed, Filled, Marked};
-ghost use Rattle.exact_searcher.specs.Arrays.{lowBy, highBy, PlacedSoFar, Searching, Probing, DecidedJob, DecidedFrame, foundAnswer};
+ghost use Rattle.exact_searcher.specs.Arrays.{low_by, high_by, PlacedSoFar, Searching, Probing, DecidedJob, DecidedFrame, found_answer};
 
 use searcher::Given;
 
@@ -38,8 +38,8 @@ fn after(k: u16, e: u16) -> u16
 
 // The first frame of each job's domain, where the first `at` jobs are placed.
 fn low_frames(given: &[[u16; 128]; 5], place: &[u16; 128], at: usize) -> [u16; 128]
-    requires { jobsIn given.now ≤ 128 }
-    ensures { Filled (lowBy given.now place.now at) (jobsIn given.now) result }
+    requires { jobs_in given.now ≤ 128 }
+    ensures { Filled (low_by given.now place.now at) (jobs_in given.now) result }
 {
     let n = given[4][2] as usize;
     let mut out = [0u16; 128];
@@ -53,8 +53,8 @@ fn low_frames(given: &[[u16; 128]; 5], place: &[u16; 128], at: usize) -> [u16; 1
 
 // One past the last.
 fn high_frames(given: &[[u16; 128]; 5], place: &[u16; 128], at: usize) -> [u16; 128]
-    requires { jobsIn given.now ≤ 128 }
-    ensures { Filled (highBy given.now place.now at) (jobsIn given.now) result }
+    requires { jobs_in given.now ≤ 128 }
+    ensures { Filled (high_by given.now place.now at) (jobs_in given.now) result }
 {
     let n = given[4][2] as usize;
     let mut out = [0u16; 128];
@@ -70,7 +70,7 @@ fn high_frames(given: &[[u16; 128]; 5], place: &[u16; 128], at: usize) -> [u16; 
 // Whether some rows must hold too much whatever the placing; false says nothing.
 fn is_crowded(given: &[[u16; 128]; 5], links: &[u8; 2048], place: &[u16; 128]) -> bool
     requires { Packed given.now links.now }
-    ensures { result ≡ true → (planWalk (problemIn given.now links.now) []).found ≡ none }
+    ensures { result ≡ true → (plan_walk (problem_in given.now links.now) []).found ≡ none }
 {
     let low = low_frames(given, place, 0);
     let high = high_frames(given, place, 0);
@@ -88,10 +88,10 @@ fn is_hopeless(
     at: usize,
 ) -> bool
     requires packed { Packed given.now links.now }
-    requires marked { Marked (countsIn given.now) links.now (jobsIn given.now) tied.now }
-    requires at_bound { at ≤ jobsIn given.now }
-    requires placed_so_far { PlacedSoFar (problemIn given.now links.now) (take at place.now) at }
-    ensures { result ≡ true → (planWalk (problemIn given.now links.now) (take at place.now)).found ≡ none }
+    requires marked { Marked (counts_in given.now) links.now (jobs_in given.now) tied.now }
+    requires at_bound { at ≤ jobs_in given.now }
+    requires placed_so_far { PlacedSoFar (problem_in given.now links.now) (take at place.now) at }
+    ensures { result ≡ true → (plan_walk (problem_in given.now links.now) (take at place.now)).found ≡ none }
 {
     let low = low_frames(given, place, at);
     let high = high_frames(given, place, at);
@@ -135,10 +135,10 @@ fn is_pruned(
     row: usize,
 ) -> bool
     requires packed { Packed given.now links.now }
-    requires marked { Marked (countsIn given.now) links.now (jobsIn given.now) tied.now }
-    requires i_bound { i < jobsIn given.now }
-    requires placed_so_far { PlacedSoFar (problemIn given.now links.now) (take (i + 1) place.now) (i + 1) }
-    ensures { result ≡ true → (planWalk (problemIn given.now links.now) (take (i + 1) place.now)).found ≡ none }
+    requires marked { Marked (counts_in given.now) links.now (jobs_in given.now) tied.now }
+    requires i_bound { i < jobs_in given.now }
+    requires placed_so_far { PlacedSoFar (problem_in given.now links.now) (take (i + 1) place.now) (i + 1) }
+    ensures { result ≡ true → (plan_walk (problem_in given.now links.now) (take (i + 1) place.now)).found ≡ none }
 {
     if is_hinted(hint, i, row) {
         return false;
@@ -164,7 +164,7 @@ fn place_job(
     i: usize,
 ) -> bool
     requires { Searching given.now links.now tied.now place.old load.old i }
-    ensures { DecidedJob (problemIn given.now links.now) (jobsIn given.now)
+    ensures { DecidedJob (problem_in given.now links.now) (jobs_in given.now)
         place.old load.old i result place.new load.new }
 {
     let n = given[4][2] as usize;
@@ -207,7 +207,7 @@ fn try_frame(
     high: u16,
 ) -> bool
     requires { Probing given.now links.now tied.now place.old load.old i k row low high }
-    ensures { DecidedFrame (problemIn given.now links.now) (jobsIn given.now)
+    ensures { DecidedFrame (problem_in given.now links.now) (jobs_in given.now)
         place.old load.old i k result place.new load.new }
 {
     if !searcher::may_stand(given, links, place, load, i, k, row, low, high) {
@@ -230,7 +230,7 @@ fn try_frame(
 // The first placing of the jobs, if there is one.
 pub fn place_all(given: Given) -> FirstPlacing
     requires { Placeable given }
-    ensures { result ≡ foundAnswer (planWalk (problemOf given) []).found }
+    ensures { result ≡ found_answer (plan_walk (problem_of given) []).found }
 {
     let packed = searcher::pack(given);
     let links = given.links;

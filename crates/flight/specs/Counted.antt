@@ -5,20 +5,20 @@ use Rattle.std.proofs.Common.{ap, ◌∙◌, arith, ltb-true, ltb-false}
 use Rattle.std.proofs.Math.Bool.{false}
 use mathlib.Core.List.{List, [], ◌∷◌}
 use Rattle.cursor.specs.Choice.{bit}
-use Rattle.cursor.specs.PaddedLaws.{getD-blanks}
+use Rattle.cursor.specs.PaddedLaws.{get_or_blanks}
 use Rattle.request.specs.Request.{Reading, readable, unreadable, reading}
 use Rattle.table.specs.Table.{decode}
-use Rattle.dispatcher.specs.Dispatch.{noOverruns, freshState, exceeds, reported, overran}
-use Rattle.dispatcher.specs.FrameLaws.{frame-counts}
-use Rattle.dispatcher.specs.ReportLaws.{report-counted, report-unknown, report-unreadable, report-as-many, raised-only}
+use Rattle.dispatcher.specs.Dispatch.{no_overruns, fresh_state, exceeds, reported, overran}
+use Rattle.dispatcher.specs.FrameLaws.{frame_counts}
+use Rattle.dispatcher.specs.ReportLaws.{report_counted, report_unknown, report_unreadable, report_as_many, raised_only}
 use Rattle.dispatcher.specs.declared.State.{State}
-use Rattle.flight.specs.Calls.{Call, next-frame, report, dispatch, final}
-use Rattle.flight.specs.Overruns.{overrunIn, overruns}
+use Rattle.flight.specs.Calls.{Call, next_frame_call, report, dispatch, final}
+use Rattle.flight.specs.Overruns.{overrun_in, overruns}
 
 pub as_many : (bytes : List ℕ) (s : State) (c : Call) → length (dispatch bytes s c).after.counts ≡ length s.counts
 unfolding dispatch
-as_many bytes s next-frame = ap (λ (l : List ℕ). length l) (frame-counts (decode bytes) s)
-as_many bytes s (report request task ticks) = report-as-many (reading request) task ticks s
+as_many bytes s next_frame_call = ap (λ (l : List ℕ). length l) (frame_counts (decode bytes) s)
+as_many bytes s (report request task ticks) = report_as_many (reading request) task ticks s
 
 module _ (i : ℕ) where
   -- the count of task i rises by `more`, up to 65,535
@@ -30,12 +30,12 @@ module _ (i : ℕ) where
   stays true counts small = omega arith
   stays false counts small = omega arith
 
-  report-rises : (r : Reading) (task ticks : ℕ) (s : State) → i < length s.counts → get_or s.counts i 0 ≤ 65535
+  report_rises : (r : Reading) (task ticks : ℕ) (s : State) → i < length s.counts → get_or s.counts i 0 ≤ 65535
       → Rises (bit (eqb task i && overran r task ticks)) s.counts (reported r task ticks s).state.counts
   unfolding overran
-  report-rises (unreadable n) task ticks s within small =
-      rw (report-unreadable (unreadable n) task ticks s n refl) (stays (eqb task i) s.counts small)
-  report-rises (readable tasks pairs g) task ticks s within small = go (ltb task (length tasks)) refl
+  report_rises (unreadable n) task ticks s within small =
+      rw (report_unreadable (unreadable n) task ticks s n refl) (stays (eqb task i) s.counts small)
+  report_rises (readable tasks pairs g) task ticks s within small = go (ltb task (length tasks)) refl
     where
       r : Reading
       r = readable tasks pairs g
@@ -45,26 +45,26 @@ module _ (i : ℕ) where
 
       go : (b : Bool) → ltb task (length tasks) ≡ b
           → Rises (bit (eqb task i && (ltb task (length tasks) && over))) s.counts (reported r task ticks s).state.counts
-      go true q = rw (report-counted r task ticks s tasks pairs g refl (ltb-true task (length tasks) q), q) (raised-only over task s.counts i within small)
-      go false q = rw (report-unknown r task ticks s tasks pairs g refl (ltb-false task (length tasks) q), q) (stays (eqb task i) s.counts small)
+      go true q = rw (report_counted r task ticks s tasks pairs g refl (ltb-true task (length tasks) q), q) (raised_only over task s.counts i within small)
+      go false q = rw (report_unknown r task ticks s tasks pairs g refl (ltb-false task (length tasks) q), q) (stays (eqb task i) s.counts small)
 
   module _ (bytes : List ℕ) where
-    one-rises : (s : State) (c : Call) → i < length s.counts → get_or s.counts i 0 ≤ 65535
-        → Rises (overrunIn i c) s.counts (dispatch bytes s c).after.counts
+    one_rises : (s : State) (c : Call) → i < length s.counts → get_or s.counts i 0 ≤ 65535
+        → Rises (overrun_in i c) s.counts (dispatch bytes s c).after.counts
     unfolding dispatch
-    one-rises s next-frame within small = rw (frame-counts (decode bytes) s) (stays false s.counts small)
-    one-rises s (report request task ticks) within small = report-rises (reading request) task ticks s within small
+    one_rises s next_frame_call within small = rw (frame_counts (decode bytes) s) (stays false s.counts small)
+    one_rises s (report request task ticks) within small = report_rises (reading request) task ticks s within small
 
-    all-rise : (s : State) (cs : List Call) → i < length s.counts → get_or s.counts i 0 ≤ 65535
+    all_rise : (s : State) (cs : List Call) → i < length s.counts → get_or s.counts i 0 ≤ 65535
         → Rises (overruns i cs) s.counts (final (dispatch bytes) s cs).counts
     unfolding final overruns
-    all-rise s [] within small = stays false s.counts small
-    all-rise s (c ∷ cs) within small =
-        let one = one-rises s c within small in
-        all-rise (dispatch bytes s c).after cs (omega (arith, as_many bytes s c)) (omega (arith, one)) ∙ rw one (omega arith)
+    all_rise s [] within small = stays false s.counts small
+    all_rise s (c ∷ cs) within small =
+        let one = one_rises s c within small in
+        all_rise (dispatch bytes s c).after cs (omega (arith, as_many bytes s c)) (omega (arith, one)) ∙ rw one (omega arith)
 
     -- all counts are 0 at first
-    pub overruns-counted : i < 16 → (calls : List Call) → get_or (final (dispatch bytes) freshState calls).counts i 0 ≡ min 65535 (overruns i calls)
-    overruns-counted few calls =
-        let none : get_or noOverruns i 0 ≡ 0 = getD-blanks 16 0 [] i in
-        all-rise freshState calls few (omega arith) ∙ rw none (ap (min 65535) (omega arith))
+    pub overruns_counted : i < 16 → (calls : List Call) → get_or (final (dispatch bytes) fresh_state calls).counts i 0 ≡ min 65535 (overruns i calls)
+    overruns_counted few calls =
+        let none : get_or no_overruns i 0 ≡ 0 = get_or_blanks 16 0 [] i in
+        all_rise fresh_state calls few (omega arith) ∙ rw none (ap (min 65535) (omega arith))

@@ -4,34 +4,34 @@ use Rattle.std.specs.Prelude.{ℕ, ◌≡◌, List}
 use Rattle.cursor.specs.Fields.{Bytes}
 use Rattle.table.specs.Table.{Table}
 use Rattle.table.specs.TableBytes.{SaysTable}
-use Rattle.table.specs.TableBytesLaws.{says-decodes}
+use Rattle.table.specs.TableBytesLaws.{says_decodes}
 use Rattle.model.specs.Plan.{Instance}
 use Rattle.model.specs.Within.{Within}
 use Rattle.model.specs.Described.{Accepted}
-use Rattle.planner.specs.Outcome.{searchedAnswer}
-use Rattle.planner.specs.HandedBytes.{handedBytes}
-use Rattle.planner.specs.HandedBytesLaws.{handed-chosen}
-use Rattle.checker.specs.Checked.{checkNumber}
-use Rattle.checker.specs.ExactlyLaws.{check-exact}
+use Rattle.planner.specs.Outcome.{searched_answer}
+use Rattle.planner.specs.HandedBytes.{handed_bytes}
+use Rattle.planner.specs.HandedBytesLaws.{handed_chosen}
+use Rattle.checker.specs.Checked.{check_number}
+use Rattle.checker.specs.ExactlyLaws.{check_exact}
 use Rattle.flight.specs.Flight.{Flies}
 use Rattle.flight.specs.Theorem.{flight}
 
-accepted-flies : (requestBytes tableBytes : List ℕ) (x : Instance) → Within requestBytes x → (t : Table) → SaysTable tableBytes t → Accepted x t
-    → Flies requestBytes tableBytes
-accepted-flies requestBytes tableBytes x within t says accepted =
-    record { x = x; within = within; t = t; says = says; flies = flight requestBytes tableBytes x t within (says-decodes tableBytes t says) accepted }
+accepted_flies : (request_bytes table_bytes : List ℕ) (x : Instance) → Within request_bytes x → (t : Table) → SaysTable table_bytes t → Accepted x t
+    → Flies request_bytes table_bytes
+accepted_flies request_bytes table_bytes x within t says accepted =
+    record { x = x; within = within; t = t; says = says; flies = flight request_bytes table_bytes x t within (says_decodes table_bytes t says) accepted }
 
 -- Every table that the check accepts flies.
-pub checked-flight : (requestBytes tableBytes : List ℕ) → Bytes tableBytes → checkNumber requestBytes tableBytes ≡ 0 → Flies requestBytes tableBytes
-checked-flight requestBytes tableBytes are e =
-    let c = (check-exact requestBytes tableBytes are).accepts.0 e in
-    accepted-flies requestBytes tableBytes c.0 c.1 c.2 c.3 c.4
+pub checked_flight : (request_bytes table_bytes : List ℕ) → Bytes table_bytes → check_number request_bytes table_bytes ≡ 0 → Flies request_bytes table_bytes
+checked_flight request_bytes table_bytes are e =
+    let c = (check_exact request_bytes table_bytes are).accepts.0 e in
+    accepted_flies request_bytes table_bytes c.0 c.1 c.2 c.3 c.4
 
 -- The bytes that the planner hands out fly, whatever it was allowed.
-pub planned-flight : (allowance : ℕ) (requestBytes out : List ℕ) → (searchedAnswer allowance requestBytes out).refusal ≡ 0
-    → Flies requestBytes (handedBytes allowance requestBytes out)
-planned-flight allowance requestBytes out e =
-    let c = handed-chosen allowance requestBytes out e in
+pub planned_flight : (allowance : ℕ) (request_bytes out : List ℕ) → (searched_answer allowance request_bytes out).refusal ≡ 0
+    → Flies request_bytes (handed_bytes allowance request_bytes out)
+planned_flight allowance request_bytes out e =
+    let c = handed_chosen allowance request_bytes out e in
     let h = c.handed in
-    accepted-flies requestBytes (handedBytes allowance requestBytes out) c.x c.within h.t c.says
-    (record { f = h.f; frames = h.frames; is-plan = h.is-chosen.is-plan; describes = h.describes })
+    accepted_flies request_bytes (handed_bytes allowance request_bytes out) c.x c.within h.t c.says
+    (record { f = h.f; frames = h.frames; is_plan = h.is_chosen.is_plan; describes = h.describes })

@@ -6,31 +6,31 @@ use Rattle.table.specs.Table.{Table}
 use Rattle.table.specs.TableBytes.{SaysTable}
 use Rattle.model.specs.Plan.{Instance}
 use Rattle.model.specs.Within.{Within}
-use Rattle.checker.specs.Checked.{checkNumber}
+use Rattle.checker.specs.Checked.{check_number}
 use Rattle.flight.specs.Calls as flight
 use Rattle.flight.specs.Flight as flown
 use Rattle.flight.specs.Timing.{KeepToC}
-use Rattle.heater_link.specs.Exchange.{freshLink}
-use Rattle.heater_link.specs.Exactly.{IsPair, rowAnswered}
-use Rattle.heater_link.specs.Calls.{Ask, answersGiven, linkFrom}
+use Rattle.heater_link.specs.Exchange.{fresh_link}
+use Rattle.heater_link.specs.Exactly.{IsPair, row_answered}
+use Rattle.heater_link.specs.Calls.{Ask, answers_given, link_from}
 use Rattle.heater_link.specs.declared.Losses.{Losses}
 use Rattle.heater_link.specs.declared.Exchange.{Exchange}
 
-abbrev pub askFor : List ℕ → List ℕ → ℕ → ℕ → Losses → Ask
-askFor request table a b lost = record { request = request; table = table; a = a; b = b; lost = lost }
+abbrev pub ask_for : List ℕ → List ℕ → ℕ → ℕ → Losses → Ask
+ask_for request table a b lost = record { request = request; table = table; a = a; b = b; lost = lost }
 
 module _ (request table : List ℕ) (a b : ℕ) (losses : List Losses) where
-  abbrev pub asksOf : List Ask
-  asksOf = map (askFor request table a b) losses
+  abbrev pub asks_of : List Ask
+  asks_of = map (ask_for request table a b) losses
 
   -- one next-frame call for each
-  abbrev pub framesAsked : List flight.Call
-  framesAsked = map (λ (l : Losses). flight.next-frame) losses
+  abbrev pub frames_asked : List flight.Call
+  frames_asked = map (λ (l : Losses). flight.next_frame_call) losses
 
   pub record SameFrames (x : Instance) (t : Table) : Type 0 where
-    pub same-answers : map (λ (r : Exchange). flight.frame (rowAnswered r)) (answersGiven asksOf) ≡ flown.answersGiven table framesAsked
-    pub same-state : (linkFrom freshLink asksOf).state ≡ flown.stateAfter table framesAsked
-    pub flies : (actual : ℕ → ℕ → ℕ) → KeepToC x (flown.framesFlown table framesAsked) actual → flown.Flight x table t framesAsked actual
+    pub same_answers : map (λ (r : Exchange). flight.frame (row_answered r)) (answers_given asks_of) ≡ flown.answers_given table frames_asked
+    pub same_state : (link_from fresh_link asks_of).state ≡ flown.state_after table frames_asked
+    pub flies : (actual : ℕ → ℕ → ℕ) → KeepToC x (flown.frames_flown table frames_asked) actual → flown.Flight x table t frames_asked actual
 
 pub record LinkFlies (request table : List ℕ) : Type 0 where
   pub x : Instance
@@ -41,4 +41,4 @@ pub record LinkFlies (request table : List ℕ) : Type 0 where
 
 -- for every table that the check accepts
 abbrev pub LinkFlight : Type 0
-LinkFlight = (request table : List ℕ) → Bytes table → checkNumber request table ≡ 0 → LinkFlies request table
+LinkFlight = (request table : List ℕ) → Bytes table → check_number request table ≡ 0 → LinkFlies request table

@@ -2,12 +2,12 @@
 -- And P7, whose job is carried, over the same change.
 use Rattle.std.specs.Prelude.{ℕ, zero, suc, ◌+◌, ◌≡◌, true, false, List, [], ◌∷◌}
 use Rattle.table.specs.Table.{Table, table, decode}
-use Rattle.model.specs.Plan.{Instance, taskAt}
+use Rattle.model.specs.Plan.{Instance, task_at}
 use Rattle.model.specs.Within.{Within}
 use Rattle.checker.specs.Checked as checker
-use Rattle.flight.specs.Calls.{Call, next-frame}
+use Rattle.flight.specs.Calls.{Call, next_frame_call}
 use Rattle.flight.specs.Timing.{KeepToC}
-use Rattle.flight.specs.Flight.{framesFlown, Started, starts}
+use Rattle.flight.specs.Flight.{frames_flown, Started, starts}
 use Rattle.flight_spacing.specs.Spacing.{Successive}
 
 -- A request, an accepted table and a list of calls
@@ -22,24 +22,24 @@ pub record Example : Type 0 where
 pub record Checked (e : Example) : Type 0 where
   pub within : Within e.request e.x
   pub says : decode e.bytes ≡ table e.t
-  pub accepted : checker.checkNumber e.request e.bytes ≡ 0
+  pub accepted : checker.check_number e.request e.bytes ≡ 0
 
 -- in this flight two successive jobs start, the first at tick `one` and the second at tick `two`
 pub record Readings (e : Example) (actual : ℕ → ℕ → ℕ) (i j q k r one two : ℕ) : Type 0 where
-  pub keep : KeepToC e.x (framesFlown e.bytes e.calls) actual
+  pub keep : KeepToC e.x (frames_flown e.bytes e.calls) actual
   pub successive : Successive e.x i j q k r
   pub m : ℕ
   pub p : ℕ
   pub first : Started e.x e.bytes e.t e.calls actual i j q m p
-  pub first-at : starts e.x e.bytes e.t e.calls actual m p ≡ one
+  pub first_at : starts e.x e.bytes e.t e.calls actual m p ≡ one
   pub n : ℕ
   pub o : ℕ
   pub second : Started e.x e.bytes e.t e.calls actual i k r n o
   pub second_at : starts e.x e.bytes e.t e.calls actual n o ≡ two
 
 -- (7,10,10,0) (3,10,10,0): one row, so each frame is a cycle. Task 1 starts when task 0 ends.
-abbrev pub oneRow : Example
-oneRow = record {
+abbrev pub one_row : Example
+one_row = record {
   x = record {
     tasks = record { c = 7; t = 10; d = 10; p = 0 } ∷ record { c = 3; t = 10; d = 10; p = 0 } ∷ [];
     pairs = [];
@@ -50,7 +50,7 @@ oneRow = record {
   request = 2 ∷ 7 ∷ 0 ∷ 10 ∷ 0 ∷ 10 ∷ 0 ∷ 0 ∷ 0 ∷ 3 ∷ 0 ∷ 10 ∷ 0 ∷ 10 ∷ 0 ∷ 0 ∷ 0 ∷ 0 ∷ [];
   bytes = 2 ∷ 10 ∷ 0 ∷ 10 ∷ 0 ∷ 1 ∷ 0 ∷ 2 ∷ 0 ∷ 0 ∷ 1 ∷ 0 ∷ [];
   t = record { f = 10; h = 10; rows = (record { task = 0; number = 0; carried = false } ∷ record { task = 1; number = 0; carried = false } ∷ []) ∷ [] };
-  calls = next-frame ∷ next-frame ∷ [];
+  calls = next_frame_call ∷ next_frame_call ∷ [];
 }
 
 -- task 0 takes no time in the first cycle and its C in the second
@@ -79,17 +79,17 @@ P7 = record {
   request = 1 ∷ 2 ∷ 0 ∷ 10 ∷ 0 ∷ 9 ∷ 0 ∷ 6 ∷ 0 ∷ 0 ∷ [];
   bytes = 2 ∷ 5 ∷ 0 ∷ 10 ∷ 0 ∷ 2 ∷ 0 ∷ 1 ∷ 0 ∷ 128 ∷ 0 ∷ [];
   t = record { f = 5; h = 10; rows = (record { task = 0; number = 0; carried = true } ∷ []) ∷ [] ∷ [] };
-  calls = next-frame ∷ next-frame ∷ next-frame ∷ next-frame ∷ next-frame ∷ [];
+  calls = next_frame_call ∷ next_frame_call ∷ next_frame_call ∷ next_frame_call ∷ next_frame_call ∷ [];
 }
 
 pub record Reached : Type 0 where
-  pub row-checked : Checked oneRow
+  pub row_checked : Checked one_row
   -- job 0 of task 1 of cycles 0 and 1: 17 ticks apart, and T + (D − C) is 10 + 7
-  pub most : Readings oneRow slower 1 0 0 0 1 0 17
-  pub most-is : 17 + (taskAt oneRow.x 1).c ≡ 0 + (taskAt oneRow.x 1).t + (taskAt oneRow.x 1).d
+  pub most : Readings one_row slower 1 0 0 0 1 0 17
+  pub most_is : 17 + (task_at one_row.x 1).c ≡ 0 + (task_at one_row.x 1).t + (task_at one_row.x 1).d
   -- 3 ticks apart, and T − (D − C) is 10 − 7
-  pub least : Readings oneRow faster 1 0 0 0 1 7 10
-  pub least-is : 7 + (taskAt oneRow.x 1).t + (taskAt oneRow.x 1).c ≡ 10 + (taskAt oneRow.x 1).d
+  pub least : Readings one_row faster 1 0 0 0 1 7 10
+  pub least_is : 7 + (task_at one_row.x 1).t + (task_at one_row.x 1).c ≡ 10 + (task_at one_row.x 1).d
   -- P7's job of cycle 0 is served first in frame 2, so at 10, and that of cycle 1 in frame 4
-  pub p7-checked : Checked P7
+  pub p7_checked : Checked P7
   pub carried : Readings P7 (λ m p. 0) 0 0 0 0 1 10 20

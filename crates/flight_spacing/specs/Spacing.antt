@@ -2,29 +2,29 @@
 -- one task are at least T − (D − C) and at most T + (D − C) ticks apart, for every list of calls, the change from the first cycle to the second included."
 use Rattle.std.specs.Prelude.{◌≡◌, ◌↔◌, ◌⊎◌, List, ℕ, ◌+◌, ◌≤◌, ◌<◌}
 use Rattle.request.specs.declared.Task.{Task}
-use Rattle.cycle.specs.Cycle.{jobsIn}
+use Rattle.cycle.specs.Cycle.{jobs_in}
 use Rattle.cycle.specs.Planned.{IsJob}
 use Rattle.table.specs.Table.{Entry, Table}
 use Rattle.table.specs.TableBytes.{SaysTable}
-use Rattle.model.specs.Plan.{Instance, taskAt}
+use Rattle.model.specs.Plan.{Instance, task_at}
 use Rattle.model.specs.Within.{Within}
 use Rattle.flight.specs.Calls.{Call}
-use Rattle.flight.specs.Timing.{Served, served_at, KeepToC, releasedIn}
-use Rattle.flight.specs.Flight.{framesFlown, Started, starts}
+use Rattle.flight.specs.Timing.{Served, served_at, KeepToC, released_in}
+use Rattle.flight.specs.Flight.{frames_flown, Started, starts}
 
 -- "two successive jobs of one task": job j of cycle q, and job k of cycle r. The second is released T after the first, whatever cycles they are of.
 pub record Successive (x : Instance) (i j q k r : ℕ) : Type 0 where
-  pub first-is : IsJob x.tasks x.h i j
+  pub first_is : IsJob x.tasks x.h i j
   pub second_is : IsJob x.tasks x.h i k
-  pub one-period : releasedIn x r i k ≡ releasedIn x q i j + (taskAt x i).t
+  pub one_period : released_in x r i k ≡ released_in x q i j + (task_at x i).t
 
 -- What that comes to: the next number in the same cycle, or the last of a cycle and the first of the next
 
 abbrev pub NextNumber : Instance → ℕ → ℕ → ℕ → ℕ → ℕ → Type 0
-NextNumber x i j q k r = (k ≡ j + 1) × (k < jobsIn x.tasks x.h i) × (r ≡ q)
+NextNumber x i j q k r = (k ≡ j + 1) × (k < jobs_in x.tasks x.h i) × (r ≡ q)
 
 abbrev pub NextCycle : Instance → ℕ → ℕ → ℕ → ℕ → ℕ → Type 0
-NextCycle x i j q k r = (j + 1 ≡ jobsIn x.tasks x.h i) × (k ≡ 0) × (r ≡ q + 1)
+NextCycle x i j q k r = (j + 1 ≡ jobs_in x.tasks x.h i) × (k ≡ 0) × (r ≡ q + 1)
 
 -- Every job of every cycle has one after it, and just that one.
 pub record SuccessiveMeans (x : Instance) (i j q : ℕ) : Type 0 where
@@ -38,27 +38,27 @@ pub record Apart (task : Task) (one two : ℕ) : Type 0 where
   pub at_most : two + task.c ≤ one + task.t + task.d
 
 -- the request with its cycle, the bytes of the table and what they say, the list of calls, the actual times
-module _ (x : Instance) (tableBytes : List ℕ) (t : Table) (calls : List Call) (actual : ℕ → ℕ → ℕ) where
+module _ (x : Instance) (table_bytes : List ℕ) (t : Table) (calls : List Call) (actual : ℕ → ℕ → ℕ) where
   -- the job has started
   abbrev pub HasStarted : ℕ → ℕ → ℕ → Type 0
-  HasStarted i j q = (m : ℕ) × (p : ℕ) × Started x tableBytes t calls actual i j q m p
+  HasStarted i j q = (m : ℕ) × (p : ℕ) × Started x table_bytes t calls actual i j q m p
 
   -- That a job starts at all is the flight's own claim (due-ran-once).
   pub record Spacing : Type 0 where
     -- the starts of two successive jobs that have both started
     pub apart : (i j q k r : ℕ) → Successive x i j q k r
-        → (m p : ℕ) → Started x tableBytes t calls actual i j q m p
-        → (n o : ℕ) → Started x tableBytes t calls actual i k r n o
-        → Apart (taskAt x i) (starts x tableBytes t calls actual m p) (starts x tableBytes t calls actual n o)
+        → (m p : ℕ) → Started x table_bytes t calls actual i j q m p
+        → (n o : ℕ) → Started x table_bytes t calls actual i k r n o
+        → Apart (task_at x i) (starts x table_bytes t calls actual m p) (starts x table_bytes t calls actual n o)
     -- no reading is left out before another: where the later one has started, so has the earlier one
-    pub none-left-out : (i j q k r : ℕ) → Successive x i j q k r → HasStarted i k r → HasStarted i j q
+    pub none_left_out : (i j q k r : ℕ) → Successive x i j q k r → HasStarted i k r → HasStarted i j q
     -- and none lies between: a start of the task from the one to the other is one of the two
     pub none_between : (i j q k r : ℕ) → Successive x i j q k r
-        → (m p : ℕ) → Started x tableBytes t calls actual i j q m p
-        → (n o : ℕ) → Started x tableBytes t calls actual i k r n o
-        → (l s u v : ℕ) → Started x tableBytes t calls actual i l s u v
-        → starts x tableBytes t calls actual m p ≤ starts x tableBytes t calls actual u v
-        → starts x tableBytes t calls actual u v ≤ starts x tableBytes t calls actual n o
+        → (m p : ℕ) → Started x table_bytes t calls actual i j q m p
+        → (n o : ℕ) → Started x table_bytes t calls actual i k r n o
+        → (l s u v : ℕ) → Started x table_bytes t calls actual i l s u v
+        → starts x table_bytes t calls actual m p ≤ starts x table_bytes t calls actual u v
+        → starts x table_bytes t calls actual u v ≤ starts x table_bytes t calls actual n o
         → ((u ≡ m) × (v ≡ p)) ⊎ ((u ≡ n) × (v ≡ o))
 
 -- place p of frame m is served before place o of frame n
@@ -68,23 +68,23 @@ Before m p n o = (m < n) ⊎ ((m ≡ n) × (p < o))
 -- "while transfers keep to their C": those that were served before the entry at place o of frame n
 abbrev pub KeepBefore : Instance → List (List Entry) → (ℕ → ℕ → ℕ) → ℕ → ℕ → Type 0
 KeepBefore x frames actual n o =
-    (m p : ℕ) → Served frames m p → Before m p n o → actual m p ≤ (taskAt x (served_at frames m p).task).c
+    (m p : ℕ) → Served frames m p → Before m p n o → actual m p ≤ (task_at x (served_at frames m p).task).c
 
 -- The bounds hold of two starts if all that was served before the later one kept to its C. What is longer later on takes nothing back.
 abbrev pub ApartWhile : Instance → List ℕ → Table → List Call → (ℕ → ℕ → ℕ) → Type 0
-ApartWhile x tableBytes t calls actual =
+ApartWhile x table_bytes t calls actual =
     (i j q k r : ℕ) → Successive x i j q k r
-    → (m p : ℕ) → Started x tableBytes t calls actual i j q m p
-    → (n o : ℕ) → Started x tableBytes t calls actual i k r n o
-    → KeepBefore x (framesFlown tableBytes calls) actual n o
-    → Apart (taskAt x i) (starts x tableBytes t calls actual m p) (starts x tableBytes t calls actual n o)
+    → (m p : ℕ) → Started x table_bytes t calls actual i j q m p
+    → (n o : ℕ) → Started x table_bytes t calls actual i k r n o
+    → KeepBefore x (frames_flown table_bytes calls) actual n o
+    → Apart (task_at x i) (starts x table_bytes t calls actual m p) (starts x table_bytes t calls actual n o)
 
 -- of the public calls' answers: the request is within the limits, the bytes have the form of a table, and the readings are spaced for every list of calls and
 -- all actual times from 0 to C; and while they are from 0 to C
-pub record Spaced (requestBytes tableBytes : List ℕ) : Type 0 where
+pub record Spaced (request_bytes table_bytes : List ℕ) : Type 0 where
   pub x : Instance
-  pub within : Within requestBytes x
+  pub within : Within request_bytes x
   pub t : Table
-  pub says : SaysTable tableBytes t
-  pub spaced : (calls : List Call) (actual : ℕ → ℕ → ℕ) → KeepToC x (framesFlown tableBytes calls) actual → Spacing x tableBytes t calls actual
-  pub spaced-while : (calls : List Call) (actual : ℕ → ℕ → ℕ) → ApartWhile x tableBytes t calls actual
+  pub says : SaysTable table_bytes t
+  pub spaced : (calls : List Call) (actual : ℕ → ℕ → ℕ) → KeepToC x (frames_flown table_bytes calls) actual → Spacing x table_bytes t calls actual
+  pub spaced_while : (calls : List Call) (actual : ℕ → ℕ → ℕ) → ApartWhile x table_bytes t calls actual

@@ -8,7 +8,7 @@ use Rattle.timer.specs.declared.Timer.{Timer}
 use Rattle.timer.specs.declared.RegisterRead.{RegisterRead}
 use Rattle.timer.specs.declared.Changed.{Changed}
 use Rattle.timer.specs.declared.FrameServed.{FrameServed}
-use Rattle.timer.specs.Registers.{freshTimer, registerRead, afterWrite, afterEvent, serving, reporting, lineOn}
+use Rattle.timer.specs.Registers.{fresh_timer, register_read, after_write, after_event, serving, reporting, line_on}
 
 -- an address to read; an address and a byte to write; a timer event; a serving, with any bytes as its table; a report, with any bytes as its request, any task
 -- number and any ticks; and a look at the interrupt line
@@ -21,27 +21,27 @@ pub data RegisterCall : Type 0 where
   line : RegisterCall
 
 -- what each kind of call gives, and `else` for a read and a look at the line
-abbrev pub onCall {ℓ} : {A : Type ℓ} → (ℕ → ℕ → A) → A → (List ℕ → A) → (List ℕ → ℕ → ℕ → A) → A → RegisterCall → A
-onCall onWrite onEvent onServe onReport else (read address) = else
-onCall onWrite onEvent onServe onReport else (write address value) = onWrite address value
-onCall onWrite onEvent onServe onReport else event = onEvent
-onCall onWrite onEvent onServe onReport else (serve bytes) = onServe bytes
-onCall onWrite onEvent onServe onReport else (report bytes task ticks) = onReport bytes task ticks
-onCall onWrite onEvent onServe onReport else line = else
+abbrev pub on_call {ℓ} : {A : Type ℓ} → (ℕ → ℕ → A) → A → (List ℕ → A) → (List ℕ → ℕ → ℕ → A) → A → RegisterCall → A
+on_call on_write on_event on_serve on_report else (read address) = else
+on_call on_write on_event on_serve on_report else (write address value) = on_write address value
+on_call on_write on_event on_serve on_report else event = on_event
+on_call on_write on_event on_serve on_report else (serve bytes) = on_serve bytes
+on_call on_write on_event on_serve on_report else (report bytes task ticks) = on_report bytes task ticks
+on_call on_write on_event on_serve on_report else line = else
 
 -- something that one kind of call gives, and `else` for every other call
 
-abbrev pub onWrite {ℓ} : {A : Type ℓ} → (ℕ → ℕ → A) → A → RegisterCall → A
-onWrite f else c = onCall f else (λ bytes. else) (λ bytes task ticks. else) else c
+abbrev pub on_write {ℓ} : {A : Type ℓ} → (ℕ → ℕ → A) → A → RegisterCall → A
+on_write f else c = on_call f else (λ bytes. else) (λ bytes task ticks. else) else c
 
-abbrev pub onEvent {ℓ} : {A : Type ℓ} → A → A → RegisterCall → A
-onEvent a else c = onCall (λ address value. else) a (λ bytes. else) (λ bytes task ticks. else) else c
+abbrev pub on_event {ℓ} : {A : Type ℓ} → A → A → RegisterCall → A
+on_event a else c = on_call (λ address value. else) a (λ bytes. else) (λ bytes task ticks. else) else c
 
-abbrev pub onServe {ℓ} : {A : Type ℓ} → (List ℕ → A) → A → RegisterCall → A
-onServe f else c = onCall (λ address value. else) else f (λ bytes task ticks. else) else c
+abbrev pub on_serve {ℓ} : {A : Type ℓ} → (List ℕ → A) → A → RegisterCall → A
+on_serve f else c = on_call (λ address value. else) else f (λ bytes task ticks. else) else c
 
-abbrev pub onReport {ℓ} : {A : Type ℓ} → (List ℕ → ℕ → ℕ → A) → A → RegisterCall → A
-onReport f else c = onCall (λ address value. else) else (λ bytes. else) f else c
+abbrev pub on_report {ℓ} : {A : Type ℓ} → (List ℕ → ℕ → ℕ → A) → A → RegisterCall → A
+on_report f else c = on_call (λ address value. else) else (λ bytes. else) f else c
 
 -- what a call answers besides the timer: a register's byte, the number of a write (0 is none), nothing for an event, a frame or the number of a report as the
 -- dispatcher answers them, the line's level
@@ -57,48 +57,48 @@ pub record RegisterTurn : Type 0 where
   pub answer : RegisterAnswer
   pub after : Timer
 
-abbrev pub rowServed : FrameServed → Row
-rowServed a = record { refusal = a.refusal; count = a.count; tasks = a.tasks; jobs = a.jobs }
+abbrev pub row_served : FrameServed → Row
+row_served a = record { refusal = a.refusal; count = a.count; tasks = a.tasks; jobs = a.jobs }
 
-abbrev pub writeTurn : Changed → RegisterTurn
-writeTurn a = record { answer = number a.refusal; after = a.timer }
+abbrev pub write_turn : Changed → RegisterTurn
+write_turn a = record { answer = number a.refusal; after = a.timer }
 
-abbrev pub serveTurn : FrameServed → RegisterTurn
-serveTurn a = record { answer = said (flight.frame (rowServed a)); after = a.timer }
+abbrev pub serve_turn : FrameServed → RegisterTurn
+serve_turn a = record { answer = said (flight.frame (row_served a)); after = a.timer }
 
-abbrev pub reportedTurn : Changed → RegisterTurn
-reportedTurn a = record { answer = said (flight.number a.refusal); after = a.timer }
+abbrev pub reported_turn : Changed → RegisterTurn
+reported_turn a = record { answer = said (flight.number a.refusal); after = a.timer }
 
 -- what the calls ensure
 unfoldable pub turn : Timer → RegisterCall → RegisterTurn
-turn t (read address) = record { answer = byte (registerRead address t); after = t }
-turn t (write address value) = writeTurn (afterWrite address value t)
-turn t event = record { answer = nothing; after = afterEvent t }
-turn t (serve bytes) = serveTurn (serving (decode bytes) t)
-turn t (report bytes task ticks) = reportedTurn (reporting (reading bytes) task ticks t)
-turn t line = record { answer = level (lineOn t); after = t }
+turn t (read address) = record { answer = byte (register_read address t); after = t }
+turn t (write address value) = write_turn (after_write address value t)
+turn t event = record { answer = nothing; after = after_event t }
+turn t (serve bytes) = serve_turn (serving (decode bytes) t)
+turn t (report bytes task ticks) = reported_turn (reporting (reading bytes) task ticks t)
+turn t line = record { answer = level (line_on t); after = t }
 
 -- each call takes the timer that the last one returned
-unfoldable pub registerAnswersFrom : Timer → List RegisterCall → List RegisterAnswer
-registerAnswersFrom t [] = []
-registerAnswersFrom t (c ∷ cs) = (turn t c).answer ∷ registerAnswersFrom (turn t c).after cs
+unfoldable pub register_answers_from : Timer → List RegisterCall → List RegisterAnswer
+register_answers_from t [] = []
+register_answers_from t (c ∷ cs) = (turn t c).answer ∷ register_answers_from (turn t c).after cs
 
-unfoldable pub timerFrom : Timer → List RegisterCall → Timer
-timerFrom t [] = t
-timerFrom t (c ∷ cs) = timerFrom (turn t c).after cs
+unfoldable pub timer_from : Timer → List RegisterCall → Timer
+timer_from t [] = t
+timer_from t (c ∷ cs) = timer_from (turn t c).after cs
 
 -- the list starts from the fresh timer
-abbrev pub registerAnswers : List RegisterCall → List RegisterAnswer
-registerAnswers calls = registerAnswersFrom freshTimer calls
+abbrev pub register_answers : List RegisterCall → List RegisterAnswer
+register_answers calls = register_answers_from fresh_timer calls
 
-abbrev pub timerAfter : List RegisterCall → Timer
-timerAfter calls = timerFrom freshTimer calls
+abbrev pub timer_after : List RegisterCall → Timer
+timer_after calls = timer_from fresh_timer calls
 
 -- the number that an answer gives; 0 is none
-abbrev pub numberAnswered : RegisterAnswer → ℕ
-numberAnswered (byte r) = r.refusal
-numberAnswered (number n) = n
-numberAnswered nothing = 0
-numberAnswered (said (flight.frame r)) = r.refusal
-numberAnswered (said (flight.number n)) = n
-numberAnswered (level on) = 0
+abbrev pub number_answered : RegisterAnswer → ℕ
+number_answered (byte r) = r.refusal
+number_answered (number n) = n
+number_answered nothing = 0
+number_answered (said (flight.frame r)) = r.refusal
+number_answered (said (flight.number n)) = n
+number_answered (level on) = 0

@@ -4,71 +4,71 @@ use Rattle.std.proofs.Common.{sym, ap, ◌∙◌, mod-lt, arith}
 use mathlib.Core.List.{List, flat_map}
 use Rattle.cursor.specs.Range.{range}
 use Rattle.table.specs.Table.{Table, Decoded, table, malformed, decode, row_of}
-use Rattle.table.specs.Inverse.{decode-wellformed}
-use Rattle.table.specs.RisingLaws.{rising-few, row-rises}
-use Rattle.table.specs.AnswerLaws.{entries-given, given-count}
+use Rattle.table.specs.Inverse.{decode_wellformed}
+use Rattle.table.specs.RisingLaws.{rising_few, row_rises}
+use Rattle.table.specs.AnswerLaws.{entries_given, given_count}
 use Rattle.table.specs.Left.{less_one, none_left}
-use Rattle.dispatcher.specs.Dispatch.{noOverruns, stateAt, shown, moved, nextFrame, entriesOf}
-use Rattle.dispatcher.specs.FrameLaws.{frame-served, served-rises, moved_at}
+use Rattle.dispatcher.specs.Dispatch.{no_overruns, state_at, shown, moved, next_frame, entries_of}
+use Rattle.dispatcher.specs.FrameLaws.{frame_served_lem, served_rises, moved_at}
 use Rattle.dispatcher.specs.declared.State.{State}
 use Rattle.dispatcher.specs.declared.Frame.{Frame}
 use Rattle.plan_writer.specs.Outcome.{handed, refusal}
-use Rattle.planner.specs.Outcome.{programOutcome}
-use Rattle.flight.specs.Calls.{height, plainFrame}
-use Rattle.text.specs.Text.{Filled, putAllOf}
-use Rattle.text.specs.TextLaws.{put-none, put-append}
-use Rattle.plan_listing.specs.Listing.{refusedLine}
-use Rattle.plan_listing.specs.Answers.{tableIn}
-use Rattle.fly_listing.specs.Flown.{frameLine, line_at, flightLines, flown, flightListing}
+use Rattle.planner.specs.Outcome.{program_outcome}
+use Rattle.flight.specs.Calls.{height, plain_frame}
+use Rattle.text.specs.Text.{Filled, put_all_of}
+use Rattle.text.specs.TextLaws.{put_none, put_append}
+use Rattle.plan_listing.specs.Listing.{refused_line}
+use Rattle.plan_listing.specs.Answers.{table_in}
+use Rattle.fly_listing.specs.Flown.{frame_line, line_at, flight_lines, flown, flight_listing}
 
 -- n frames from frame m on
-abbrev pub frameLines : Table → ℕ → ℕ → List ℕ
-frameLines t n m = flat_map (line_at t) (range m n)
+abbrev pub frame_lines : Table → ℕ → ℕ → List ℕ
+frame_lines t n m = flat_map (line_at t) (range m n)
 
 -- n frames in all, the next is m
 module _ (t : Table) (n m : ℕ) (x : Filled) where
-  pub frames-turn : m < n → putAllOf (putAllOf x (frameLine m (m * t.f) (m / height t) (plainFrame t m))) (frameLines t (n - (m + 1)) (m + 1)) ≡ putAllOf x (frameLines t (n - m) m)
+  pub frames_turn : m < n → put_all_of (put_all_of x (frame_line m (m * t.f) (m / height t) (plain_frame t m))) (frame_lines t (n - (m + 1)) (m + 1)) ≡ put_all_of x (frame_lines t (n - m) m)
   unfolding flat_map
-  frames-turn h = rw (less_one n m h) (sym (put-append x _ _))
+  frames_turn h = rw (less_one n m h) (sym (put_append x _ _))
 
-  pub frames-end : n ≤ m → putAllOf x (frameLines t (n - m) m) ≡ x
+  pub frames_end : n ≤ m → put_all_of x (frame_lines t (n - m) m) ≡ x
   unfolding flat_map
-  frames-end h = rw (none_left n m h) (put-none x)
+  frames_end h = rw (none_left n m h) (put_none x)
 
 -- the state after m frames, nothing reported
-abbrev pub stateAfter : Table → ℕ → State
-stateAfter t m = stateAt (height t) m noOverruns
+abbrev pub state_after : Table → ℕ → State
+state_after t m = state_at (height t) m no_overruns
 
 -- frame m of the table, from that state
 pub record FrameRead (t : Table) (m : ℕ) (frame : Frame) : Type 0 where
   pub few : frame.count ≤ 16
-  pub entries : entriesOf frame ≡ plainFrame t m
-  pub state : frame.state ≡ stateAfter t (m + 1)
+  pub entries : entries_of frame ≡ plain_frame t m
+  pub state : frame.state ≡ state_after t (m + 1)
 
-pub frame-read : (bytes : List ℕ) (m : ℕ) (s : State) (frame : Frame) → frame ≡ nextFrame (decode bytes) s → s ≡ stateAfter (tableIn (decode bytes)) m
-    → 0 < height (tableIn (decode bytes)) → FrameRead (tableIn (decode bytes)) m frame
-frame-read bytes m s frame e now some = go (decode bytes) refl now some
+pub frame_read : (bytes : List ℕ) (m : ℕ) (s : State) (frame : Frame) → frame ≡ next_frame (decode bytes) s → s ≡ state_after (table_in (decode bytes)) m
+    → 0 < height (table_in (decode bytes)) → FrameRead (table_in (decode bytes)) m frame
+frame_read bytes m s frame e now some = go (decode bytes) refl now some
   where
-    go : (d : Decoded) → decode bytes ≡ d → s ≡ stateAfter (tableIn d) m → 0 < height (tableIn d) → FrameRead (tableIn d) m frame
+    go : (d : Decoded) → decode bytes ≡ d → s ≡ state_after (table_in d) m → 0 < height (table_in d) → FrameRead (table_in d) m frame
     go (table t) is at pos =
-        let here : State = stateAfter t m in
+        let here : State = state_after t m in
         let below : m % height t < height t = mod-lt m pos in
-        let from : frame ≡ nextFrame (decode bytes) here = e ∙ ap (nextFrame (decode bytes)) at in
-        let given : frame ≡ shown (plainFrame t m) (moved (height t) here) = from ∙ frame-served bytes here t is below in
-        let rises = served-rises here.first (row_of t here.row) (row-rises t here.row (decode-wellformed bytes t is)) in
+        let from : frame ≡ next_frame (decode bytes) here = e ∙ ap (next_frame (decode bytes)) at in
+        let given : frame ≡ shown (plain_frame t m) (moved (height t) here) = from ∙ frame_served_lem bytes here t is below in
+        let rises = served_rises here.first (row_of t here.row) (row_rises t here.row (decode_wellformed bytes t is)) in
         record {
-          few = rw given (omega (arith, given-count (plainFrame t m), rising-few (plainFrame t m) 0 (omega arith) rises));
-          entries = rw given (entries-given (plainFrame t m) rises);
-          state = rw given (moved_at (height t) m noOverruns pos);
+          few = rw given (omega (arith, given_count (plain_frame t m), rising_few (plain_frame t m) 0 (omega arith) rises));
+          entries = rw given (entries_given (plain_frame t m) rises);
+          state = rw given (moved_at (height t) m no_overruns pos);
         }
     go malformed is at pos = absurd (omega arith)
 
 -- the two ways
-pub flight-refused : (request : List ℕ) (number : ℕ) → programOutcome request ≡ refusal number → refusedLine number ≡ flightListing request
-unfolding flightListing
-flight-refused request number e = sym (ap flown e)
+pub flight_refused : (request : List ℕ) (number : ℕ) → program_outcome request ≡ refusal number → refused_line number ≡ flight_listing request
+unfolding flight_listing
+flight_refused request number e = sym (ap flown e)
 
-pub flight-handed : (request bytes : List ℕ) → programOutcome request ≡ handed (tableIn (decode bytes))
-    → flightLines (tableIn (decode bytes)) ≡ flightListing request
-unfolding flightListing
-flight-handed request bytes e = sym (ap flown e)
+pub flight_handed : (request bytes : List ℕ) → program_outcome request ≡ handed (table_in (decode bytes))
+    → flight_lines (table_in (decode bytes)) ≡ flight_listing request
+unfolding flight_listing
+flight_handed request bytes e = sym (ap flown e)

@@ -1,19 +1,19 @@
 // What `fly` prints, put as bytes into a lent buffer from its front: as much as there is room for. Bytes behind it keep their old content, and the answer
 // is where it ends.
 ghost use Rattle.std.specs.Prelude.{◌*◌, ◌/◌, ◌-◌, ◌≤◌, ◌<◌, ◌≡◌, cond};
-ghost use Rattle.table.specs.Table.{carriedIn, entry_of, decode};
-ghost use Rattle.dispatcher.specs.Dispatch.{entriesOf};
-ghost use Rattle.text.specs.Text.{filledTo, putAllOf, PutIn};
+ghost use Rattle.table.specs.Table.{carried_in, entry_of, decode};
+ghost use Rattle.dispatcher.specs.Dispatch.{entries_of};
+ghost use Rattle.text.specs.Text.{filled_to, put_all_of, PutIn};
 ghost use Rattle.plan_listing.specs.Listing.{each};
-ghost use Rattle.plan_listing.specs.Answers.{tableIn};
-ghost use Rattle.fly_listing.specs.Flown.{servedText, frameLine, flightLines, flightListing};
+ghost use Rattle.plan_listing.specs.Answers.{table_in};
+ghost use Rattle.fly_listing.specs.Flown.{served_text, frame_line, flight_lines, flight_listing};
 
 use dispatcher::Frame;
 use table::Sizes;
 
 // The cycle of an entry's job, in cycle q: a carried one is of the cycle before.
 fn job_cycle(job: u8, q: u32) -> u32
-    ensures { result ≡ cond (carriedIn job) (q - 1) q }
+    ensures { result ≡ cond (carried_in job) (q - 1) q }
 {
     if !table::job::is_carried(job) {
         return q;
@@ -25,7 +25,7 @@ fn job_cycle(job: u8, q: u32) -> u32
 }
 
 fn put_served(out: &mut [u8], at: usize, task: u8, job: u8, q: u32) -> usize
-    ensures { filledTo result out.new ≡ putAllOf (filledTo at out.old) (servedText q (entry_of task job)) }
+    ensures { filled_to result out.new ≡ put_all_of (filled_to at out.old) (served_text q (entry_of task job)) }
 {
     let name = plan_listing::entry::put_name(out, at, task, job);
     let mark = text::put(out, name, b'@');
@@ -34,7 +34,7 @@ fn put_served(out: &mut [u8], at: usize, task: u8, job: u8, q: u32) -> usize
 
 fn put_entries(out: &mut [u8], at: usize, frame: Frame, q: u32) -> usize
     requires { frame.count ≤ 16 }
-    ensures { filledTo result out.new ≡ putAllOf (filledTo at out.old) (each (servedText q) (entriesOf frame)) }
+    ensures { filled_to result out.new ≡ put_all_of (filled_to at out.old) (each (served_text q) (entries_of frame)) }
 {
     let n = frame.count;
     let tasks = frame.tasks;
@@ -51,7 +51,7 @@ fn put_entries(out: &mut [u8], at: usize, frame: Frame, q: u32) -> usize
 // Frame m of a table with frames of length f, F rows to a cycle.
 fn put_frame(out: &mut [u8], at: usize, m: u32, sizes: Sizes, frame: Frame) -> usize
     requires { (m < 768) × (0 < sizes.height) × (frame.count ≤ 16) }
-    ensures { filledTo result out.new ≡ putAllOf (filledTo at out.old) (frameLine m (m * sizes.f) (m / sizes.height) (entriesOf frame)) }
+    ensures { filled_to result out.new ≡ put_all_of (filled_to at out.old) (frame_line m (m * sizes.f) (m / sizes.height) (entries_of frame)) }
 {
     let name = text::put_all(out, at, b"frame ");
     let number = text::put_number(out, name, m);
@@ -63,7 +63,7 @@ fn put_frame(out: &mut [u8], at: usize, m: u32, sizes: Sizes, frame: Frame) -> u
 
 // Three cycles of the table, from the fresh state on.
 fn put_frames(out: &mut [u8], table: &[u8]) -> usize
-    ensures { filledTo result out.new ≡ putAllOf (filledTo 0 out.old) (flightLines (tableIn (decode table.now))) }
+    ensures { filled_to result out.new ≡ put_all_of (filled_to 0 out.old) (flight_lines (table_in (decode table.now))) }
 {
     let sizes = table::read::sizes(table);
     let frames = 3 * sizes.height as u32;
@@ -81,7 +81,7 @@ fn put_frames(out: &mut [u8], table: &[u8]) -> usize
 
 // Three cycles of the request's plan in flight, or the line of its refusal, within the tries that a program allows.
 pub fn list(request: &[u8], out: &mut [u8]) -> usize
-    ensures { PutIn (flightListing request.now) out.old result out.new }
+    ensures { PutIn (flight_listing request.now) out.old result out.new }
 {
     let mut table = [0u8; 519];
     let planned = planner::plan(request, planner::PROGRAM_TRIES, &mut table);

@@ -5,10 +5,10 @@ use Rattle.table.specs.Table.{decode}
 use Rattle.table.specs.declared.Row.{Row}
 use Rattle.model.specs.Plan.{Instance, pair_at}
 use Rattle.model.specs.Described.{Accepted}
-use Rattle.checker.specs.Checked.{checkNumber}
+use Rattle.checker.specs.Checked.{check_number}
 use Rattle.checker.specs.Exactly.{OfBoth}
-use Rattle.dispatcher.specs.Dispatch.{nextFrame, rowShown}
-use Rattle.heater_link.specs.Exchange.{refusedExchange, exchange}
+use Rattle.dispatcher.specs.Dispatch.{next_frame, row_shown}
+use Rattle.heater_link.specs.Exchange.{refused_exchange, exchange}
 use Rattle.heater_link.specs.declared.Link.{Link}
 use Rattle.heater_link.specs.declared.Losses.{Losses}
 use Rattle.heater_link.specs.declared.Exchange.{Exchange}
@@ -20,8 +20,8 @@ pub record IsPair (x : Instance) (a b : ℕ) : Type 0 where
   pub first : (pair_at x u).a ≡ a
   pub second : (pair_at x u).b ≡ b
 
-abbrev pub rowAnswered : Exchange → Row
-rowAnswered r = record { refusal = r.refusal; count = r.count; tasks = r.tasks; jobs = r.jobs }
+abbrev pub row_answered : Exchange → Row
+row_answered r = record { refusal = r.refusal; count = r.count; tasks = r.tasks; jobs = r.jobs }
 
 module _ (request bytes : List ℕ) (a b : ℕ) (lost : Losses) (s : Link) where
   abbrev pub given : Exchange
@@ -29,17 +29,17 @@ module _ (request bytes : List ℕ) (a b : ℕ) (lost : Losses) (s : Link) where
 
   pub record ExchangeExact : Type 0 where
     -- "after the check's numbers"
-    pub check-first : (checkNumber request bytes ≡ 0 → ⊥) → given.refusal ≡ checkNumber request bytes
+    pub check_first : (check_number request bytes ≡ 0 → ⊥) → given.refusal ≡ check_number request bytes
     -- "It refuses with 30, after the check's numbers and before 15, when a, b is no pair of the request."
     pub thirty : (given.refusal ≡ 30) ↔ OfBoth request bytes (λ x t. Accepted x t × (IsPair x a b → ⊥))
     -- "row not below F"
     pub fifteen : (given.refusal ≡ 15) ↔ OfBoth request bytes (λ x t. Accepted x t × IsPair x a b × (length t.rows ≤ s.state.row))
     pub served : (given.refusal ≡ 0) ↔ OfBoth request bytes (λ x t. Accepted x t × IsPair x a b × (s.state.row < length t.rows))
     -- "A refusal returns its number, .. no entries, the state unchanged"
-    pub refused-still : (given.refusal ≡ 0 → ⊥) → given ≡ refusedExchange given.refusal s
+    pub refused_still : (given.refusal ≡ 0 → ⊥) → given ≡ refused_exchange given.refusal s
     -- "A call serves one frame .. and answers next-frame's entries"
-    pub next-frames : given.refusal ≡ 0 → rowAnswered given ≡ rowShown (nextFrame (decode bytes) s.state)
-    pub frame-after : given.refusal ≡ 0 → given.link.state ≡ (nextFrame (decode bytes) s.state).state
+    pub next_frames : given.refusal ≡ 0 → row_answered given ≡ row_shown (next_frame (decode bytes) s.state)
+    pub frame_after : given.refusal ≡ 0 → given.link.state ≡ (next_frame (decode bytes) s.state).state
 
 -- for all byte strings
 abbrev pub LinkExact : Type 0

@@ -11,39 +11,39 @@ module _ (n : ℕ) (CommandArrives ReplyArrives Toggled Answered : ℕ → Type 
 
   -- "The first reply to arrive after a copy of the current command has arrived": that of frame m
   pub record FirstReply (m : ℕ) : Type 0 where
-    pub reply-arrives : ReplyArrives m
+    pub reply_arrives : ReplyArrives m
     pub j : ℕ
     pub before : j ≤ m
-    pub copy-arrived : CommandArrives j
-    pub of-current : Unanswered j m
+    pub copy_arrived : CommandArrives j
+    pub of_current : Unanswered j m
     pub first : (k : ℕ) → j ≤ k → k < m → ReplyArrives k → ⊥
 
   -- the first copy of the current command to arrive: that of frame m
   pub record FirstCopy (m : ℕ) : Type 0 where
-    pub copy-arrives : CommandArrives m
+    pub copy_arrives : CommandArrives m
     pub first : (j : ℕ) → j < m → CommandArrives j → Unanswered j m → ⊥
 
   -- "while the current command is unanswered": after the list, a copy of it has arrived and no answer
   pub record UnderWay : Type 0 where
     pub j : ℕ
     pub in_list : j < n
-    pub copy-arrived : CommandArrives j
-    pub of-current : Unanswered j n
+    pub copy_arrived : CommandArrives j
+    pub of_current : Unanswered j n
 
   -- toggles done, commands answered
-  module _ (toggles commandsAnswered : ℕ) where
+  module _ (toggles commands_answered : ℕ) where
     -- the heater is off at first, and each toggle turns it over
     abbrev pub HeaterOn : Type 0
     HeaterOn = toggles % 2 ≡ 1
 
     pub record Lawful : Type 0 where
       -- "toggles done equal commands answered, or exceed them by one while the current command is unanswered"
-      pub counts : ((toggles ≡ commandsAnswered) × (UnderWay → ⊥)) ⊎ ((toggles ≡ commandsAnswered + 1) × UnderWay)
+      pub counts : ((toggles ≡ commands_answered) × (UnderWay → ⊥)) ⊎ ((toggles ≡ commands_answered + 1) × UnderWay)
       -- "The first reply to arrive after a copy of the current command has arrived answers it, and no other reply does."
-      pub answered-exactly : (m : ℕ) → Answered m ↔ FirstReply m
+      pub answered_exactly : (m : ℕ) → Answered m ↔ FirstReply m
       -- and the board toggles with the first copy of a command that arrives, and with no other
-      pub toggled-exactly : (m : ℕ) → Toggled m ↔ FirstCopy m
+      pub toggled_exactly : (m : ℕ) → Toggled m ↔ FirstCopy m
       -- a lost reply never toggles twice: between two toggles a command was answered
-      pub never-twice : (j m : ℕ) → j < m → Toggled j → Toggled m → (k : ℕ) × (j ≤ k) × (k < m) × Answered k
+      pub never_twice : (j m : ℕ) → j < m → Toggled j → Toggled m → (k : ℕ) × (j ≤ k) × (k < m) × Answered k
       -- with no command under way the heater is on after an odd number of commands answered
-      pub at_rest : (UnderWay → ⊥) → HeaterOn ↔ (commandsAnswered % 2 ≡ 1)
+      pub at_rest : (UnderWay → ⊥) → HeaterOn ↔ (commands_answered % 2 ≡ 1)

@@ -2,9 +2,9 @@
 // and the check, and knows only their promises.
 ghost use Rattle.std.specs.Prelude.{◌≡◌, not, cond, ◌&&◌, ◌≤◌};
 ghost use Rattle.cursor.specs.Padded.{firsts};
-ghost use Rattle.request.specs.Request.{noPair};
+ghost use Rattle.request.specs.Request.{no_pair};
 ghost use Rattle.heater_link.specs.Machine.{differ};
-ghost use Rattle.heater_link.specs.Exchange.{freshLink, serves, arrives, refusedExchange, exchanged, exchangedIn, isPair, exchange};
+ghost use Rattle.heater_link.specs.Exchange.{fresh_link, serves, arrives, refused_exchange, exchanged, exchanged_in, is_pair, exchange};
 
 use dispatcher::{Frame, State};
 use request::Pair;
@@ -39,7 +39,7 @@ pub struct Exchange {
 
 // The master sends 0 first, and the board takes 1 for the bit that it obeyed last.
 pub fn fresh() -> Link
-    ensures { result ≡ freshLink }
+    ensures { result ≡ fresh_link }
 {
     let state = dispatcher::fresh();
     Link {
@@ -50,7 +50,7 @@ pub fn fresh() -> Link
 }
 
 fn refused(number: u8, link: Link) -> Exchange
-    ensures { result ≡ refusedExchange number link }
+    ensures { result ≡ refused_exchange number link }
 {
     Exchange {
         refusal: number,
@@ -66,7 +66,7 @@ fn refused(number: u8, link: Link) -> Exchange
 // Whether a, b is one of the first m pairs.
 fn is_pair(pairs: [Pair; 16], m: usize, a: u8, b: u8) -> bool
     requires { m ≤ 16 }
-    ensures { result ≡ isPair a b (firsts m noPair pairs) }
+    ensures { result ≡ is_pair a b (firsts m no_pair pairs) }
 {
     let mut u: usize = 0;
     while u < m {
@@ -163,7 +163,7 @@ fn exchanged(command: bool, reply: bool, frame: Frame, link: Link) -> Exchange
 // What comes of a frame that next-frame answered, with what is lost in it; or its number, which is 15.
 fn in_frame(frame: Frame, a: u8, b: u8, lost: Losses, link: Link) -> Exchange
     requires { frame.count ≤ 16 }
-    ensures { result ≡ exchangedIn a b lost frame link }
+    ensures { result ≡ exchanged_in a b lost frame link }
 {
     if frame.refusal != 0 {
         return refused(frame.refusal, link);

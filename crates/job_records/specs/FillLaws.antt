@@ -3,51 +3,51 @@ use Rattle.std.specs.Prelude.{ℕ, zero, suc, ◌+◌, ◌≤◌, ◌<◌, ◌�
 use Rattle.std.proofs.Common.{ap, ap₂, ◌∙◌, arith, ltb-false}
 use Rattle.std.proofs.Math.ListN.{length}
 use Rattle.std.proofs.Math.Seq.{take-length}
-use Rattle.job_records.specs.Timeline.{noRecord, Timeline, timeline, refusal, timelineFor, fitting, filling, recordsIn, filledAnswer, filledRecords}
-use Rattle.job_records.specs.Known.{recordHere}
+use Rattle.job_records.specs.Timeline.{no_record, Timeline, timeline, refusal, timeline_for, fitting, filling, records_in, filled_answer, filled_records}
+use Rattle.job_records.specs.Known.{record_here}
 use Rattle.job_records.specs.KnownLaws.{KnownFor}
 use Rattle.job_records.specs.declared.JobRecord.{JobRecord}
 use Rattle.job_records.specs.declared.JobsKnown.{JobsKnown}
 
 -- there are never more records than places
-fitting-few : (places : ℕ) (tl : Timeline) → length (recordsIn (fitting places tl)) ≤ places
-fitting-few places (refusal number) = omega arith
-fitting-few places (timeline rs) = go (ltb places (length rs)) refl
+fitting_few : (places : ℕ) (tl : Timeline) → length (records_in (fitting places tl)) ≤ places
+fitting_few places (refusal number) = omega arith
+fitting_few places (timeline rs) = go (ltb places (length rs)) refl
   where
-    go : (t : Bool) → ltb places (length rs) ≡ t → length (recordsIn (cond t (refusal 11) (timeline rs))) ≤ places
+    go : (t : Bool) → ltb places (length rs) ≡ t → length (records_in (cond t (refusal 11) (timeline rs))) ≤ places
     go true e = omega arith
     go false e = ltb-false places (length rs) e
 
-pub filling-few : (request bytes : List ℕ) (places : ℕ) → length (recordsIn (filling request bytes places)) ≤ places
+pub filling_few : (request bytes : List ℕ) (places : ℕ) → length (records_in (filling request bytes places)) ≤ places
 unfolding filling
-filling-few request bytes places = fitting-few places (timelineFor request bytes)
+filling_few request bytes places = fitting_few places (timeline_for request bytes)
 
 set_next : (rs lent : List JobRecord) (i : ℕ) → i < length rs → length rs ≤ length lent
-    → set (take i rs ++ drop i lent) i (get_or rs i noRecord) ≡ take (suc i) rs ++ drop (suc i) lent
+    → set (take i rs ++ drop i lent) i (get_or rs i no_record) ≡ take (suc i) rs ++ drop (suc i) lent
 set_next [] lent i h l = absurd (omega arith)
 set_next (r ∷ rs) [] i h l = absurd (omega arith)
 set_next (r ∷ rs) (x ∷ lent) zero h l = refl
 set_next (r ∷ rs) (x ∷ lent) (suc i) h l = ap (λ (l : List JobRecord). r ∷ l) (set_next rs lent i (omega arith) (omega arith))
 
 module _ (tl : Timeline) (lent : List JobRecord) where
-  abbrev pub filledTo : ℕ → List JobRecord
-  filledTo i = take i (recordsIn tl) ++ drop i lent
+  abbrev pub filled_to : ℕ → List JobRecord
+  filled_to i = take i (records_in tl) ++ drop i lent
 
   module _ (k : JobsKnown) (known : KnownFor tl k) where
-    pub fill_more : (i : ℕ) → length (recordsIn tl) ≤ length lent → i < k.count → set (filledTo i) i (recordHere k i) ≡ filledTo (i + 1)
+    pub fill_more : (i : ℕ) → length (records_in tl) ≤ length lent → i < k.count → set (filled_to i) i (record_here k i) ≡ filled_to (i + 1)
     fill_more i fits h =
         let next : i + 1 ≡ suc i = omega arith in
-        rw (known.each i h, next) (set_next (recordsIn tl) lent i (omega (arith, known.count-is)) fits)
+        rw (known.each i h, next) (set_next (records_in tl) lent i (omega (arith, known.count_is)) fits)
 
-    pub fill_end : (i : ℕ) → i ≤ k.count → k.count ≤ i → filledTo i ≡ filledRecords tl lent
-    unfolding filledRecords
+    pub fill_end : (i : ℕ) → i ≤ k.count → k.count ≤ i → filled_to i ≡ filled_records tl lent
+    unfolding filled_records
     fill_end i h l =
-        let all : i ≡ length (recordsIn tl) = omega (arith, known.count-is) in
-        rw (all, take-length (recordsIn tl))
+        let all : i ≡ length (records_in tl) = omega (arith, known.count_is) in
+        rw (all, take-length (records_in tl))
 
-    pub fill-answer : record { refusal = k.refusal; count = k.count } ≡ filledAnswer tl
-    fill-answer = ap₂ (λ n c. record { refusal = n; count = c }) known.refusal_is (known.count-is ∙ counted tl)
+    pub fill_answer : record { refusal = k.refusal; count = k.count } ≡ filled_answer tl
+    fill_answer = ap₂ (λ n c. record { refusal = n; count = c }) known.refusal_is (known.count_is ∙ counted tl)
       where
-        counted : (t : Timeline) → length (recordsIn t) ≡ (filledAnswer t).count
+        counted : (t : Timeline) → length (records_in t) ≡ (filled_answer t).count
         counted (timeline rs) = refl
         counted (refusal number) = refl

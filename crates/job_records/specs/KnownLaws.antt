@@ -8,192 +8,192 @@ use mathlib.Core.List.{List, [], ◌∷◌, map}
 use native.Mathlib.Omega.{arith}
 use Rattle.std.proofs.Math.ListN.{length, drop}
 use Rattle.std.proofs.Math.Seq.{drop-length}
-use Rattle.cursor.specs.ChoiceLaws.{lt-or-ge}
+use Rattle.cursor.specs.ChoiceLaws.{lt_or_ge}
 use Rattle.cursor.specs.Padded.{padded}
-use Rattle.cursor.specs.PaddedLaws.{getD-padded-any, map_at}
-use Rattle.cycle.specs.Cycle.{Cycle, cycleOf}
-use Rattle.cycle.specs.Answers.{cycleAnswered, listed}
-use Rattle.cycle.specs.Planned.{noJob}
+use Rattle.cursor.specs.PaddedLaws.{get_or_padded_any, map_at}
+use Rattle.cycle.specs.Cycle.{Cycle, cycle_of}
+use Rattle.cycle.specs.Answers.{cycle_answered, listed}
+use Rattle.cycle.specs.Planned.{no_job}
 use Rattle.cycle.specs.declared.Job.{Job}
 use Rattle.table.specs.Table.{decode}
 use Rattle.table.specs.Left.{less_one, none_left}
 use Rattle.model.specs.Plan.{Instance, IsPlan}
-use Rattle.model.specs.Answers.{instanceOf}
-use Rattle.model.specs.AnswerLaws.{jobs-counted}
+use Rattle.model.specs.Answers.{instance_of}
+use Rattle.model.specs.AnswerLaws.{jobs_counted}
 use Rattle.model.specs.Within.{Within}
-use Rattle.model.specs.WithinLaws.{within-good}
+use Rattle.model.specs.WithinLaws.{within_good}
 use Rattle.checker.specs.Checked as checker
 use Rattle.checker.specs.Checked.{Verdict, checked}
-use Rattle.checker.specs.Answers.{readAnswer}
-use Rattle.checker.specs.Verdicts.{plan-read, HandedOn, handed-on}
+use Rattle.checker.specs.Answers.{read_answer}
+use Rattle.checker.specs.Verdicts.{plan_read_lem, HandedOn, handed_on}
 use Rattle.checker.specs.declared.Read.{Read}
-use Rattle.job_records.specs.Timeline.{recordOf, noRecord, recordsOf, Timeline, timeline, refusal, timelineOf, fitting, filling, recordsIn, filledAnswer}
-use Rattle.job_records.specs.Known.{jobIn, frameIn, knownAnswer, recordHere, recordsFrom, recordsKnown}
+use Rattle.job_records.specs.Timeline.{record_of, no_record, records_of, Timeline, timeline, refusal, timeline_of, fitting, filling, records_in, filled_answer}
+use Rattle.job_records.specs.Known.{job_in, frame_in, known_answer, record_here, records_from, records_known}
 use Rattle.job_records.specs.declared.JobRecord.{JobRecord}
 use Rattle.job_records.specs.declared.JobsKnown.{JobsKnown}
 
 -- a record for each job
-pub records-count : (jobs : List Job) (frames : List ℕ) → length frames ≡ length jobs → length (recordsOf jobs frames) ≡ length jobs
-unfolding recordsOf
-records-count [] frames e = refl
-records-count (job ∷ jobs) [] e = absurd (omega (arith, e))
-records-count (job ∷ jobs) (k ∷ frames) e = ap suc (records-count jobs frames (omega (arith, e)))
+pub records_count : (jobs : List Job) (frames : List ℕ) → length frames ≡ length jobs → length (records_of jobs frames) ≡ length jobs
+unfolding records_of
+records_count [] frames e = refl
+records_count (job ∷ jobs) [] e = absurd (omega (arith, e))
+records_count (job ∷ jobs) (k ∷ frames) e = ap suc (records_count jobs frames (omega (arith, e)))
 
-pub record-at : (jobs : List Job) (frames : List ℕ) (y : ℕ) → length frames ≡ length jobs → y < length jobs
-    → get_or (recordsOf jobs frames) y noRecord ≡ recordOf (get_or jobs y noJob) (get_or frames y 0)
-unfolding recordsOf
-record-at [] frames y e h = absurd (omega arith)
-record-at (job ∷ jobs) [] y e h = absurd (omega (arith, e))
-record-at (job ∷ jobs) (k ∷ frames) zero e h = refl
-record-at (job ∷ jobs) (k ∷ frames) (suc y) e h = record-at jobs frames y (omega (arith, e)) (omega arith)
+pub record_at : (jobs : List Job) (frames : List ℕ) (y : ℕ) → length frames ≡ length jobs → y < length jobs
+    → get_or (records_of jobs frames) y no_record ≡ record_of (get_or jobs y no_job) (get_or frames y 0)
+unfolding records_of
+record_at [] frames y e h = absurd (omega arith)
+record_at (job ∷ jobs) [] y e h = absurd (omega (arith, e))
+record_at (job ∷ jobs) (k ∷ frames) zero e h = refl
+record_at (job ∷ jobs) (k ∷ frames) (suc y) e h = record_at jobs frames y (omega (arith, e)) (omega arith)
 
 -- a record says its job and its frame
-jobs-said : (jobs : List Job) (frames : List ℕ) → length frames ≡ length jobs → map jobIn (recordsOf jobs frames) ≡ jobs
-unfolding recordsOf
-jobs-said [] frames e = refl
-jobs-said (job ∷ jobs) [] e = absurd (omega (arith, e))
-jobs-said (job ∷ jobs) (k ∷ frames) e = ap (λ (l : List Job). job ∷ l) (jobs-said jobs frames (omega (arith, e)))
+jobs_said : (jobs : List Job) (frames : List ℕ) → length frames ≡ length jobs → map job_in (records_of jobs frames) ≡ jobs
+unfolding records_of
+jobs_said [] frames e = refl
+jobs_said (job ∷ jobs) [] e = absurd (omega (arith, e))
+jobs_said (job ∷ jobs) (k ∷ frames) e = ap (λ (l : List Job). job ∷ l) (jobs_said jobs frames (omega (arith, e)))
 
-frames-said : (jobs : List Job) (frames : List ℕ) → length frames ≡ length jobs → map frameIn (recordsOf jobs frames) ≡ frames
-unfolding recordsOf
-frames-said [] [] e = refl
-frames-said [] (k ∷ frames) e = absurd (omega (arith, e))
-frames-said (job ∷ jobs) [] e = absurd (omega (arith, e))
-frames-said (job ∷ jobs) (k ∷ frames) e = ap (λ (l : List ℕ). k ∷ l) (frames-said jobs frames (omega (arith, e)))
+frames_said : (jobs : List Job) (frames : List ℕ) → length frames ≡ length jobs → map frame_in (records_of jobs frames) ≡ frames
+unfolding records_of
+frames_said [] [] e = refl
+frames_said [] (k ∷ frames) e = absurd (omega (arith, e))
+frames_said (job ∷ jobs) [] e = absurd (omega (arith, e))
+frames_said (job ∷ jobs) (k ∷ frames) e = ap (λ (l : List ℕ). k ∷ l) (frames_said jobs frames (omega (arith, e)))
 
 module _ (request bytes : List ℕ) where
   -- the check refuses
-  pub refused-is : (places n : ℕ) → checked (cycleOf request) (decode bytes) ≡ checker.refusal n → filling request bytes places ≡ refusal n
-  unfolding filling timelineOf
-  refused-is places n e = rw e
+  pub refused_is : (places n : ℕ) → checked (cycle_of request) (decode bytes) ≡ checker.refusal n → filling request bytes places ≡ refusal n
+  unfolding filling timeline_of
+  refused_is places n e = rw e
 
   -- the check has read a plan
-  module _ (x : Instance) (within : Within request x) (f : ℕ) (frames : List ℕ) (verdict : checked (cycleOf request) (decode bytes) ≡ checker.accepted f frames)
+  module _ (x : Instance) (within : Within request x) (f : ℕ) (frames : List ℕ) (verdict : checked (cycle_of request) (decode bytes) ≡ checker.accepted f frames)
       (plan : IsPlan x f frames) (places : ℕ) where
     abbrev records : List JobRecord
-    records = recordsOf x.jobs frames
+    records = records_of x.jobs frames
 
     many : length records ≡ length x.jobs
-    many = records-count x.jobs frames plan.all
+    many = records_count x.jobs frames plan.all
 
     fills : filling request bytes places ≡ fitting places (timeline records)
-    unfolding filling timelineOf
+    unfolding filling timeline_of
     fills = rw (verdict, within)
 
     pub too_short : places < length x.jobs → filling request bytes places ≡ refusal 11
     too_short h = fills ∙ rw (lt-ltb places (length records) (omega (arith, many)))
 
-    pub long-enough : length x.jobs ≤ places → filling request bytes places ≡ timeline records
-    long-enough h = fills ∙ rw (le-ltb places (length records) (omega (arith, many)))
+    pub long_enough : length x.jobs ≤ places → filling request bytes places ≡ timeline records
+    long_enough h = fills ∙ rw (le-ltb places (length records) (omega (arith, many)))
 
 -- The answer of `known`: r is what the check answered
-module _ (request bytes : List ℕ) (places : ℕ) (r : Read) (e : r ≡ readAnswer (cycleAnswered (cycleOf request)) (checked (cycleOf request) (decode bytes))) where
+module _ (request bytes : List ℕ) (places : ℕ) (r : Read) (e : r ≡ read_answer (cycle_answered (cycle_of request)) (checked (cycle_of request) (decode bytes))) where
   -- the check refuses
-  pub not_known : (r.refusal ≡ 0 → ⊥) → knownAnswer (refusal r.refusal) ≡ knownAnswer (filling request bytes places)
-  not_known ne = go (checked (cycleOf request) (decode bytes)) refl e
+  pub not_known : (r.refusal ≡ 0 → ⊥) → known_answer (refusal r.refusal) ≡ known_answer (filling request bytes places)
+  not_known ne = go (checked (cycle_of request) (decode bytes)) refl e
     where
-      go : (v : Verdict) → checked (cycleOf request) (decode bytes) ≡ v → r ≡ readAnswer (cycleAnswered (cycleOf request)) v
-          → knownAnswer (refusal r.refusal) ≡ knownAnswer (filling request bytes places)
+      go : (v : Verdict) → checked (cycle_of request) (decode bytes) ≡ v → r ≡ read_answer (cycle_answered (cycle_of request)) v
+          → known_answer (refusal r.refusal) ≡ known_answer (filling request bytes places)
       go (checker.accepted f ks) is q = absurd (ne (ap (λ (y : Read). y.refusal) q))
       go (checker.refusal n) is q =
-          ap (λ (m : ℕ). knownAnswer (refusal m)) (ap (λ (y : Read). y.refusal) q) ∙ ap knownAnswer (sym (refused-is request bytes places n is))
+          ap (λ (m : ℕ). known_answer (refusal m)) (ap (λ (y : Read). y.refusal) q) ∙ ap known_answer (sym (refused_is request bytes places n is))
 
   module _ (z : r.refusal ≡ 0) where
     abbrev plan : HandedOn request bytes r
-    plan = handed-on request bytes r e z
+    plan = handed_on request bytes r e z
 
     abbrev x : Instance
-    x = instanceOf r.cycle
+    x = instance_of r.cycle
 
     counted : length x.jobs ≡ r.cycle.count
-    counted = jobs-counted r.cycle plan.taken.limits.few-jobs
+    counted = jobs_counted r.cycle plan.taken.limits.few_jobs
 
     -- the list is too short
-    pub too_few : places < r.cycle.count → knownAnswer (refusal 11) ≡ knownAnswer (filling request bytes places)
+    pub too_few : places < r.cycle.count → known_answer (refusal 11) ≡ known_answer (filling request bytes places)
     too_few h =
-        ap knownAnswer (sym (too_short request bytes x plan.taken.within r.f plan.frames plan.verdict plan.is-plan places (omega (arith, counted))))
+        ap known_answer (sym (too_short request bytes x plan.taken.within r.f plan.frames plan.verdict plan.is_plan places (omega (arith, counted))))
 
     -- the jobs as they were read
-    jobs-read : r.cycle.jobs ≡ padded 128 noJob x.jobs
+    jobs_read : r.cycle.jobs ≡ padded 128 no_job x.jobs
     unfolding listed
-    jobs-read =
-        let read : r ≡ readAnswer (cycleAnswered (cycleOf request)) (checker.accepted r.f plan.frames) =
-        e ∙ ap (readAnswer (cycleAnswered (cycleOf request))) plan.verdict in
-        ap (λ (y : Read). y.cycle.jobs) read ∙ ap (λ (c : Cycle). (cycleAnswered c).jobs) plan.taken.within
+    jobs_read =
+        let read : r ≡ read_answer (cycle_answered (cycle_of request)) (checker.accepted r.f plan.frames) =
+        e ∙ ap (read_answer (cycle_answered (cycle_of request))) plan.verdict in
+        ap (λ (y : Read). y.cycle.jobs) read ∙ ap (λ (c : Cycle). (cycle_answered c).jobs) plan.taken.within
 
     -- it is long enough
     pub all_known : r.cycle.count ≤ places
-        → record { refusal = 0; count = r.cycle.count; jobs = r.cycle.jobs; frames = r.frames } ≡ knownAnswer (filling request bytes places)
+        → record { refusal = 0; count = r.cycle.count; jobs = r.cycle.jobs; frames = r.frames } ≡ known_answer (filling request bytes places)
     all_known h =
-        let all : length plan.frames ≡ length x.jobs = plan.is-plan.all in
-        let jobs : r.cycle.jobs ≡ padded 128 noJob (map jobIn (recordsOf x.jobs plan.frames)) =
-        jobs-read ∙ ap (padded 128 noJob) (sym (jobs-said x.jobs plan.frames all)) in
-        let frames : r.frames ≡ padded 128 0 (map frameIn (recordsOf x.jobs plan.frames)) =
-        plan.frames-are ∙ ap (padded 128 0) (sym (frames-said x.jobs plan.frames all)) in
-        let count : r.cycle.count ≡ length (recordsOf x.jobs plan.frames) = sym (records-count x.jobs plan.frames all ∙ counted) in
+        let all : length plan.frames ≡ length x.jobs = plan.is_plan.all in
+        let jobs : r.cycle.jobs ≡ padded 128 no_job (map job_in (records_of x.jobs plan.frames)) =
+        jobs_read ∙ ap (padded 128 no_job) (sym (jobs_said x.jobs plan.frames all)) in
+        let frames : r.frames ≡ padded 128 0 (map frame_in (records_of x.jobs plan.frames)) =
+        plan.frames_are ∙ ap (padded 128 0) (sym (frames_said x.jobs plan.frames all)) in
+        let count : r.cycle.count ≡ length (records_of x.jobs plan.frames) = sym (records_count x.jobs plan.frames all ∙ counted) in
         (λ i. record { refusal = 0; count = count i; jobs = jobs i; frames = frames i })
-        ∙ ap knownAnswer
-        (sym (long-enough request bytes x plan.taken.within r.f plan.frames plan.verdict plan.is-plan places (omega (arith, counted))))
+        ∙ ap known_answer
+        (sym (long_enough request bytes x plan.taken.within r.f plan.frames plan.verdict plan.is_plan places (omega (arith, counted))))
 
 -- what the answer of `known` says of its parts
 pub record KnownFor (tl : Timeline) (k : JobsKnown) : Type 0 where
-  pub refusal_is : k.refusal ≡ (filledAnswer tl).refusal
-  pub count-is : k.count ≡ length (recordsIn tl)
+  pub refusal_is : k.refusal ≡ (filled_answer tl).refusal
+  pub count_is : k.count ≡ length (records_in tl)
   pub few : k.count ≤ 128
-  pub each : (y : ℕ) → y < k.count → recordHere k y ≡ get_or (recordsIn tl) y noRecord
+  pub each : (y : ℕ) → y < k.count → record_here k y ≡ get_or (records_in tl) y no_record
 
 module _ (request bytes : List ℕ) (places : ℕ) where
   abbrev tl : Timeline
   tl = filling request bytes places
 
-  few-records : length (recordsIn tl) ≤ 128
-  few-records = go (checked (cycleOf request) (decode bytes)) refl
+  few_records : length (records_in tl) ≤ 128
+  few_records = go (checked (cycle_of request) (decode bytes)) refl
     where
-      go : (v : Verdict) → checked (cycleOf request) (decode bytes) ≡ v → length (recordsIn tl) ≤ 128
-      go (checker.refusal n) is = rw (refused-is request bytes places n is) (omega arith)
+      go : (v : Verdict) → checked (cycle_of request) (decode bytes) ≡ v → length (records_in tl) ≤ 128
+      go (checker.refusal n) is = rw (refused_is request bytes places n is) (omega arith)
       go (checker.accepted f frames) is =
-          let p = plan-read request bytes f frames is in
-          let few : length p.x.jobs ≤ 128 = (within-good request p.x p.within).few-jobs in
-          ⊎_elim (λ h. rw (too_short request bytes p.x p.within f frames is p.is-plan places h) (omega arith))
-          (λ h. rw (long-enough request bytes p.x p.within f frames is p.is-plan places h) (omega (arith, records-count p.x.jobs frames p.is-plan.all)))
-          (lt-or-ge places (length p.x.jobs))
+          let p = plan_read_lem request bytes f frames is in
+          let few : length p.x.jobs ≤ 128 = (within_good request p.x p.within).few_jobs in
+          ⊎_elim (λ h. rw (too_short request bytes p.x p.within f frames is p.is_plan places h) (omega arith))
+          (λ h. rw (long_enough request bytes p.x p.within f frames is p.is_plan places h) (omega (arith, records_count p.x.jobs frames p.is_plan.all)))
+          (lt_or_ge places (length p.x.jobs))
 
-  pub known-for : (k : JobsKnown) → k ≡ knownAnswer tl → KnownFor tl k
-  known-for k e = rw e (record { refusal_is = refl; count-is = refl; few = few-records; each = there })
+  pub known_for : (k : JobsKnown) → k ≡ known_answer tl → KnownFor tl k
+  known_for k e = rw e (record { refusal_is = refl; count_is = refl; few = few_records; each = there })
     where
-      there : (y : ℕ) → y < length (recordsIn tl) → recordHere (knownAnswer tl) y ≡ get_or (recordsIn tl) y noRecord
+      there : (y : ℕ) → y < length (records_in tl) → record_here (known_answer tl) y ≡ get_or (records_in tl) y no_record
       there y h =
           rw (
-            getD-padded-any 128 noJob (map jobIn (recordsIn tl)) y,
-            getD-padded-any 128 0 (map frameIn (recordsIn tl)) y,
-            map_at jobIn noJob noRecord (recordsIn tl) y h,
-            map_at frameIn 0 noRecord (recordsIn tl) y h,
+            get_or_padded_any 128 no_job (map job_in (records_in tl)) y,
+            get_or_padded_any 128 0 (map frame_in (records_in tl)) y,
+            map_at job_in no_job no_record (records_in tl) y h,
+            map_at frame_in 0 no_record (records_in tl) y h,
           )
 
 -- The records, one place after the other
 
 -- n places in all, the next is y
 module _ (k : JobsKnown) (n y : ℕ) where
-  pub records-more : y < n → recordsFrom k (n - y) y ≡ recordHere k y ∷ recordsFrom k (n - (y + 1)) (y + 1)
-  unfolding recordsFrom
-  records-more h = rw (less_one n y h)
+  pub records_more : y < n → records_from k (n - y) y ≡ record_here k y ∷ records_from k (n - (y + 1)) (y + 1)
+  unfolding records_from
+  records_more h = rw (less_one n y h)
 
-  pub records-none : n ≤ y → recordsFrom k (n - y) y ≡ []
-  unfolding recordsFrom
-  records-none h = rw (none_left n y h)
+  pub records_none : n ≤ y → records_from k (n - y) y ≡ []
+  unfolding records_from
+  records_none h = rw (none_left n y h)
 
 -- they are those of the timeline
 module _ (tl : Timeline) (k : JobsKnown) (known : KnownFor tl k) where
-  from-here : (n y : ℕ) → y + n ≡ k.count → recordsFrom k n y ≡ drop y (recordsIn tl)
-  unfolding recordsFrom
-  from-here zero y e =
-      let all : y ≡ length (recordsIn tl) = omega (arith, known.count-is) in
-      rw all (sym (drop-length (recordsIn tl)))
-  from-here (suc n) y e =
+  from_here : (n y : ℕ) → y + n ≡ k.count → records_from k n y ≡ drop y (records_in tl)
+  unfolding records_from
+  from_here zero y e =
+      let all : y ≡ length (records_in tl) = omega (arith, known.count_is) in
+      rw all (sym (drop-length (records_in tl)))
+  from_here (suc n) y e =
       let here : y < k.count = omega arith in
       let next : y + 1 ≡ suc y = omega arith in
-      ap₂ (λ (r : JobRecord) (rs : List JobRecord). r ∷ rs) (known.each y here) (from-here n (y + 1) (omega arith) ∙ ap (λ (z : ℕ). drop z (recordsIn tl)) next)
-      ∙ sym (drop-cons (recordsIn tl) y noRecord (omega (arith, known.count-is)))
+      ap₂ (λ (r : JobRecord) (rs : List JobRecord). r ∷ rs) (known.each y here) (from_here n (y + 1) (omega arith) ∙ ap (λ (z : ℕ). drop z (records_in tl)) next)
+      ∙ sym (drop-cons (records_in tl) y no_record (omega (arith, known.count_is)))
 
-  pub known-are : recordsKnown k ≡ recordsIn tl
-  known-are = from-here k.count 0 (zero-add k.count)
+  pub known_are : records_known k ≡ records_in tl
+  known_are = from_here k.count 0 (zero-add k.count)

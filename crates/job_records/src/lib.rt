@@ -1,7 +1,7 @@
 // The timeline of an accepted table: a record for each job of the cycle, in planning order.
 ghost use Rattle.std.specs.Prelude.{◌≡◌, ◌<◌, length};
-ghost use Rattle.job_records.specs.Timeline.{Timeline, refusal, filling, filledAnswer, filledRecords};
-ghost use Rattle.job_records.specs.Known.{knownAnswer, recordHere};
+ghost use Rattle.job_records.specs.Timeline.{Timeline, refusal, filling, filled_answer, filled_records};
+ghost use Rattle.job_records.specs.Known.{known_answer, record_here};
 
 use cycle::Job;
 
@@ -32,7 +32,7 @@ pub struct JobsKnown {
 }
 
 fn refused(number: u8) -> JobsKnown
-    ensures { result ≡ knownAnswer (refusal number) }
+    ensures { result ≡ known_answer (refusal number) }
 {
     JobsKnown {
         refusal: number,
@@ -49,7 +49,7 @@ fn refused(number: u8) -> JobsKnown
 
 // The jobs of the request and the frames that the table gives them, for a list with so many places; or the check's number, or 11 where there are fewer places.
 pub fn known(request: &[u8], table: &[u8], places: usize) -> JobsKnown
-    ensures { result ≡ knownAnswer (filling request.now table.now places) }
+    ensures { result ≡ known_answer (filling request.now table.now places) }
 {
     let read = checker::read_plan(request, table);
     if read.refusal != 0 {
@@ -72,7 +72,7 @@ pub fn known(request: &[u8], table: &[u8], places: usize) -> JobsKnown
 // The record of the job at place y.
 pub fn record_at(known: JobsKnown, y: usize) -> JobRecord
     requires { y < 128 }
-    ensures { result ≡ recordHere known y }
+    ensures { result ≡ record_here known y }
 {
     let jobs = known.jobs;
     let frames = known.frames;
@@ -88,8 +88,8 @@ pub fn record_at(known: JobsKnown, y: usize) -> JobRecord
 
 // The first records are filled, one for each job of the cycle, in planning order; where the table is refused, or the list is too short, none.
 pub fn fill(request: &[u8], table: &[u8], records: &mut [JobRecord]) -> RecordsFilled
-    ensures { (result ≡ filledAnswer (filling request.now table.now (length records.old)))
-        × (records.new ≡ filledRecords (filling request.now table.now (length records.old)) records.old) }
+    ensures { (result ≡ filled_answer (filling request.now table.now (length records.old)))
+        × (records.new ≡ filled_records (filling request.now table.now (length records.old)) records.old) }
 {
     let known = known(request, table, records.len());
     let mut i: usize = 0;

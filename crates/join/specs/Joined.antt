@@ -5,15 +5,15 @@ use Rattle.request.specs.declared.Task.{Task}
 use Rattle.request.specs.declared.Pair.{Pair}
 
 -- "with numbers raised by the first's n"
-abbrev pub raisedBy : ℕ → Pair → Pair
-raisedBy n q = record { a = q.a + n; b = q.b + n }
+abbrev pub raised_by : ℕ → Pair → Pair
+raised_by n q = record { a = q.a + n; b = q.b + n }
 
 -- "the first's tasks, then the second's with numbers raised by the first's n, pairs likewise"
-abbrev pub joinedTasks : List Task → List Task → List Task
-joinedTasks tasks tasks' = tasks ++ tasks'
+abbrev pub joined_tasks : List Task → List Task → List Task
+joined_tasks tasks tasks' = tasks ++ tasks'
 
-abbrev pub joinedPairs : ℕ → List Pair → List Pair → List Pair
-joinedPairs n pairs pairs' = pairs ++ map (raisedBy n) pairs'
+abbrev pub joined_pairs : ℕ → List Pair → List Pair → List Pair
+joined_pairs n pairs pairs' = pairs ++ map (raised_by n) pairs'
 
 -- "It refuses with 18 more than 16 tasks, then 19 more than 16 pairs, then 20 differing g."; 0: none of these
 unfoldable pub misfit : ℕ → ℕ → ℕ → ℕ → ℕ
@@ -31,4 +31,4 @@ joined (unreadable number) second = unreadable number
 joined (readable tasks pairs g) (unreadable number) = unreadable number
 joined (readable tasks pairs g) (readable tasks' pairs' h) =
     unless (misfit (length tasks + length tasks') (length pairs + length pairs') g h)
-    (readable (joinedTasks tasks tasks') (joinedPairs (length tasks) pairs pairs') g)
+    (readable (joined_tasks tasks tasks') (joined_pairs (length tasks) pairs pairs') g)

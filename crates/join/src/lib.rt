@@ -1,10 +1,10 @@
 // Joining two requests: the tasks and pairs of the first and then those of the second, whose numbers are raised by the first's number of tasks.
 ghost use Rattle.std.specs.Prelude.{◌≡◌, ◌++◌, map, ◌+◌, ◌≤◌};
 ghost use Rattle.cursor.specs.Padded.{padded, firsts};
-ghost use Rattle.request.specs.Request.{noTask, noPair, reading};
-ghost use Rattle.request.specs.Written.{requestAnswer, requestBuffer};
+ghost use Rattle.request.specs.Request.{no_task, no_pair, reading};
+ghost use Rattle.request.specs.Written.{request_answer, request_buffer};
 ghost use Rattle.request.specs.Places.{Few};
-ghost use Rattle.join.specs.Joined.{raisedBy, misfit, joined};
+ghost use Rattle.join.specs.Joined.{raised_by, misfit, joined};
 
 use cursor::Written;
 use request::{Pair, Task};
@@ -27,8 +27,8 @@ fn number_of_misfit(n: usize, m: usize, g: u8, h: u8) -> u8
 
 // The first n tasks of `first`, behind which nothing stands, and then the first k of `second`.
 fn join_tasks(first: [Task; 16], n: usize, second: [Task; 16], k: usize) -> [Task; 16]
-    requires { (n + k ≤ 16) × (first ≡ padded 16 noTask (firsts n noTask first)) }
-    ensures { result ≡ padded 16 noTask (firsts n noTask first ++ firsts k noTask second) }
+    requires { (n + k ≤ 16) × (first ≡ padded 16 no_task (firsts n no_task first)) }
+    ensures { result ≡ padded 16 no_task (firsts n no_task first ++ firsts k no_task second) }
 {
     let mut tasks = first;
     let mut i: usize = 0;
@@ -41,8 +41,8 @@ fn join_tasks(first: [Task; 16], n: usize, second: [Task; 16], k: usize) -> [Tas
 
 // The first m pairs of `first`, behind which nothing stands, and then the first k of `second`, with both numbers raised by n.
 fn join_pairs(first: [Pair; 16], m: usize, second: [Pair; 16], k: usize, n: u8) -> [Pair; 16]
-    requires { (m + k ≤ 16) × (first ≡ padded 16 noPair (firsts m noPair first)) × (n ≤ 16) × Few second }
-    ensures { result ≡ padded 16 noPair (firsts m noPair first ++ map (raisedBy n) (firsts k noPair second)) }
+    requires { (m + k ≤ 16) × (first ≡ padded 16 no_pair (firsts m no_pair first)) × (n ≤ 16) × Few second }
+    ensures { result ≡ padded 16 no_pair (firsts m no_pair first ++ map (raised_by n) (firsts k no_pair second)) }
 {
     let mut pairs = first;
     let mut i: usize = 0;
@@ -59,8 +59,8 @@ fn join_pairs(first: [Pair; 16], m: usize, second: [Pair; 16], k: usize, n: u8) 
 
 // The request of the two, written into `out`; the answer holds its length. A refusal leaves `out` as it was.
 pub fn join(first: &[u8], second: &[u8], out: &mut [u8]) -> Written
-    ensures { (result ≡ requestAnswer (joined (reading first.now) (reading second.now)) out.old)
-        × (out.new ≡ requestBuffer (joined (reading first.now) (reading second.now)) out.old) }
+    ensures { (result ≡ request_answer (joined (reading first.now) (reading second.now)) out.old)
+        × (out.new ≡ request_buffer (joined (reading first.now) (reading second.now)) out.old) }
 {
     let x = request::read(first);
     if x.refusal != 0 {

@@ -12,34 +12,34 @@ use mir.Val.{bool_byte}
 use Rattle.cursor.specs.Choice.{bit}
 use Rattle.dispatcher.specs.declared.State.{State}
 use Rattle.heater_link.specs.declared.Link.{Link}
-use Rattle.lent.specs.State.{isState, stateBytes}
-use Rattle.lent.specs.StateBack.{state-behind}
-use Rattle.lent.specs.HeaterBytes.{isBit, isHeater, heaterBytes}
+use Rattle.lent.specs.State.{is_state, state_bytes}
+use Rattle.lent.specs.StateBack.{state_behind}
+use Rattle.lent.specs.HeaterBytes.{is_bit, is_heater, heater_bytes}
 
 module _ (bytes : List ℕ) where
-  pub heater-short : length bytes < 72 → false ≡ isHeater bytes
-  unfolding isHeater
-  heater-short h = rw (lt-ltb (length bytes) 72 h)
+  pub heater_short : length bytes < 72 → false ≡ is_heater bytes
+  unfolding is_heater
+  heater_short h = rw (lt-ltb (length bytes) 72 h)
 
   module _ (h : 72 ≤ length bytes) where
-    pub heater-no-state : isState bytes ≡ false → false ≡ isHeater bytes
-    unfolding isHeater
-    heater-no-state e = rw (le-ltb (length bytes) 72 h, e)
+    pub heater_no_state : is_state bytes ≡ false → false ≡ is_heater bytes
+    unfolding is_heater
+    heater_no_state e = rw (le-ltb (length bytes) 72 h, e)
 
-    pub heater-no-bits : isState bytes ≡ true → isBit bytes 64 && isBit bytes 65 ≡ false → false ≡ isHeater bytes
-    unfolding isHeater
-    heater-no-bits e q = rw (le-ltb (length bytes) 72 h, e, q)
+    pub heater_no_bits : is_state bytes ≡ true → is_bit bytes 64 && is_bit bytes 65 ≡ false → false ≡ is_heater bytes
+    unfolding is_heater
+    heater_no_bits e q = rw (le-ltb (length bytes) 72 h, e, q)
 
-    pub heater-bits : isState bytes ≡ true → isBit bytes 64 && isBit bytes 65 ≡ true → isBit bytes 66 && isBit bytes 67 ≡ isHeater bytes
-    unfolding isHeater
-    heater-bits e q = rw (le-ltb (length bytes) 72 h, e, q)
+    pub heater_bits : is_state bytes ≡ true → is_bit bytes 64 && is_bit bytes 65 ≡ true → is_bit bytes 66 && is_bit bytes 67 ≡ is_heater bytes
+    unfolding is_heater
+    heater_bits e q = rw (le-ltb (length bytes) 72 h, e, q)
 
-  pub heater-long : isHeater bytes ≡ true → 72 ≤ length bytes
-  unfolding isHeater
-  heater-long e = go (ltb (length bytes) 72) refl e
+  pub heater_long : is_heater bytes ≡ true → 72 ≤ length bytes
+  unfolding is_heater
+  heater_long e = go (ltb (length bytes) 72) refl e
     where
       go : (b : Bool) → ltb (length bytes) 72 ≡ b
-          → cond b false (isState bytes && ((isBit bytes 64 && isBit bytes 65) && (isBit bytes 66 && isBit bytes 67))) ≡ true
+          → cond b false (is_state bytes && ((is_bit bytes 64 && is_bit bytes 65) && (is_bit bytes 66 && is_bit bytes 67))) ≡ true
           → 72 ≤ length bytes
       go true w q = absurd (false≢true q)
       go false w q = ltb-false (length bytes) 72 w
@@ -49,17 +49,17 @@ bit_is true = refl
 bit_is false = refl
 
 -- behind the state the bytes are as they were
-pub behind-state : (s : State) (bytes : List ℕ) → drop 68 (stateBytes s bytes) ≡ drop 68 bytes
-behind-state s bytes = sym (drop-drop 33 35 (stateBytes s bytes)) ∙ ap (drop 33) (state-behind s bytes) ∙ drop-drop 33 35 bytes
+pub behind_state : (s : State) (bytes : List ℕ) → drop 68 (state_bytes s bytes) ≡ drop 68 bytes
+behind_state s bytes = sym (drop-drop 33 35 (state_bytes s bytes)) ∙ ap (drop 33) (state_behind s bytes) ∙ drop-drop 33 35 bytes
 
 -- four stores behind the state
-pub heater-stored : (s : Link) (toggled answered : Bool) (bytes out : List ℕ) → out ≡ stateBytes s.state bytes → 72 ≤ length out
+pub heater_stored : (s : Link) (toggled answered : Bool) (bytes out : List ℕ) → out ≡ state_bytes s.state bytes → 72 ≤ length out
     → set (set (set (set out 64 (bool_byte s.master)) 65 (bool_byte s.obeyed)) 66 (bool_byte toggled)) 67 (bool_byte answered)
-    ≡ heaterBytes s toggled answered bytes
-unfolding heaterBytes
-heater-stored s toggled answered bytes out e h =
+    ≡ heater_bytes s toggled answered bytes
+unfolding heater_bytes
+heater_stored s toggled answered bytes out e h =
     let four : List ℕ = bit s.master ∷ bit s.obeyed ∷ bit toggled ∷ bit answered ∷ [] in
     rw (bit_is s.master, bit_is s.obeyed, bit_is toggled, bit_is answered)
     (sets-eq four out 64 (omega arith) ∙ ap (λ (l : List ℕ). take 64 l ++ four ++ drop 68 l) e
-    ∙ ap (λ (l : List ℕ). take 64 (stateBytes s.state bytes) ++ four ++ l) (behind-state s.state bytes)
-    ∙ append_assoc (take 64 (stateBytes s.state bytes)) four (drop 68 bytes))
+    ∙ ap (λ (l : List ℕ). take 64 (state_bytes s.state bytes) ++ four ++ l) (behind_state s.state bytes)
+    ∙ append_assoc (take 64 (state_bytes s.state bytes)) four (drop 68 bytes))

@@ -9,5 +9,5 @@ low_first zero number = []
 low_first (suc n) number = (number % 256) ∷ low_first n (number / 256)
 
 -- the phases that lead to a table, to 9, to 10 and to 23
-unfoldable pub countsBytes : PhaseCounts → List ℕ
-countsBytes found = word_bytes found.tables ++ word_bytes found.nines ++ word_bytes found.tens ++ word_bytes found.ended
+unfoldable pub counts_bytes : PhaseCounts → List ℕ
+counts_bytes found = word_bytes found.tables ++ word_bytes found.nines ++ word_bytes found.tens ++ word_bytes found.ended

@@ -3,5 +3,5 @@ use Rattle.std.specs.Prelude.{ℕ, List, ◌∷◌, ◌++◌}
 use Rattle.cursor.specs.Fields.{word_bytes}
 use Rattle.job_records.specs.declared.JobRecord.{JobRecord}
 
-unfoldable pub recordBytes : JobRecord → List ℕ
-recordBytes r = r.task ∷ r.job ∷ word_bytes r.release ++ word_bytes r.due ++ word_bytes r.frame
+unfoldable pub record_bytes : JobRecord → List ℕ
+record_bytes r = r.task ∷ r.job ∷ word_bytes r.release ++ word_bytes r.due ++ word_bytes r.frame

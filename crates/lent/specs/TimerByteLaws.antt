@@ -6,34 +6,34 @@ use Rattle.std.proofs.lemmas.Bool.{false≢true}
 use Rattle.std.proofs.Math.ListN.{length}
 use Rattle.std.proofs.Math.Dec.{ltb}
 use borrow.Author.Tests.{ltb-false, lt-ltb, le-ltb}
-use Rattle.lent.specs.TimerBytes.{isTimer}
+use Rattle.lent.specs.TimerBytes.{is_timer}
 
 module _ (bytes : List ℕ) where
-  abbrev judgedLong : Bool
-  judgedLong = ltb (get_or bytes 2 0) 2 && (ltb (get_or bytes 64 0) 4 && ltb (get_or bytes 65 0) 8)
+  abbrev judged_long : Bool
+  judged_long = ltb (get_or bytes 2 0) 2 && (ltb (get_or bytes 64 0) 4 && ltb (get_or bytes 65 0) 8)
 
-  pub timer-short : length bytes < 72 → false ≡ isTimer bytes
-  unfolding isTimer
-  timer-short h = rw (lt-ltb (length bytes) 72 h)
+  pub timer_short : length bytes < 72 → false ≡ is_timer bytes
+  unfolding is_timer
+  timer_short h = rw (lt-ltb (length bytes) 72 h)
 
-  pub timer-long : isTimer bytes ≡ true → 72 ≤ length bytes
-  unfolding isTimer
-  timer-long e = go (ltb (length bytes) 72) refl e
+  pub timer_long : is_timer bytes ≡ true → 72 ≤ length bytes
+  unfolding is_timer
+  timer_long e = go (ltb (length bytes) 72) refl e
     where
-      go : (b : Bool) → ltb (length bytes) 72 ≡ b → cond b false judgedLong ≡ true → 72 ≤ length bytes
+      go : (b : Bool) → ltb (length bytes) 72 ≡ b → cond b false judged_long ≡ true → 72 ≤ length bytes
       go true w q = absurd (false≢true q)
       go false w q = ltb-false (length bytes) 72 w
 
   module _ (long : 72 ≤ length bytes) where
-    pub bad-mark : 2 ≤ get_or bytes 2 0 → false ≡ isTimer bytes
-    unfolding isTimer
-    bad-mark h = rw (le-ltb (length bytes) 72 long, le-ltb (get_or bytes 2 0) 2 h)
+    pub bad_mark : 2 ≤ get_or bytes 2 0 → false ≡ is_timer bytes
+    unfolding is_timer
+    bad_mark h = rw (le-ltb (length bytes) 72 long, le-ltb (get_or bytes 2 0) 2 h)
 
     module _ (mark : get_or bytes 2 0 < 2) where
-      pub bad-control : 4 ≤ get_or bytes 64 0 → false ≡ isTimer bytes
-      unfolding isTimer
-      bad-control h = rw (le-ltb (length bytes) 72 long, lt-ltb (get_or bytes 2 0) 2 mark, le-ltb (get_or bytes 64 0) 4 h)
+      pub bad_control : 4 ≤ get_or bytes 64 0 → false ≡ is_timer bytes
+      unfolding is_timer
+      bad_control h = rw (le-ltb (length bytes) 72 long, lt-ltb (get_or bytes 2 0) 2 mark, le-ltb (get_or bytes 64 0) 4 h)
 
-      pub status-decides : get_or bytes 64 0 < 4 → ltb (get_or bytes 65 0) 8 ≡ isTimer bytes
-      unfolding isTimer
-      status-decides h = rw (le-ltb (length bytes) 72 long, lt-ltb (get_or bytes 2 0) 2 mark, lt-ltb (get_or bytes 64 0) 4 h)
+      pub status_decides : get_or bytes 64 0 < 4 → ltb (get_or bytes 65 0) 8 ≡ is_timer bytes
+      unfolding is_timer
+      status_decides h = rw (le-ltb (length bytes) 72 long, lt-ltb (get_or bytes 2 0) 2 mark, lt-ltb (get_or bytes 64 0) 4 h)

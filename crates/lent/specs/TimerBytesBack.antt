@@ -6,69 +6,69 @@ use Rattle.std.proofs.lemmas.Bool.{false≢true}
 use Rattle.std.proofs.Math.ListN.{length-set}
 use Rattle.std.proofs.Math.Seq.{get_or-set_same, get_or-set_other, set-get_or}
 use Rattle.cursor.specs.Fields.{Bytes}
-use Rattle.timer.specs.Registers.{controlByte, statusByte}
-use Rattle.timer.specs.RegisterLaws.{control-back, status-back, control-few, status-few, control-bits, status-bits}
+use Rattle.timer.specs.Registers.{control_byte, status_byte}
+use Rattle.timer.specs.RegisterLaws.{control_back, status_back, control_few, status_few, control_bits, status_bits}
 use Rattle.timer.specs.declared.Timer.{Timer}
-use Rattle.lent.specs.State.{isState, state_of, stateBytes}
+use Rattle.lent.specs.State.{is_state, state_of, state_bytes}
 use Rattle.lent.specs.StateLaws.{long}
-use Rattle.lent.specs.StateBack.{same-state, state-kept, state-length, state-is, state-read, bytes_back}
-use Rattle.lent.specs.TimerBytes.{isTimer, timerOf, timerBytes}
-use Rattle.lent.specs.TimerByteLaws.{timer-long, status-decides}
+use Rattle.lent.specs.StateBack.{same_state, state_kept, state_length, state_is, state_read, bytes_back}
+use Rattle.lent.specs.TimerBytes.{is_timer, timer_of, timer_bytes}
+use Rattle.lent.specs.TimerByteLaws.{timer_long, status_decides}
 
 module _ (t : Timer) (bytes : List ℕ) (far : 72 ≤ length bytes) where
   abbrev state : List ℕ
-  state = stateBytes t.state bytes
+  state = state_bytes t.state bytes
 
   abbrev control : List ℕ
-  control = set state 64 (controlByte t.control)
+  control = set state 64 (control_byte t.control)
 
   as_long : length state ≡ length bytes
-  as_long = state-length t.state bytes (omega arith)
+  as_long = state_length t.state bytes (omega arith)
 
-  pub timer-length : length (timerBytes t bytes) ≡ length bytes
-  unfolding timerBytes
-  timer-length = length-set control 65 (statusByte t.status) ∙ length-set state 64 (controlByte t.control) ∙ as_long
+  pub timer_length : length (timer_bytes t bytes) ≡ length bytes
+  unfolding timer_bytes
+  timer_length = length-set control 65 (status_byte t.status) ∙ length-set state 64 (control_byte t.control) ∙ as_long
 
-  status-there : get_or (timerBytes t bytes) 65 0 ≡ statusByte t.status
-  unfolding timerBytes
-  status-there = get_or-set_same control 65 (statusByte t.status) 0 (omega (arith, length-set state 64 (controlByte t.control), as_long))
+  status_there : get_or (timer_bytes t bytes) 65 0 ≡ status_byte t.status
+  unfolding timer_bytes
+  status_there = get_or-set_same control 65 (status_byte t.status) 0 (omega (arith, length-set state 64 (control_byte t.control), as_long))
 
-  control-there : get_or (timerBytes t bytes) 64 0 ≡ controlByte t.control
-  unfolding timerBytes
-  control-there =
-      get_or-set_other control 65 64 (statusByte t.status) 0 (λ e. omega arith)
-      ∙ get_or-set_same state 64 (controlByte t.control) 0 (omega (arith, as_long))
+  control_there : get_or (timer_bytes t bytes) 64 0 ≡ control_byte t.control
+  unfolding timer_bytes
+  control_there =
+      get_or-set_other control 65 64 (status_byte t.status) 0 (λ e. omega arith)
+      ∙ get_or-set_same state 64 (control_byte t.control) 0 (omega (arith, as_long))
 
-  other-there : (i : ℕ) → (i ≡ 64 → ⊥) → (i ≡ 65 → ⊥) → get_or (timerBytes t bytes) i 0 ≡ get_or state i 0
-  unfolding timerBytes
-  other-there i n m = get_or-set_other control 65 i (statusByte t.status) 0 m ∙ get_or-set_other state 64 i (controlByte t.control) 0 n
+  other_there : (i : ℕ) → (i ≡ 64 → ⊥) → (i ≡ 65 → ⊥) → get_or (timer_bytes t bytes) i 0 ≡ get_or state i 0
+  unfolding timer_bytes
+  other_there i n m = get_or-set_other control 65 i (status_byte t.status) 0 m ∙ get_or-set_other state 64 i (control_byte t.control) 0 n
 
-  state-there : state_of (timerBytes t bytes) ≡ state_of state
-  state-there = same-state (timerBytes t bytes) state (λ i h. other-there i (λ e. omega arith) (λ e. omega arith))
+  state_there : state_of (timer_bytes t bytes) ≡ state_of state
+  state_there = same_state (timer_bytes t bytes) state (λ i h. other_there i (λ e. omega arith) (λ e. omega arith))
 
-  marked : get_or (timerBytes t bytes) 2 0 < 2
+  marked : get_or (timer_bytes t bytes) 2 0 < 2
   marked =
-      let mark : get_or state 2 0 < 2 = ltb-true (get_or state 2 0) 2 (long state (omega (arith, as_long)) ∙ state-is t.state bytes (omega arith)) in
-      rw (other-there 2 (λ e. omega arith) (λ e. omega arith)) mark
+      let mark : get_or state 2 0 < 2 = ltb-true (get_or state 2 0) 2 (long state (omega (arith, as_long)) ∙ state_is t.state bytes (omega arith)) in
+      rw (other_there 2 (λ e. omega arith) (λ e. omega arith)) mark
 
-  pub timer-is : isTimer (timerBytes t bytes) ≡ true
-  timer-is =
-      sym (status-decides (timerBytes t bytes) (omega (arith, timer-length)) marked (rw control-there (control-few t.control)))
-      ∙ rw status-there (lt-ltb (statusByte t.status) 8 (status-few t.status))
+  pub timer_is : is_timer (timer_bytes t bytes) ≡ true
+  timer_is =
+      sym (status_decides (timer_bytes t bytes) (omega (arith, timer_length)) marked (rw control_there (control_few t.control)))
+      ∙ rw status_there (lt-ltb (status_byte t.status) 8 (status_few t.status))
 
-  pub timer-read : length t.state.counts ≡ 16 → timerOf (timerBytes t bytes) ≡ t
-  unfolding timerOf
-  timer-read all = rw (state-there, state-read t.state bytes all, control-there, status-there, control-back t.control, status-back t.status)
+  pub timer_read : length t.state.counts ≡ 16 → timer_of (timer_bytes t bytes) ≡ t
+  unfolding timer_of
+  timer_read all = rw (state_there, state_read t.state bytes all, control_there, status_there, control_back t.control, status_back t.status)
 
   -- bytes 66 to 71, and those behind the timer
-  pub timer-kept : (i : ℕ) → 66 ≤ i → get_or (timerBytes t bytes) i 0 ≡ get_or bytes i 0
-  timer-kept i h = other-there i (λ e. omega arith) (λ e. omega arith) ∙ state-kept t.state bytes i (omega arith)
+  pub timer_kept : (i : ℕ) → 66 ≤ i → get_or (timer_bytes t bytes) i 0 ≡ get_or bytes i 0
+  timer_kept i h = other_there i (λ e. omega arith) (λ e. omega arith) ∙ state_kept t.state bytes i (omega arith)
 
 -- The bytes of a timer
 
-module _ (bytes : List ℕ) (are : Bytes bytes) (is : isTimer bytes ≡ true) where
+module _ (bytes : List ℕ) (are : Bytes bytes) (is : is_timer bytes ≡ true) where
   far : 72 ≤ length bytes
-  far = timer-long bytes is
+  far = timer_long bytes is
 
   -- each test of a timer has passed
   judged : (a b c : Bool) → a && (b && c) ≡ true → (a ≡ true) × (b ≡ true) × (c ≡ true)
@@ -77,19 +77,19 @@ module _ (bytes : List ℕ) (are : Bytes bytes) (is : isTimer bytes ≡ true) wh
   judged false b c e = absurd (false≢true e)
 
   passed : (ltb (get_or bytes 2 0) 2 ≡ true) × (ltb (get_or bytes 64 0) 4 ≡ true) × (ltb (get_or bytes 65 0) 8 ≡ true)
-  unfolding isTimer
+  unfolding is_timer
   passed = judged _ _ _ (rw (le-ltb (length bytes) 72 far) at is)
 
-  a-state : isState bytes ≡ true
-  a-state = sym (long bytes (omega (arith, far))) ∙ passed.0
+  a_state : is_state bytes ≡ true
+  a_state = sym (long bytes (omega (arith, far))) ∙ passed.0
 
-  pub timer-back : timerBytes (timerOf bytes) bytes ≡ bytes
-  unfolding timerBytes timerOf
-  timer-back =
+  pub timer_back : timer_bytes (timer_of bytes) bytes ≡ bytes
+  unfolding timer_bytes timer_of
+  timer_back =
       rw (
-        bytes_back bytes a-state are,
-        control-bits (get_or bytes 64 0) (ltb-true (get_or bytes 64 0) 4 passed.1),
-        status-bits (get_or bytes 65 0) (ltb-true (get_or bytes 65 0) 8 passed.2),
+        bytes_back bytes a_state are,
+        control_bits (get_or bytes 64 0) (ltb-true (get_or bytes 64 0) 4 passed.1),
+        status_bits (get_or bytes 65 0) (ltb-true (get_or bytes 65 0) 8 passed.2),
         set-get_or bytes 64 0,
         set-get_or bytes 65 0,
       )

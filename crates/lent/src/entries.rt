@@ -1,11 +1,11 @@
 // The entries of a frame in 32 lent bytes.
 ghost use Rattle.std.specs.Prelude.{◌≡◌, ◌≤◌, ◌++◌, length, drop};
-ghost use Rattle.lent.specs.Entries.{entryBytes};
+ghost use Rattle.lent.specs.Entries.{entry_bytes};
 
 // 16 pairs of a task byte and a job byte; the bytes behind them are left alone.
 pub fn write_pairs(entries: &mut [u8], tasks: [u8; 16], jobs: [u8; 16])
     requires { 32 ≤ length entries.old }
-    ensures { entries.new ≡ entryBytes tasks jobs 16 0 ++ drop 32 entries.old }
+    ensures { entries.new ≡ entry_bytes tasks jobs 16 0 ++ drop 32 entries.old }
 {
     let mut at: usize = 0;
     let mut i: usize = 0;

@@ -1,6 +1,6 @@
 // A heater in the bytes that the caller lends: 72, the dispatcher's state, the two bits, and what the last call said.
 ghost use Rattle.std.specs.Prelude.{◌≡◌, ◌≤◌, ◌&&◌, length, ltb};
-ghost use Rattle.lent.specs.HeaterBytes.{isHeater, link_of, heaterBytes};
+ghost use Rattle.lent.specs.HeaterBytes.{is_heater, link_of, heater_bytes};
 
 use crate::state::{is_state, read_state, write_state};
 use heater_link::Link;
@@ -13,7 +13,7 @@ fn two_bits(x: u8, y: u8) -> bool
 
 // 72 bytes or more, a state in front, and bytes 64 to 67 each 0 or 1.
 pub fn is_heater(heater: &[u8]) -> bool
-    ensures { result ≡ isHeater heater.now }
+    ensures { result ≡ is_heater heater.now }
 {
     if heater.len() < 72 {
         return false;
@@ -42,7 +42,7 @@ pub fn read_link(heater: &[u8]) -> Link
 // The first 35 bytes and bytes 64 to 67; the others are left alone.
 pub fn write_heater(heater: &mut [u8], link: Link, toggled: bool, answered: bool)
     requires { 72 ≤ length heater.old }
-    ensures { heater.new ≡ heaterBytes link toggled answered heater.old }
+    ensures { heater.new ≡ heater_bytes link toggled answered heater.old }
 {
     write_state(heater, link.state);
     heater[64] = link.master as u8;

@@ -1,15 +1,15 @@
 // The records of a timeline in the bytes that the caller lends: 8 for each.
 ghost use Rattle.std.specs.Prelude.{◌≡◌, ◌*◌, ◌≤◌, length, drop};
 ghost use mathlib.Core.List.{◌++◌, flat_map};
-ghost use Rattle.job_records.specs.Known.{recordsKnown};
-ghost use Rattle.lent.specs.Records.{recordBytes};
+ghost use Rattle.job_records.specs.Known.{records_known};
+ghost use Rattle.lent.specs.Records.{record_bytes};
 
 use job_records::{JobRecord, JobsKnown};
 
 // The first 8 bytes; those behind them are left alone.
 fn write_record(out: &mut [u8], job: JobRecord)
     requires { 8 ≤ length out.old }
-    ensures { out.new ≡ recordBytes job ++ drop 8 out.old }
+    ensures { out.new ≡ record_bytes job ++ drop 8 out.old }
 {
     out[0] = job.task;
     out[1] = job.job;
@@ -21,7 +21,7 @@ fn write_record(out: &mut [u8], job: JobRecord)
 // A record for each job, one behind the other; the bytes behind them are left alone.
 pub fn write_records(out: &mut [u8], known: JobsKnown)
     requires { (known.count ≤ 128) × (8 * known.count ≤ length out.old) }
-    ensures { out.new ≡ flat_map recordBytes (recordsKnown known) ++ drop (8 * known.count) out.old }
+    ensures { out.new ≡ flat_map record_bytes (records_known known) ++ drop (8 * known.count) out.old }
 {
     let n = known.count;
     let mut at: usize = 0;

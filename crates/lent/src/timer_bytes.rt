@@ -1,13 +1,13 @@
 // A bus timer in the bytes that the caller lends: 72, of which the first 64 are the dispatcher's state.
 ghost use Rattle.std.specs.Prelude.{◌≡◌, ◌≤◌, length};
-ghost use Rattle.lent.specs.TimerBytes.{isTimer, timerOf, timerBytes};
+ghost use Rattle.lent.specs.TimerBytes.{is_timer, timer_of, timer_bytes};
 
 use crate::state::{read_state, write_state};
 use timer::Timer;
 
 // 72 bytes or more, with a mark of 0 or 1, control of at most 3 and status of at most 7.
 pub fn is_timer(timer: &[u8]) -> bool
-    ensures { result ≡ isTimer timer.now }
+    ensures { result ≡ is_timer timer.now }
 {
     if timer.len() < 72 {
         return false;
@@ -23,7 +23,7 @@ pub fn is_timer(timer: &[u8]) -> bool
 
 pub fn read_timer(timer: &[u8]) -> Timer
     requires { 72 ≤ length timer.now }
-    ensures { result ≡ timerOf timer.now }
+    ensures { result ≡ timer_of timer.now }
 {
     let state = read_state(timer);
     let control = timer::control_of(timer[64]);
@@ -38,7 +38,7 @@ pub fn read_timer(timer: &[u8]) -> Timer
 // The dispatcher's state, and bytes 64 and 65; all other bytes are left alone.
 pub fn write_timer(timer: &mut [u8], new: Timer)
     requires { 72 ≤ length timer.old }
-    ensures { timer.new ≡ timerBytes new timer.old }
+    ensures { timer.new ≡ timer_bytes new timer.old }
 {
     write_state(timer, new.state);
     timer[64] = timer::control_byte(new.control);

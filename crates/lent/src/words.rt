@@ -2,10 +2,10 @@
 ghost use Rattle.std.specs.Prelude.{◌≡◌, ◌+◌, ◌≤◌, ◌++◌, length, drop};
 ghost use Rattle.std.proofs.lemmas.List.Edits.{sets};
 ghost use Rattle.cursor.specs.Fields.{word_bytes};
-ghost use Rattle.lent.specs.Words.{u16Of, zeros};
+ghost use Rattle.lent.specs.Words.{u16_of, zeros};
 
 pub(super) fn word(low: u8, high: u8) -> u16
-    ensures { result ≡ u16Of low high }
+    ensures { result ≡ u16_of low high }
 {
     (low as u16) + (high as u16) * 256
 }

@@ -3,5 +3,5 @@ use Rattle.std.specs.Prelude.{ℕ, Bool, ◌&&◌, eqb}
 use Rattle.cycle.specs.declared.Job.{Job}
 
 -- it is job `number` of the task
-unfoldable pub isJob : ℕ → ℕ → Job → Bool
-isJob task number job = eqb job.task task && eqb job.number number
+unfoldable pub is_job : ℕ → ℕ → Job → Bool
+is_job task number job = eqb job.task task && eqb job.number number

@@ -5,11 +5,11 @@ use Rattle.std.specs.Prelude.{◌≡◌, ◌↔◌, ℕ, ◌+◌, ◌*◌, ◌-�
 use Rattle.std.proofs.Common.{sym, ap, ◌∙◌, mod-lt, arith}
 use Rattle.std.specs.Int.{◌∣◌}
 use Rattle.std.proofs.Math.Nat.{mod-le, mod-mod, mod-mod_of_dvd, div-mul_cancel, le_of_dvd, pos_of_dvd_of_pos}
-use Rattle.arith.specs.Gcd.{gcdOf}
-use Rattle.arith.specs.GcdLaws.{gcd-dvd}
-use Rattle.arith.specs.Residue.{congruent, residues-reached}
+use Rattle.arith.specs.Gcd.{gcd_of}
+use Rattle.arith.specs.GcdLaws.{gcd_dvd}
+use Rattle.arith.specs.Residue.{congruent, residues_reached}
 use Rattle.model.specs.Plan.{InWindow}
-use Rattle.model.specs.WindowLaws.{since, since-is, window-holds}
+use Rattle.model.specs.WindowLaws.{since, since_is, window_holds}
 
 -- every job of the task has a whole frame in its window
 abbrev pub EveryWindowHolds : ℕ → ℕ → ℕ → ℕ → ℕ → Type 0
@@ -19,39 +19,39 @@ EveryWindowHolds H f T D P = (j : ℕ) → j < H / T → (k : ℕ) × InWindow f
 back_one : (g f m : ℕ) → 0 < f → g ∣ f → (m + (f - 1)) % g ≡ (m + (g - 1)) % g
 back_one g f m pos gf = congruent g (m + (f - 1)) (m + (g - 1)) 1 (f / g) (omega (arith, pos_of_dvd_of_pos gf pos, div-mul_cancel g gf))
 
-since-coarser : (g f m : ℕ) → 0 < f → g ∣ f → since g m ≤ since f m
-since-coarser g f m pos gf =
+since_coarser : (g f m : ℕ) → 0 < f → g ∣ f → since g m ≤ since f m
+since_coarser g f m pos gf =
     let fine = m + (f - 1) in
-    omega (arith, since-is g m (pos_of_dvd_of_pos gf pos), since-is f m pos, back_one g f m pos gf, mod-mod_of_dvd g fine gf, mod-le (fine % f) g)
+    omega (arith, since_is g m (pos_of_dvd_of_pos gf pos), since_is f m pos, back_one g f m pos gf, mod-mod_of_dvd g fine gf, mod-le (fine % f) g)
 
-since-later : (g T P j : ℕ) → g ∣ T → since g (P + j * T) ≡ since g P
+since_later : (g T P j : ℕ) → g ∣ T → since g (P + j * T) ≡ since g P
 unfolding since
-since-later g T P j gT = rw (congruent g (P + j * T) P 0 (j * (T / g)) (omega (arith, ap (λ z. j * z) (div-mul_cancel g gT))))
+since_later g T P j g_t = rw (congruent g (P + j * T) P 0 (j * (T / g)) (omega (arith, ap (λ z. j * z) (div-mul_cancel g g_t))))
 
 module _ (H f T D P : ℕ) (pos : 0 < H) (fh : f ∣ H) (th : T ∣ H) where
-  f-pos : 0 < f
-  f-pos = pos_of_dvd_of_pos fh pos
+  f_pos : 0 < f
+  f_pos = pos_of_dvd_of_pos fh pos
 
-  g-pos : 0 < gcdOf f T
-  g-pos = pos_of_dvd_of_pos (gcd-dvd f T).0 f-pos
+  g_pos : 0 < gcd_of f T
+  g_pos = pos_of_dvd_of_pos (gcd_dvd f T).0 f_pos
 
   -- a release that comes as soon after a frame start as any
-  tightest : (j : ℕ) × (j < H / T) × (since f (P + j * T) ≡ since (gcdOf f T) P)
+  tightest : (j : ℕ) × (j < H / T) × (since f (P + j * T) ≡ since (gcd_of f T) P)
   tightest =
-      let g = gcdOf f T in
-      let gf = (gcd-dvd f T).0 in
-      let below : (P + (g - 1)) % g < f = omega (arith, mod-lt (P + (g - 1)) g-pos, le_of_dvd f-pos gf) in
-      let (j, early, e) = residues-reached H f T (P + (f - 1)) ((P + (g - 1)) % g) pos fh th below (mod-mod _ g ∙ sym (back_one g f P f-pos gf)) in
+      let g = gcd_of f T in
+      let gf = (gcd_dvd f T).0 in
+      let below : (P + (g - 1)) % g < f = omega (arith, mod-lt (P + (g - 1)) g_pos, le_of_dvd f_pos gf) in
+      let (j, early, e) = residues_reached H f T (P + (f - 1)) ((P + (g - 1)) % g) pos fh th below (mod-mod _ g ∙ sym (back_one g f P f_pos gf)) in
       let moved : P + j * T + (f - 1) ≡ P + (f - 1) + j * T = omega arith in
-      (j, early, rw (since-is f (P + j * T) f-pos, since-is g P g-pos, moved, e))
+      (j, early, rw (since_is f (P + j * T) f_pos, since_is g P g_pos, moved, e))
 
-  pub windows-hold : EveryWindowHolds H f T D P ↔ (2 * f ≤ D + since (gcdOf f T) P)
-  windows-hold =
-      let g = gcdOf f T in (
+  pub windows_hold : EveryWindowHolds H f T D P ↔ (2 * f ≤ D + since (gcd_of f T) P)
+  windows_hold =
+      let g = gcd_of f T in (
         λ all.
             let (j, early, e) = tightest in
-            omega (arith, (window-holds f (P + j * T) D f-pos).0 (all j early), e),
+            omega (arith, (window_holds f (P + j * T) D f_pos).0 (all j early), e),
         λ rule j early.
             let r = P + j * T in
-            (window-holds f r D f-pos).1 (omega (arith, since-coarser g f r f-pos (gcd-dvd f T).0, since-later g T P j (gcd-dvd f T).1)),
+            (window_holds f r D f_pos).1 (omega (arith, since_coarser g f r f_pos (gcd_dvd f T).0, since_later g T P j (gcd_dvd f T).1)),
       )

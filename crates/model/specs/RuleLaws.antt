@@ -4,38 +4,38 @@ use Rattle.std.proofs.Math.Path.{sym}
 use Rattle.std.proofs.Common.{◌∙◌, arith, le-leb}
 use Rattle.std.proofs.lemmas.Bool.{lt-leb}
 use Rattle.cursor.specs.Padded.{firsts}
-use Rattle.cursor.specs.PaddedLaws.{firsts-length, getD-firsts}
-use Rattle.request.specs.Request.{noTask}
+use Rattle.cursor.specs.PaddedLaws.{firsts_length, get_or_firsts}
+use Rattle.request.specs.Request.{no_task}
 use Rattle.request.specs.declared.Task.{Task}
 use Rattle.model.specs.Plan.{slot}
-use Rattle.model.specs.Plausible.{phaseRule, frameRule, frameRules}
-use Rattle.model.specs.PlausibleLaws.{rules-end, rules-next}
+use Rattle.model.specs.Plausible.{phase_rule, frame_rule, frame_rules}
+use Rattle.model.specs.PlausibleLaws.{rules_end, rules_next}
 
 module _ (g f : ℕ) (places : List Task) (n i : ℕ) where
   abbrev tasks : List Task
-  tasks = firsts n noTask places
+  tasks = firsts n no_task places
 
   abbrev x : Task
-  x = get_or places i noTask
+  x = get_or places i no_task
 
-  turn : i < n → frameRules phaseRule g f (drop i tasks) ≡ frameRule phaseRule g f x && frameRules phaseRule g f (drop (i + 1) tasks)
-  turn l = rules-next phaseRule g f tasks i (omega (arith, firsts-length noTask places n)) ∙ rw (getD-firsts noTask places n i l)
+  turn : i < n → frame_rules phase_rule g f (drop i tasks) ≡ frame_rule phase_rule g f x && frame_rules phase_rule g f (drop (i + 1) tasks)
+  turn l = rules_next phase_rule g f tasks i (omega (arith, firsts_length no_task places n)) ∙ rw (get_or_firsts no_task places n i l)
 
   -- the slot is longer than the frame
-  pub slot-too-long : i < n → (c : ℕ) → c ≡ slot g x → f < c → false ≡ frameRules phaseRule g f (drop i tasks)
-  unfolding frameRule
-  slot-too-long l c is h = sym (turn l ∙ rw (lt-leb (slot g x) f (rw is at h)))
+  pub slot_too_long : i < n → (c : ℕ) → c ≡ slot g x → f < c → false ≡ frame_rules phase_rule g f (drop i tasks)
+  unfolding frame_rule
+  slot_too_long l c is h = sym (turn l ∙ rw (lt-leb (slot g x) f (rw is at h)))
 
   module _ (l : i < n) (c : ℕ) (is : c ≡ slot g x) (room : c ≤ f) where
     -- a window holds no whole frame
-    pub window-too-short : phaseRule f x ≡ false → false ≡ frameRules phaseRule g f (drop i tasks)
-    unfolding frameRule
-    window-too-short e = sym (turn l ∙ rw (le-leb (slot g x) f (rw is at room), e))
+    pub window_too_short : phase_rule f x ≡ false → false ≡ frame_rules phase_rule g f (drop i tasks)
+    unfolding frame_rule
+    window_too_short e = sym (turn l ∙ rw (le-leb (slot g x) f (rw is at room), e))
 
     -- the task keeps the rule
-    pub rule-kept : phaseRule f x ≡ true → frameRules phaseRule g f (drop (i + 1) tasks) ≡ frameRules phaseRule g f (drop i tasks)
-    unfolding frameRule
-    rule-kept e = sym (turn l ∙ rw (le-leb (slot g x) f (rw is at room), e))
+    pub rule_kept : phase_rule f x ≡ true → frame_rules phase_rule g f (drop (i + 1) tasks) ≡ frame_rules phase_rule g f (drop i tasks)
+    unfolding frame_rule
+    rule_kept e = sym (turn l ∙ rw (le-leb (slot g x) f (rw is at room), e))
 
-  pub all-kept : n ≤ i → true ≡ frameRules phaseRule g f (drop i tasks)
-  all-kept l = sym (rules-end phaseRule g f tasks i (omega (arith, firsts-length noTask places n)))
+  pub all_kept : n ≤ i → true ≡ frame_rules phase_rule g f (drop i tasks)
+  all_kept l = sym (rules_end phase_rule g f tasks i (omega (arith, firsts_length no_task places n)))

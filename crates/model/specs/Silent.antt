@@ -15,6 +15,6 @@ lengthened x = record { tasks = map (longer x.g) x.tasks; pairs = x.pairs; g = 0
 
 -- A request is planned as the lengthened one is: the same f are plausible, the same frames are a plan, and the same plan is chosen.
 pub record SilentCounts (x : Instance) : Type 0 where
-  pub plausible-are : (f : ℕ) → plausible x f ≡ plausible (lengthened x) f
-  pub plans-are : (f : ℕ) (frames : List ℕ) → IsPlan x f frames ↔ IsPlan (lengthened x) f frames
-  pub chosen-are : choose x ≡ choose (lengthened x)
+  pub plausible_are : (f : ℕ) → plausible x f ≡ plausible (lengthened x) f
+  pub plans_are : (f : ℕ) (frames : List ℕ) → IsPlan x f frames ↔ IsPlan (lengthened x) f frames
+  pub chosen_are : choose x ≡ choose (lengthened x)

@@ -2,5 +2,5 @@
 use Rattle.std.specs.Prelude.{ℕ, ◌+◌, ◌-◌, ◌/◌}
 
 -- the first frame that starts at r or later
-unfoldable pub firstFrom : ℕ → ℕ → ℕ
-firstFrom f r = (r + (f - 1)) / f
+unfoldable pub first_from : ℕ → ℕ → ℕ
+first_from f r = (r + (f - 1)) / f

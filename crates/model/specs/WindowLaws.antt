@@ -5,11 +5,11 @@ use Rattle.std.specs.Prelude.{◌≡◌, refl, ◌↔◌, ◌⊎◌, ℕ, zero, 
 use Rattle.std.proofs.Common.{◌∙◌, inl, inr, mod-lt, mod-eq_of_lt, div-add-mod', mul-le-mul_right, div-lt_iff_lt-mul, le-div_iff_mul-le, eq-zero-or-pos, arith}
 use Rattle.arith.specs.Residue.{congruent}
 use Rattle.model.specs.Plan.{InWindow}
-use Rattle.model.specs.Window.{firstFrom}
+use Rattle.model.specs.Window.{first_from}
 
 -- the frames that begin at r or later
-pub starts_from : (f r k : ℕ) → 0 < f → (r ≤ k * f) ↔ (firstFrom f r ≤ k)
-unfolding firstFrom
+pub starts_from : (f r k : ℕ) → 0 < f → (r ≤ k * f) ↔ (first_from f r ≤ k)
+unfolding first_from
 starts_from f r k pos =
     let low = div-lt_iff_lt-mul {x = r + (f - 1)} {y = suc k} pos in
     (λ h. omega (arith, low.1 (omega arith)), λ h. omega (arith, low.0 (omega arith)))
@@ -20,53 +20,53 @@ ends_by f e k pos =
     let high = le-div_iff_mul-le {x = suc k} {y = e} pos in
     (λ h. high.1 (omega arith), λ h. omega (arith, high.0 h))
 
--- the frames of the window from r to e are those from firstFrom f r up to, and without, e / f
-pub window-frames : (f r e k : ℕ) → 0 < f → InWindow f r e k ↔ ((firstFrom f r ≤ k) × (k < e / f))
-window-frames f r e k pos =
+-- the frames of the window from r to e are those from first_from f r up to, and without, e / f
+pub window_frames : (f r e k : ℕ) → 0 < f → InWindow f r e k ↔ ((first_from f r ≤ k) × (k < e / f))
+window_frames f r e k pos =
     let from = starts_from f r k pos in
     let by = ends_by f e k pos in
-    (λ w. (from.0 w.not-early, by.0 w.not_late), λ b. record { not-early = from.1 b.0; not_late = by.1 b.1 })
+    (λ w. (from.0 w.not_early, by.0 w.not_late), λ b. record { not_early = from.1 b.0; not_late = by.1 b.1 })
 
-or-whole : ℕ → ℕ → ℕ
-or-whole n zero = n
-or-whole n (suc r) = suc r
+or_whole : ℕ → ℕ → ℕ
+or_whole n zero = n
+or_whole n (suc r) = suc r
 
 -- the time from the last multiple of n before m to m: m % n, or n if that is 0
 unfoldable pub since : ℕ → ℕ → ℕ
-unfolding or-whole
-since n m = or-whole n (m % n)
+unfolding or_whole
+since n m = or_whole n (m % n)
 
-pub since-multiple : (n m : ℕ) → m % n ≡ 0 → since n m ≡ n
-unfolding since or-whole
-since-multiple n m e = rw e
+pub since_multiple : (n m : ℕ) → m % n ≡ 0 → since n m ≡ n
+unfolding since or_whole
+since_multiple n m e = rw e
 
-pub since-other : (n m : ℕ) → 0 < m % n → since n m ≡ m % n
+pub since_other : (n m : ℕ) → 0 < m % n → since n m ≡ m % n
 unfolding since
-since-other n m h = positive n (m % n) h
+since_other n m h = positive n (m % n) h
   where
-    positive : (n r : ℕ) → 0 < r → or-whole n r ≡ r
+    positive : (n r : ℕ) → 0 < r → or_whole n r ≡ r
     positive n zero h = absurd (omega arith)
     positive n (suc r) h = refl
 
 -- the same in one formula
-pub since-is : (n m : ℕ) → 0 < n → since n m ≡ suc ((m + (n - 1)) % n)
-since-is n m pos = go (eq-zero-or-pos (m % n))
+pub since_is : (n m : ℕ) → 0 < n → since n m ≡ suc ((m + (n - 1)) % n)
+since_is n m pos = go (eq-zero-or-pos (m % n))
   where
     counted : (s q : ℕ) → 0 < s → s ≤ n → m + n ≡ s + q * n → (m + (n - 1)) % n ≡ s - 1
     counted s q h le e = congruent n (m + (n - 1)) (s - 1) 0 q (omega arith) ∙ mod-eq_of_lt (omega arith)
 
     go : (m % n ≡ 0) ⊎ (0 < m % n) → since n m ≡ suc ((m + (n - 1)) % n)
-    go (inl e) = omega (arith, since-multiple n m e, counted n (m / n) pos (omega arith) (omega (arith, div-add-mod' m n)))
-    go (inr h) = omega (arith, since-other n m h, counted (m % n) (m / n + 1) h (omega (arith, mod-lt m pos)) (omega (arith, div-add-mod' m n)))
+    go (inl e) = omega (arith, since_multiple n m e, counted n (m / n) pos (omega arith) (omega (arith, div-add-mod' m n)))
+    go (inr h) = omega (arith, since_other n m h, counted (m % n) (m / n + 1) h (omega (arith, mod-lt m pos)) (omega (arith, div-add-mod' m n)))
 
-pub since-le : (n m : ℕ) → 0 < n → since n m ≤ n
-since-le n m pos = rw (since-is n m pos) (mod-lt (m + (n - 1)) pos)
+pub since_le : (n m : ℕ) → 0 < n → since n m ≤ n
+since_le n m pos = rw (since_is n m pos) (mod-lt (m + (n - 1)) pos)
 
-pub window-holds : (f r D : ℕ) → 0 < f → ((k : ℕ) × InWindow f r (r + D) k) ↔ (2 * f ≤ D + since f r)
-unfolding firstFrom
-window-holds f r D pos =
-    let first = firstFrom f r in
-    let split : first * f + since f r ≡ r + f = omega (arith, since-is f r pos, div-add-mod' (r + (f - 1)) f) in (
-      λ w. omega (arith, w.1, mul-le-mul_right f ((window-frames f r (r + D) w.0 pos).0 w.1).0),
-      λ h. (first, record { not-early = omega (arith, since-le f r pos); not_late = omega arith }),
+pub window_holds : (f r D : ℕ) → 0 < f → ((k : ℕ) × InWindow f r (r + D) k) ↔ (2 * f ≤ D + since f r)
+unfolding first_from
+window_holds f r D pos =
+    let first = first_from f r in
+    let split : first * f + since f r ≡ r + f = omega (arith, since_is f r pos, div-add-mod' (r + (f - 1)) f) in (
+      λ w. omega (arith, w.1, mul-le-mul_right f ((window_frames f r (r + D) w.0 pos).0 w.1).0),
+      λ h. (first, record { not_early = omega (arith, since_le f r pos); not_late = omega arith }),
     )

@@ -4,95 +4,95 @@ use Rattle.std.proofs.Common.{sym, ap, subst, ◌∙◌, inl, inr, arith}
 use Rattle.request.specs.declared.Task.{Task}
 use Rattle.request.specs.declared.Pair.{Pair}
 use Rattle.request.specs.declared.Request.{Request}
-use Rattle.cycle.specs.Cycle.{Cycle, cycle, noCycle, cycleOf, afterReading}
-use Rattle.cycle.specs.Answers.{AsRead, cycleFor, cycleAnswered}
-use Rattle.cycle.specs.LimitLaws.{WithinLimits, after-within, after-number, cycle-within, no-cycle-number, request-number-pos}
+use Rattle.cycle.specs.Cycle.{Cycle, cycle, no_cycle, cycle_of, after_reading}
+use Rattle.cycle.specs.Answers.{AsRead, cycle_for, cycle_answered}
+use Rattle.cycle.specs.LimitLaws.{WithinLimits, after_within, after_number, cycle_within, no_cycle_number, request_number_pos}
 use Rattle.cycle.specs.Planned.{InPlanningOrder}
 use Rattle.cycle.specs.Exactly.{HasCycle}
-use Rattle.cycle.specs.Theorem.{cycle-exactly, cycle-there}
-use Rattle.cycle.specs.ReadLaws.{as-read-cycle}
+use Rattle.cycle.specs.Theorem.{cycle_exactly, cycle_there}
+use Rattle.cycle.specs.ReadLaws.{as_read_cycle}
 use Rattle.cycle.specs.declared.Job.{Job}
 use Rattle.cycle.specs.declared.Cycle as answer
 use Rattle.model.specs.Plan.{Instance}
 use Rattle.model.specs.Good.{Good}
-use Rattle.model.specs.Answers.{instance, instanceOf}
-use Rattle.model.specs.AnswerLaws.{instance-good, instance-answered}
+use Rattle.model.specs.Answers.{instance, instance_of}
+use Rattle.model.specs.AnswerLaws.{instance_good, instance_answered}
 use Rattle.model.specs.Within.{Within, WithinExact, InLimits}
 
 module _ (request : List ℕ) where
-  pub within-limits : (x : Instance) → Within request x → WithinLimits x.tasks x.pairs x.h x.jobs
-  within-limits x w = cycle-within request x.tasks x.pairs x.g x.h x.jobs w
+  pub within_limits : (x : Instance) → Within request x → WithinLimits x.tasks x.pairs x.h x.jobs
+  within_limits x w = cycle_within request x.tasks x.pairs x.g x.h x.jobs w
 
-  pub within-good : (x : Instance) → Within request x → Good x
-  within-good x w = instance-good x.tasks x.pairs x.g x.h x.jobs (within-limits x w)
+  pub within_good : (x : Instance) → Within request x → Good x
+  within_good x w = instance_good x.tasks x.pairs x.g x.h x.jobs (within_limits x w)
 
-  within-which : (x : Instance) → Within request x ↔ (HasCycle request x.tasks x.pairs x.g x.h × InPlanningOrder x.tasks x.h x.jobs)
-  within-which x = cycle-exactly request x.tasks x.pairs x.g x.h x.jobs
+  within_which : (x : Instance) → Within request x ↔ (HasCycle request x.tasks x.pairs x.g x.h × InPlanningOrder x.tasks x.h x.jobs)
+  within_which x = cycle_exactly request x.tasks x.pairs x.g x.h x.jobs
 
-  within-some : (tasks : List Task) (pairs : List Pair) (g h : ℕ) → HasCycle request tasks pairs g h → (x : Instance) × Within request x
-  within-some tasks pairs g h has =
-      let (jobs, order) = cycle-there request tasks pairs g h has in
-      (instance tasks pairs g h jobs, (cycle-exactly request tasks pairs g h jobs).1 (has, order))
+  within_some : (tasks : List Task) (pairs : List Pair) (g h : ℕ) → HasCycle request tasks pairs g h → (x : Instance) × Within request x
+  within_some tasks pairs g h has =
+      let (jobs, order) = cycle_there request tasks pairs g h has in
+      (instance tasks pairs g h jobs, (cycle_exactly request tasks pairs g h jobs).1 (has, order))
 
   -- a request is within the limits exactly if its bytes, its H and the number of its jobs say so
-  pub within-exactly : WithinExact request
-  within-exactly = record {
-    some = (λ w. let x = w.0 in (x.tasks, x.pairs, x.g, x.h, ((within-which x).0 w.1).0), λ c. within-some c.0 c.1 c.2 c.3 c.4);
-    which = within-which;
+  pub within_exactly : WithinExact request
+  within_exactly = record {
+    some = (λ w. let x = w.0 in (x.tasks, x.pairs, x.g, x.h, ((within_which x).0 w.1).0), λ c. within_some c.0 c.1 c.2 c.3 c.4);
+    which = within_which;
   }
 
   -- within the limits, or refused with a number
-  pub within_or_not : ((x : Instance) × Within request x) ⊎ ((number : ℕ) × (cycleOf request ≡ noCycle number))
-  within_or_not = go (cycleOf request) refl
+  pub within_or_not : ((x : Instance) × Within request x) ⊎ ((number : ℕ) × (cycle_of request ≡ no_cycle number))
+  within_or_not = go (cycle_of request) refl
     where
-      go : (c : Cycle) → cycleOf request ≡ c → ((x : Instance) × Within request x) ⊎ ((number : ℕ) × (cycleOf request ≡ noCycle number))
+      go : (c : Cycle) → cycle_of request ≡ c → ((x : Instance) × Within request x) ⊎ ((number : ℕ) × (cycle_of request ≡ no_cycle number))
       go (cycle tasks pairs g h jobs) e = inl (instance tasks pairs g h jobs, e)
-      go (noCycle number) e = inr (number, e)
+      go (no_cycle number) e = inr (number, e)
 
 module _ (tasks : List Task) (pairs : List Pair) (g h : ℕ) (jobs : List Job) (w : WithinLimits tasks pairs h jobs) where
-  module _ (c : answer.Cycle) (is : c ≡ cycleAnswered (cycle tasks pairs g h jobs)) where
-    same-instance : instanceOf c ≡ instance tasks pairs g h jobs
-    same-instance = ap instanceOf is ∙ instance-answered tasks pairs g h jobs w
+  module _ (c : answer.Cycle) (is : c ≡ cycle_answered (cycle tasks pairs g h jobs)) where
+    same_instance : instance_of c ≡ instance tasks pairs g h jobs
+    same_instance = ap instance_of is ∙ instance_answered tasks pairs g h jobs w
 
-    in-limits : InLimits c
-    in-limits = record {
-      good = subst Good (sym same-instance) (instance-good tasks pairs g h jobs w);
-      few-tasks = omega (arith, ap (λ (d : answer.Cycle). d.n) is, w.readable.few-tasks);
-      few-pairs = omega (arith, ap (λ (d : answer.Cycle). d.m) is, w.readable.few-pairs);
-      few-jobs = omega (arith, ap (λ (d : answer.Cycle). d.count) is, w.jobs-few);
+    in_limits : InLimits c
+    in_limits = record {
+      good = subst Good (sym same_instance) (instance_good tasks pairs g h jobs w);
+      few_tasks = omega (arith, ap (λ (d : answer.Cycle). d.n) is, w.readable.few_tasks);
+      few_pairs = omega (arith, ap (λ (d : answer.Cycle). d.m) is, w.readable.few_pairs);
+      few_jobs = omega (arith, ap (λ (d : answer.Cycle). d.count) is, w.jobs_few);
     }
 
 -- the answer of `cycle::of`
-pub of-in-limits : (r : Request) → AsRead r → (c : answer.Cycle) → c ≡ cycleAnswered (cycleFor r) → c.refusal ≡ 0 → InLimits c
-of-in-limits r a c is z = go (afterReading a.read) refl (is ∙ ap cycleAnswered (as-read-cycle a))
+pub of_in_limits : (r : Request) → AsRead r → (c : answer.Cycle) → c ≡ cycle_answered (cycle_for r) → c.refusal ≡ 0 → InLimits c
+of_in_limits r a c is z = go (after_reading a.read) refl (is ∙ ap cycle_answered (as_read_cycle a))
   where
-    go : (d : Cycle) → afterReading a.read ≡ d → c ≡ cycleAnswered d → InLimits c
-    go (cycle tasks pairs g h jobs) e q = in-limits tasks pairs g h jobs (after-within a.read a.kept tasks pairs g h jobs e) c q
-    go (noCycle number) e q = absurd (omega (arith, ap (λ (d : answer.Cycle). d.refusal) q, request-number-pos (after-number a.read a.kept number e)))
+    go : (d : Cycle) → after_reading a.read ≡ d → c ≡ cycle_answered d → InLimits c
+    go (cycle tasks pairs g h jobs) e q = in_limits tasks pairs g h jobs (after_within a.read a.kept tasks pairs g h jobs e) c q
+    go (no_cycle number) e q = absurd (omega (arith, ap (λ (d : answer.Cycle). d.refusal) q, request_number_pos (after_number a.read a.kept number e)))
 
 -- The answer of `cycle::read` tells what is planned, and that it is within the limits; or the number of the refusal.
 pub record Taken (request : List ℕ) (c : answer.Cycle) : Type 0 where
-  pub within : Within request (instanceOf c)
+  pub within : Within request (instance_of c)
   pub limits : InLimits c
 
-module _ (request : List ℕ) (c : answer.Cycle) (is : c ≡ cycleAnswered (cycleOf request)) where
-  pub read-within : c.refusal ≡ 0 → Taken request c
-  read-within z = go (cycleOf request) refl is
+module _ (request : List ℕ) (c : answer.Cycle) (is : c ≡ cycle_answered (cycle_of request)) where
+  pub read_within : c.refusal ≡ 0 → Taken request c
+  read_within z = go (cycle_of request) refl is
     where
-      go : (d : Cycle) → cycleOf request ≡ d → c ≡ cycleAnswered d → Taken request c
+      go : (d : Cycle) → cycle_of request ≡ d → c ≡ cycle_answered d → Taken request c
       go (cycle tasks pairs g h jobs) e q =
-          let w = cycle-within request tasks pairs g h jobs e in
-          let same = same-instance tasks pairs g h jobs w c q in
+          let w = cycle_within request tasks pairs g h jobs e in
+          let same = same_instance tasks pairs g h jobs w c q in
           record {
             within = e ∙ ap (λ (x : Instance). cycle x.tasks x.pairs x.g x.h x.jobs) (sym same);
-            limits = in-limits tasks pairs g h jobs w c q;
+            limits = in_limits tasks pairs g h jobs w c q;
           }
-      go (noCycle number) e q =
-          absurd (omega (arith, ap (λ (d : answer.Cycle). d.refusal) q, request-number-pos (no-cycle-number request number e)))
+      go (no_cycle number) e q =
+          absurd (omega (arith, ap (λ (d : answer.Cycle). d.refusal) q, request_number_pos (no_cycle_number request number e)))
 
-  pub read-refused : (c.refusal ≡ 0 → ⊥) → cycleOf request ≡ noCycle c.refusal
-  read-refused ne = go (cycleOf request) refl is
+  pub read_refused : (c.refusal ≡ 0 → ⊥) → cycle_of request ≡ no_cycle c.refusal
+  read_refused ne = go (cycle_of request) refl is
     where
-      go : (d : Cycle) → cycleOf request ≡ d → c ≡ cycleAnswered d → cycleOf request ≡ noCycle c.refusal
+      go : (d : Cycle) → cycle_of request ≡ d → c ≡ cycle_answered d → cycle_of request ≡ no_cycle c.refusal
       go (cycle tasks pairs g h jobs) e q = absurd (ne (ap (λ (d : answer.Cycle). d.refusal) q))
-      go (noCycle number) e q = e ∙ ap noCycle (sym (ap (λ (d : answer.Cycle). d.refusal) q))
+      go (no_cycle number) e q = e ∙ ap no_cycle (sym (ap (λ (d : answer.Cycle). d.refusal) q))

@@ -1,10 +1,10 @@
 // The plausible frame lengths of a request.
 ghost use Rattle.std.specs.Prelude.{◌≡◌, ◌≤◌, ◌<◌};
 ghost use Rattle.cursor.specs.Padded.{firsts};
-ghost use Rattle.request.specs.Request.{noTask};
+ghost use Rattle.request.specs.Request.{no_task};
 ghost use Rattle.model.specs.Plan.{slot};
-ghost use Rattle.model.specs.Plausible.{phaseRule, frameRules, plausible};
-ghost use Rattle.model.specs.Answers.{instanceOf};
+ghost use Rattle.model.specs.Plausible.{phase_rule, frame_rules, plausible};
+ghost use Rattle.model.specs.Answers.{instance_of};
 
 use cycle::Cycle;
 use request::Task;
@@ -19,7 +19,7 @@ pub fn slot(g: u8, task: Task) -> u32
 // Whether each window of the task holds a whole frame: with p for P mod gcd(f, T), 2f − gcd(f, T) ≤ D if p is 0, else 2f − p ≤ D.
 fn phase_rule(f: u16, task: Task) -> bool
     requires { 0 < f }
-    ensures { result ≡ phaseRule f task }
+    ensures { result ≡ phase_rule f task }
 {
     let common = arith::gcd(f, task.t);
     let p = task.p % common;
@@ -32,7 +32,7 @@ fn phase_rule(f: u16, task: Task) -> bool
 // f ≥ C + g and the rule of the phase for the first n tasks.
 fn frame_rules(tasks: [Task; 16], n: usize, g: u8, f: u16) -> bool
     requires { (n ≤ 16) × (0 < f) }
-    ensures { result ≡ frameRules phaseRule g f (firsts n noTask tasks) }
+    ensures { result ≡ frame_rules phase_rule g f (firsts n no_task tasks) }
 {
     let mut i: usize = 0;
     while i < n {
@@ -50,7 +50,7 @@ fn frame_rules(tasks: [Task; 16], n: usize, g: u8, f: u16) -> bool
 
 // Whether f divides the cycle into at most 256 rows and keeps the frame rule of every task.
 pub fn plausible(cycle: Cycle, f: u16) -> bool
-    ensures { result ≡ plausible (instanceOf cycle) f }
+    ensures { result ≡ plausible (instance_of cycle) f }
 {
     if f < 1 {
         return false;

@@ -3,13 +3,13 @@ use Rattle.std.specs.Prelude.{ℕ, ◌+◌, ◌*◌, ◌≤◌, ◌<◌, ◌≡�
 use Rattle.table.specs.Table.{Table, table, decode, row_of}
 use Rattle.model.specs.Plan.{Instance}
 use Rattle.model.specs.Slots.{slots}
-use Rattle.one_off.specs.OneOff.{Offer, inFrame, refusal, frameFits, earliest}
+use Rattle.one_off.specs.OneOff.{Offer, in_frame, refusal, frame_fits, earliest}
 use Rattle.one_off.specs.declared.FrameFound.{FrameFound}
 
 -- "A refusal returns its number", and no frame
-abbrev pub offerAnswer : Offer → FrameFound
-offerAnswer (inFrame k) = record { refusal = 0; frame = k }
-offerAnswer (refusal number) = record { refusal = number; frame = 0 }
+abbrev pub offer_answer : Offer → FrameFound
+offer_answer (in_frame k) = record { refusal = 0; frame = k }
+offer_answer (refusal number) = record { refusal = number; frame = 0 }
 
 -- the used times of the first k rows stand in their places; each is of at most 16 entries
 pub record UsedTimes (x : Instance) (bytes : List ℕ) (k : ℕ) (times : List ℕ) : Type 0 where
@@ -23,8 +23,8 @@ fits_by L s e f g used k = leb s (k * f) && (leb ((k + 1) * f) e && leb (used + 
 module _ (L s e : ℕ) (x : Instance) (bytes : List ℕ) where
   -- whether frame k fits
   pub record FitsIn (k : ℕ) (r : Bool) : Type 0 where
-    pub of : (t : Table) → decode bytes ≡ table t → r ≡ frameFits L s e x t k
+    pub of : (t : Table) → decode bytes ≡ table t → r ≡ frame_fits L s e x t k
 
   -- the earliest frame that fits
   pub record EarliestIn (r : FrameFound) : Type 0 where
-    pub of : (t : Table) → decode bytes ≡ table t → r ≡ offerAnswer (earliest L s e x t)
+    pub of : (t : Table) → decode bytes ≡ table t → r ≡ offer_answer (earliest L s e x t)

@@ -3,15 +3,15 @@ use Rattle.std.specs.Prelude.{ℕ, ◌+◌, ◌*◌, ◌≤◌, ◌<◌, ◌≡�
 use Rattle.table.specs.Table.{Table}
 use Rattle.model.specs.Plan.{Instance}
 use Rattle.model.specs.Described.{Accepted}
-use Rattle.checker.specs.Checked.{checkNumber}
+use Rattle.checker.specs.Checked.{check_number}
 use Rattle.checker.specs.Exactly.{OfBoth}
-use Rattle.one_off.specs.OneOff.{inFrame, refusal, usedIn, oneOff}
+use Rattle.one_off.specs.OneOff.{in_frame, refusal, used_in, one_off}
 
 -- "k·f ≥ s, (k+1)·f ≤ e and enough unused time in its row for L + g"
 pub record Fits (x : Instance) (t : Table) (L s e k : ℕ) : Type 0 where
-  pub not-early : s ≤ k * t.f
+  pub not_early : s ≤ k * t.f
   pub not_late : (k + 1) * t.f ≤ e
-  pub enough : usedIn x t k + (L + x.g) ≤ t.f
+  pub enough : used_in x t k + (L + x.g) ≤ t.f
 
 -- "L is 0, s > e or e > 2H"
 abbrev pub BadlyAsked : ℕ → ℕ → ℕ → ℕ → Type 0
@@ -39,9 +39,9 @@ module _ (L s e : ℕ) where
 
 pub record OneOffExact (request bytes : List ℕ) (L s e : ℕ) : Type 0 where
   -- "The request and table are checked first."
-  pub check-first : (checkNumber request bytes ≡ 0 → ⊥) → oneOff L s e request bytes ≡ refusal (checkNumber request bytes)
+  pub check_first : (check_number request bytes ≡ 0 → ⊥) → one_off L s e request bytes ≡ refusal (check_number request bytes)
   -- "It refuses with 21 if L is 0, s > e or e > 2H, and then with 22 exactly when no frame fits."
-  pub twenty-one : (oneOff L s e request bytes ≡ refusal 21) ↔ OfBoth request bytes (AskedBadly L s e)
-  pub twenty-two : (oneOff L s e request bytes ≡ refusal 22) ↔ OfBoth request bytes (NoFrame L s e)
+  pub twenty_one : (one_off L s e request bytes ≡ refusal 21) ↔ OfBoth request bytes (AskedBadly L s e)
+  pub twenty_two : (one_off L s e request bytes ≡ refusal 22) ↔ OfBoth request bytes (NoFrame L s e)
   -- "answer the earliest frame k"
-  pub found : (k : ℕ) → (oneOff L s e request bytes ≡ inFrame k) ↔ OfBoth request bytes (TheFrame L s e k)
+  pub found : (k : ℕ) → (one_off L s e request bytes ≡ in_frame k) ↔ OfBoth request bytes (TheFrame L s e k)

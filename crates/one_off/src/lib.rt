@@ -1,11 +1,11 @@
 // Time for a one-off transfer: the earliest frame whose row leaves enough of its length unused, with numbers 21 and 22.
 ghost use Rattle.std.specs.Prelude.{◌≡◌, ◌≤◌, ◌*◌};
-ghost use Rattle.table.specs.Answers.{entriesSaid};
+ghost use Rattle.table.specs.Answers.{entries_said};
 ghost use Rattle.model.specs.Slots.{slots};
-ghost use Rattle.model.specs.Answers.{instanceOf};
+ghost use Rattle.model.specs.Answers.{instance_of};
 ghost use Rattle.checker.specs.ReadLaws.{Formed};
-ghost use Rattle.one_off.specs.OneOff.{refusal, wellAsked, oneOff};
-ghost use Rattle.one_off.specs.Answers.{offerAnswer, UsedTimes, fits_by, EarliestIn};
+ghost use Rattle.one_off.specs.OneOff.{refusal, well_asked, one_off};
+ghost use Rattle.one_off.specs.Answers.{offer_answer, UsedTimes, fits_by, EarliestIn};
 
 use cycle::Cycle;
 use table::{Row, Sizes};
@@ -18,7 +18,7 @@ pub struct FrameFound {
 }
 
 fn refused(number: u8) -> FrameFound
-    ensures { result ≡ offerAnswer (refusal number) }
+    ensures { result ≡ offer_answer (refusal number) }
 {
     FrameFound {
         refusal: number,
@@ -29,7 +29,7 @@ fn refused(number: u8) -> FrameFound
 // The used time of a row: the C + g of every entry, carried ones too. It is at most 16 numbers of 32 bits.
 fn used(cycle: Cycle, row: Row) -> u64
     requires { row.count ≤ 16 }
-    ensures { (result ≡ slots (instanceOf cycle) (entriesSaid row)) × (result ≤ 16 * 4294967295) }
+    ensures { (result ≡ slots (instance_of cycle) (entries_said row)) × (result ≤ 16 * 4294967295) }
 {
     let tasks = cycle.tasks;
     let entries = row.tasks;
@@ -48,7 +48,7 @@ fn used(cycle: Cycle, row: Row) -> u64
 // The used time of each row, in 256 places. The rows are read once.
 fn used_times(cycle: Cycle, table: &[u8], sizes: Sizes) -> [u64; 256]
     requires { Formed table.now sizes }
-    ensures { UsedTimes (instanceOf cycle) table.now sizes.height result }
+    ensures { UsedTimes (instance_of cycle) table.now sizes.height result }
 {
     let height = sizes.height;
     let mut times = [0u64; 256];
@@ -90,7 +90,7 @@ fn earliest(
     until: u32,
 ) -> FrameFound
     requires { Formed table.now sizes }
-    ensures { EarliestIn length from until (instanceOf cycle) table.now result }
+    ensures { EarliestIn length from until (instance_of cycle) table.now result }
 {
     let times = used_times(cycle, table, sizes);
     let frames = 2 * sizes.height;
@@ -110,7 +110,7 @@ fn earliest(
 
 // Not: L is 0, s > e or e > 2H.
 fn well_asked(h: u16, length: u32, from: u32, until: u32) -> bool
-    ensures { result ≡ wellAsked length from until h }
+    ensures { result ≡ well_asked length from until h }
 {
     if length < 1 {
         return false;
@@ -123,7 +123,7 @@ fn well_asked(h: u16, length: u32, from: u32, until: u32) -> bool
 
 // The earliest frame, counted from time 0, with time for a transfer of `length` ticks between the ticks `from` and `until`; or the check's number, 21 or 22.
 pub fn one_off(request: &[u8], table: &[u8], length: u32, from: u32, until: u32) -> FrameFound
-    ensures { result ≡ offerAnswer (oneOff length from until request.now table.now) }
+    ensures { result ≡ offer_answer (one_off length from until request.now table.now) }
 {
     let read = checker::read_plan(request, table);
     if read.refusal != 0 {

@@ -1,7 +1,7 @@
 -- Which phases still fit.
 -- To be believed:
 pub mod Exactly
--- what is computed, which PhasesExact pins down, but for withPhase, which PhaseSet does, and howMany, which HowManyMeans does:
+-- what is computed, which PhasesExact pins down, but for with_phase, which PhaseSet does, and how_many, which HowManyMeans does:
 pub mod Phases
 -- How answers stand in types:
 pub mod Counting

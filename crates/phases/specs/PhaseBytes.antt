@@ -8,35 +8,35 @@ use mathlib.Core.List.{List, [], ◌∷◌, ◌++◌, append-nil, append_assoc}
 use Rattle.std.proofs.Math.Bool.{cond}
 use Rattle.std.proofs.Math.Seq.{append_snoc, take-append-add, drop-append-add}
 use Rattle.cursor.specs.Parsed.{Parsed, got, refused, then, records}
-use Rattle.cursor.specs.ParsedLaws.{never, then-got, rule-got, got_same}
+use Rattle.cursor.specs.ParsedLaws.{never, then_got, rule_got, got_same}
 use Rattle.cursor.specs.Fields.{byte_of, word_of, word_bytes, Bytes}
-use Rattle.cursor.specs.FrontLaws.{byte-read, word_read}
+use Rattle.cursor.specs.FrontLaws.{byte_read_lem, word_read}
 use Rattle.cursor.specs.WordBytesLaws.{two_bytes}
 use Rattle.request.specs.Request.{
-  noTask,
-  periodOf,
-  taskRule,
-  judgedTask,
+  no_task,
+  period_of,
+  task_rule,
+  judged_task,
   task_of,
-  taskCount,
-  tasksOf,
-  pairRule,
-  judgedPair,
+  task_count,
+  tasks_of,
+  pair_rule,
+  judged_pair,
   pair_of,
-  pairCount,
-  pairsOf,
+  pair_count,
+  pairs_of,
   section,
-  silentOf,
+  silent_of,
   reading,
   readable,
 }
 use Rattle.request.specs.Readable.{TaskKept}
-use Rattle.request.specs.ReadableLaws.{task-read, Sections, reading-sections}
-use Rattle.request.specs.SectionLaws.{SectionRead, tasks-section, SectionSteps, section-steps}
+use Rattle.request.specs.ReadableLaws.{task_read_lem, Sections, reading_sections}
+use Rattle.request.specs.SectionLaws.{SectionRead, tasks_section, SectionSteps, section_steps}
 use Rattle.request.specs.declared.Task.{Task}
 use Rattle.request.specs.declared.Pair.{Pair}
-use Rattle.cycle.specs.PhaseLaws.{taskWith, tasksWith, periods-with}
-use Rattle.phases.specs.Phases.{withPhase}
+use Rattle.cycle.specs.PhaseLaws.{task_with, tasks_with, periods_with}
+use Rattle.phases.specs.Phases.{with_phase}
 
 -- A row of records: the first one, and the others
 
@@ -54,7 +54,7 @@ module _ {A : Type 0} (one : List ℕ → Parsed A) where
       let end : bytes ≡ rest = cc in
       record { more = []; all = rw (same, append-nil); any = λ other. rw (end, append-nil) }
   behind (suc k) done bytes xs rest e =
-      let s = then-got (one bytes) (λ x tail. records one k (done ++ (x ∷ [])) tail) xs rest e in
+      let s = then_got (one bytes) (λ x tail. records one k (done ++ (x ∷ [])) tail) xs rest e in
       let b = behind k (done ++ (s.value ∷ [])) s.tail xs rest s.second in
       record {
         more = s.value ∷ b.more;
@@ -76,7 +76,7 @@ module _ {A : Type 0} (one : List ℕ → Parsed A) where
   first_read : (k : ℕ) (bytes : List ℕ) (xs : List A) (rest : List ℕ) → records one (suc k) [] bytes ≡ got xs rest → FirstRead k bytes xs rest
   unfolding records
   first_read k bytes xs rest e =
-      let s = then-got (one bytes) (λ x tail. records one k ([] ++ (x ∷ [])) tail) xs rest e in
+      let s = then_got (one bytes) (λ x tail. records one k ([] ++ (x ∷ [])) tail) xs rest e in
       let b = behind k (s.value ∷ []) s.tail xs rest s.second in
       record { value = s.value; tail = s.tail; more = b.more; first = s.first; others = b.any []; all = b.all }
 
@@ -116,15 +116,15 @@ record TaskRead (bytes : List ℕ) (x : Task) (rest : List ℕ) : Type 0 where
   pub front : List ℕ
   pub last : List ℕ
   pub front_long : length front ≡ 6
-  pub last-long : length last ≡ 2
+  pub last_long : length last ≡ 2
   pub whole : bytes ≡ front ++ last ++ rest
   pub same : (behind : List ℕ) → task_of (front ++ last ++ behind) ≡ got x behind
   pub own : Bytes bytes → word_bytes x.p ≡ last
-  pub other : (p : ℕ) → p < x.t → (behind : List ℕ) → task_of (front ++ word_bytes p ++ behind) ≡ got (taskWith x p) behind
+  pub other : (p : ℕ) → p < x.t → (behind : List ℕ) → task_of (front ++ word_bytes p ++ behind) ≡ got (task_with x p) behind
 
-kept-judged : (x : Task) → TaskKept x → (rest : List ℕ) → judgedTask x rest ≡ got x rest
-unfolding judgedTask taskRule
-kept-judged x k rest =
+kept_judged : (x : Task) → TaskKept x → (rest : List ℕ) → judged_task x rest ≡ got x rest
+unfolding judged_task task_rule
+kept_judged x k rest =
     rw (le-leb 1 x.c k.some, le-leb x.c x.d k.room, le-leb x.d x.t k.due, lt-ltb x.p x.t k.phase)
 
 -- from its four words
@@ -135,13 +135,13 @@ of_words {c} {t} {d} {p} {bytes} {rest} b1 b2 b3 b4 kept = record {
   front = b1.low ∷ b1.high ∷ b2.low ∷ b2.high ∷ b3.low ∷ b3.high ∷ [];
   last = b4.low ∷ b4.high ∷ [];
   front_long = refl;
-  last-long = refl;
+  last_long = refl;
   whole = whole;
-  same = λ behind. rw (b1.any _, b2.any _, b3.any _, b4.any behind) (kept-judged (record { c = c; t = t; d = d; p = p }) kept behind);
+  same = λ behind. rw (b1.any _, b2.any _, b3.any _, b4.any behind) (kept_judged (record { c = c; t = t; d = d; p = p }) kept behind);
   own = λ k. b4.own (rw whole at (k 6));
   other = λ q early behind.
       rw (b1.any _, b2.any _, b3.any _, word_read 1 q behind)
-      (kept-judged (record { c = c; t = t; d = d; p = q }) (record { some = kept.some; room = kept.room; due = kept.due; phase = early }) behind);
+      (kept_judged (record { c = c; t = t; d = d; p = q }) (record { some = kept.some; room = kept.room; due = kept.due; phase = early }) behind);
 }
   where
     whole : bytes ≡ b1.low ∷ b1.high ∷ b2.low ∷ b2.high ∷ b3.low ∷ b3.high ∷ b4.low ∷ b4.high ∷ rest
@@ -149,15 +149,15 @@ of_words {c} {t} {d} {p} {bytes} {rest} b1 b2 b3 b4 kept = record {
         b1.whole ∙ ap (λ (l : List ℕ). b1.low ∷ b1.high ∷ l) (b2.whole ∙ ap (λ (l : List ℕ). b2.low ∷ b2.high ∷ l)
         (b3.whole ∙ ap (λ (l : List ℕ). b3.low ∷ b3.high ∷ l) b4.whole))
 
-task-parts : (bytes : List ℕ) (x : Task) (rest : List ℕ) → task_of bytes ≡ got x rest → TaskRead bytes x rest
-unfolding task_of judgedTask
-task-parts bytes x rest e =
-    let s1 = then-got (word_of 1 bytes) _ x rest e in
-    let s2 = then-got (word_of 1 s1.tail) _ x rest s1.second in
-    let s3 = then-got (word_of 1 s2.tail) _ x rest s2.second in
-    let s4 = then-got (word_of 1 s3.tail) _ x rest s3.second in
+task_parts : (bytes : List ℕ) (x : Task) (rest : List ℕ) → task_of bytes ≡ got x rest → TaskRead bytes x rest
+unfolding task_of judged_task
+task_parts bytes x rest e =
+    let s1 = then_got (word_of 1 bytes) _ x rest e in
+    let s2 = then_got (word_of 1 s1.tail) _ x rest s1.second in
+    let s3 = then_got (word_of 1 s2.tail) _ x rest s2.second in
+    let s4 = then_got (word_of 1 s3.tail) _ x rest s3.second in
     let judged : Task = record { c = s1.value; t = s2.value; d = s3.value; p = s4.value } in
-    let rule = rule-got (taskRule judged) (got judged s4.tail) 3 x rest s4.second in
+    let rule = rule_got (task_rule judged) (got judged s4.tail) 3 x rest s4.second in
     let same : x ≡ judged = cc in
     got_same (TaskRead bytes) rule.1
     (of_words
@@ -165,22 +165,22 @@ task-parts bytes x rest e =
     (word_split s1.tail s2.value s2.tail s2.first)
     (word_split s2.tail s3.value s3.tail s3.first)
     (word_split s3.tail s4.value s4.tail s4.first)
-    (subst TaskKept same (task-read bytes x rest e).kept))
+    (subst TaskKept same (task_read_lem bytes x rest e).kept))
 
 -- two bytes replaced in records that stand without their count
 abbrev shifted : ℕ → ℕ → List ℕ → List ℕ
 shifted i p bytes = take (6 + 8 * i) bytes ++ word_bytes p ++ drop (8 + 8 * i) bytes
 
 -- in the first record
-shifted-here : (p : ℕ) (front last tail : List ℕ) → length front ≡ 6 → length last ≡ 2 → shifted 0 p (front ++ last ++ tail) ≡ front ++ word_bytes p ++ tail
-shifted-here p front last tail six two =
+shifted_here : (p : ℕ) (front last tail : List ℕ) → length front ≡ 6 → length last ≡ 2 → shifted 0 p (front ++ last ++ tail) ≡ front ++ word_bytes p ++ tail
+shifted_here p front last tail six two =
     let eight : length (front ++ last) ≡ 8 = omega (arith, length-append front last) in
     let before : take 6 (front ++ last ++ tail) ≡ front = ap (take 6) (append_assoc front last tail) ∙ take_at front (last ++ tail) 6 six in
     ap₂ (λ (a b : List ℕ). a ++ word_bytes p ++ b) before (drop_at (front ++ last) tail 8 eight)
 
 -- behind the first record
-shifted-there : (i p : ℕ) (own tail : List ℕ) → length own ≡ 8 → shifted (suc i) p (own ++ tail) ≡ own ++ shifted i p tail
-shifted-there i p own tail eight =
+shifted_there : (i p : ℕ) (own tail : List ℕ) → length own ≡ 8 → shifted (suc i) p (own ++ tail) ≡ own ++ shifted i p tail
+shifted_there i p own tail eight =
     let n : 6 + 8 * suc i ≡ length own + (6 + 8 * i) = omega arith in
     let m : 8 + 8 * suc i ≡ length own + (8 + 8 * i) = omega arith in
     let before : take (6 + 8 * suc i) (own ++ tail) ≡ own ++ take (6 + 8 * i) tail = ap (λ (k : ℕ). take k (own ++ tail)) n ∙ take-append-add own tail (6 + 8 * i) in
@@ -189,119 +189,119 @@ shifted-there i p own tail eight =
     ∙ ap (λ (l : List ℕ). l ++ drop (8 + 8 * i) tail) (append_assoc own (take (6 + 8 * i) tail) (word_bytes p))
     ∙ append_assoc own (take (6 + 8 * i) tail ++ word_bytes p) (drop (8 + 8 * i) tail)
 
-records-shifted : (i p k : ℕ) (bytes : List ℕ) (xs : List Task) (rest : List ℕ) → records task_of k [] bytes ≡ got xs rest → i < k → p < periodOf xs i
-    → records task_of k [] (shifted i p bytes) ≡ got (tasksWith xs i p) rest
-records-shifted i p zero bytes xs rest e h early = absurd (omega arith)
-records-shifted zero p (suc k) bytes xs rest e h early =
+records_shifted : (i p k : ℕ) (bytes : List ℕ) (xs : List Task) (rest : List ℕ) → records task_of k [] bytes ≡ got xs rest → i < k → p < period_of xs i
+    → records task_of k [] (shifted i p bytes) ≡ got (tasks_with xs i p) rest
+records_shifted i p zero bytes xs rest e h early = absurd (omega arith)
+records_shifted zero p (suc k) bytes xs rest e h early =
     let f = first_read task_of k bytes xs rest e in
-    let w = task-parts bytes f.value f.tail f.first in
-    let soon : p < f.value.t = omega (arith, early, ap (λ (l : List Task). periodOf l 0) f.all) in
+    let w = task_parts bytes f.value f.tail f.first in
+    let soon : p < f.value.t = omega (arith, early, ap (λ (l : List Task). period_of l 0) f.all) in
     ap (λ (l : List ℕ). records task_of (suc k) [] (shifted 0 p l)) w.whole
-    ∙ ap (records task_of (suc k) []) (shifted-here p w.front w.last f.tail w.front_long w.last-long)
-    ∙ first_then task_of k _ (taskWith f.value p) f.tail f.more rest (w.other p soon f.tail) f.others
-    ∙ ap (λ (l : List Task). got (tasksWith l 0 p) rest) (sym f.all)
-records-shifted (suc i) p (suc k) bytes xs rest e h early =
+    ∙ ap (records task_of (suc k) []) (shifted_here p w.front w.last f.tail w.front_long w.last_long)
+    ∙ first_then task_of k _ (task_with f.value p) f.tail f.more rest (w.other p soon f.tail) f.others
+    ∙ ap (λ (l : List Task). got (tasks_with l 0 p) rest) (sym f.all)
+records_shifted (suc i) p (suc k) bytes xs rest e h early =
     let f = first_read task_of k bytes xs rest e in
-    let w = task-parts bytes f.value f.tail f.first in
-    let soon : p < periodOf f.more i = omega (arith, early, ap (λ (l : List Task). periodOf l (suc i)) f.all) in
-    let eight : length (w.front ++ w.last) ≡ 8 = omega (arith, length-append w.front w.last, w.front_long, w.last-long) in
+    let w = task_parts bytes f.value f.tail f.first in
+    let soon : p < period_of f.more i = omega (arith, early, ap (λ (l : List Task). period_of l (suc i)) f.all) in
+    let eight : length (w.front ++ w.last) ≡ 8 = omega (arith, length-append w.front w.last, w.front_long, w.last_long) in
     ap (λ (l : List ℕ). records task_of (suc k) [] (shifted (suc i) p l)) w.whole
-    ∙ ap (records task_of (suc k) []) (shifted-there i p (w.front ++ w.last) f.tail eight)
-    ∙ first_then task_of k _ f.value (shifted i p f.tail) (tasksWith f.more i p) rest (w.same (shifted i p f.tail))
-    (records-shifted i p k f.tail f.more rest f.others (omega arith) soon)
-    ∙ ap (λ (l : List Task). got (tasksWith l (suc i) p) rest) (sym f.all)
+    ∙ ap (records task_of (suc k) []) (shifted_there i p (w.front ++ w.last) f.tail eight)
+    ∙ first_then task_of k _ f.value (shifted i p f.tail) (tasks_with f.more i p) rest (w.same (shifted i p f.tail))
+    (records_shifted i p k f.tail f.more rest f.others (omega arith) soon)
+    ∙ ap (λ (l : List Task). got (tasks_with l (suc i) p) rest) (sym f.all)
 
-bytes-behind : (own tail : List ℕ) → Bytes (own ++ tail) → Bytes tail
-bytes-behind own tail b j = rw (get_or-append-add own tail j 0) at (b (length own + j))
+bytes_behind : (own tail : List ℕ) → Bytes (own ++ tail) → Bytes tail
+bytes_behind own tail b j = rw (get_or-append-add own tail j 0) at (b (length own + j))
 
 -- the bytes are the request's own where the phase is
-records-own : (i k : ℕ) (bytes : List ℕ) (xs : List Task) (rest : List ℕ) → records task_of k [] bytes ≡ got xs rest → i < k → Bytes bytes
-    → shifted i (get_or xs i noTask).p bytes ≡ bytes
-records-own i zero bytes xs rest e h b = absurd (omega arith)
-records-own zero (suc k) bytes xs rest e h b =
+records_own : (i k : ℕ) (bytes : List ℕ) (xs : List Task) (rest : List ℕ) → records task_of k [] bytes ≡ got xs rest → i < k → Bytes bytes
+    → shifted i (get_or xs i no_task).p bytes ≡ bytes
+records_own i zero bytes xs rest e h b = absurd (omega arith)
+records_own zero (suc k) bytes xs rest e h b =
     let f = first_read task_of k bytes xs rest e in
-    let w = task-parts bytes f.value f.tail f.first in
-    ap₂ (λ (l : List ℕ) (m : List Task). shifted 0 (get_or m 0 noTask).p l) w.whole f.all
-    ∙ shifted-here f.value.p w.front w.last f.tail w.front_long w.last-long
+    let w = task_parts bytes f.value f.tail f.first in
+    ap₂ (λ (l : List ℕ) (m : List Task). shifted 0 (get_or m 0 no_task).p l) w.whole f.all
+    ∙ shifted_here f.value.p w.front w.last f.tail w.front_long w.last_long
     ∙ ap (λ (l : List ℕ). w.front ++ l ++ f.tail) (w.own b) ∙ sym w.whole
-records-own (suc i) (suc k) bytes xs rest e h b =
+records_own (suc i) (suc k) bytes xs rest e h b =
     let f = first_read task_of k bytes xs rest e in
-    let w = task-parts bytes f.value f.tail f.first in
-    let eight : length (w.front ++ w.last) ≡ 8 = omega (arith, length-append w.front w.last, w.front_long, w.last-long) in
-    let behind : Bytes f.tail = bytes-behind (w.front ++ w.last) f.tail (subst Bytes w.whole b) in
-    ap₂ (λ (l : List ℕ) (m : List Task). shifted (suc i) (get_or m (suc i) noTask).p l) w.whole f.all
-    ∙ shifted-there i (get_or f.more i noTask).p (w.front ++ w.last) f.tail eight
-    ∙ ap (λ (l : List ℕ). w.front ++ w.last ++ l) (records-own i k f.tail f.more rest f.others (omega arith) behind) ∙ sym w.whole
+    let w = task_parts bytes f.value f.tail f.first in
+    let eight : length (w.front ++ w.last) ≡ 8 = omega (arith, length-append w.front w.last, w.front_long, w.last_long) in
+    let behind : Bytes f.tail = bytes_behind (w.front ++ w.last) f.tail (subst Bytes w.whole b) in
+    ap₂ (λ (l : List ℕ) (m : List Task). shifted (suc i) (get_or m (suc i) no_task).p l) w.whole f.all
+    ∙ shifted_there i (get_or f.more i no_task).p (w.front ++ w.last) f.tail eight
+    ∙ ap (λ (l : List ℕ). w.front ++ w.last ++ l) (records_own i k f.tail f.more rest f.others (omega arith) behind) ∙ sym w.whole
 
 -- The request whole
 
-front-byte : (bytes : List ℕ) (b : ℕ) (rest : List ℕ) → byte_of 1 bytes ≡ got b rest → bytes ≡ b ∷ rest
+front_byte : (bytes : List ℕ) (b : ℕ) (rest : List ℕ) → byte_of 1 bytes ≡ got b rest → bytes ≡ b ∷ rest
 unfolding byte_of
-front-byte [] b rest e = absurd (never (cc))
-front-byte (x ∷ xs) b rest e = cc
+front_byte [] b rest e = absurd (never (cc))
+front_byte (x ∷ xs) b rest e = cc
 
 -- the count stands in front of the records
-with-count : (n i p : ℕ) (tail : List ℕ) → withPhase (n ∷ tail) i p ≡ n ∷ shifted i p tail
-unfolding withPhase
-with-count n i p tail =
+with_count : (n i p : ℕ) (tail : List ℕ) → with_phase (n ∷ tail) i p ≡ n ∷ shifted i p tail
+unfolding with_phase
+with_count n i p tail =
     let before : 7 + 8 * i ≡ suc (6 + 8 * i) = omega arith in
     let after : 9 + 8 * i ≡ suc (8 + 8 * i) = omega arith in
     rw (before, after)
 
 module _ (bytes : List ℕ) (tasks : List Task) (pairs : List Pair) (g : ℕ) (is : reading bytes ≡ readable tasks pairs g) (i : ℕ) (known : i < length tasks) where
   read : Sections bytes tasks pairs g
-  read = reading-sections bytes tasks pairs g is
+  read = reading_sections bytes tasks pairs g is
 
-  steps : SectionSteps taskCount task_of bytes tasks read.behind
-  unfolding tasksOf
-  steps = section-steps taskCount task_of 2 bytes tasks read.behind read.first
+  steps : SectionSteps task_count task_of bytes tasks read.behind
+  unfolding tasks_of
+  steps = section_steps task_count task_of 2 bytes tasks read.behind read.first
 
   whole : bytes ≡ length tasks ∷ steps.tail
-  whole = front-byte bytes (length tasks) steps.tail steps.count
+  whole = front_byte bytes (length tasks) steps.tail steps.count
 
   -- the two bytes stand within the request
-  pub phase-inside : 9 + 8 * i ≤ length bytes
-  phase-inside = let s : SectionRead taskCount 8 bytes tasks read.behind = rw read.first at (tasks-section bytes) in omega (arith, s.within)
+  pub phase_inside : 9 + 8 * i ≤ length bytes
+  phase_inside = let s : SectionRead task_count 8 bytes tasks read.behind = rw read.first at (tasks_section bytes) in omega (arith, s.within)
 
   -- with its own phase it is the request itself
-  pub own-with : Bytes bytes → withPhase bytes i (get_or tasks i noTask).p ≡ bytes
-  own-with b =
+  pub own_with : Bytes bytes → with_phase bytes i (get_or tasks i no_task).p ≡ bytes
+  own_with b =
       let n = length tasks in
       let behind : Bytes steps.tail = λ j. rw whole at (b (suc j)) in
-      ap (λ (l : List ℕ). withPhase l i (get_or tasks i noTask).p) whole
-      ∙ with-count n i (get_or tasks i noTask).p steps.tail
-      ∙ ap (λ (l : List ℕ). n ∷ l) (records-own i n steps.tail tasks read.behind steps.listed known behind)
+      ap (λ (l : List ℕ). with_phase l i (get_or tasks i no_task).p) whole
+      ∙ with_count n i (get_or tasks i no_task).p steps.tail
+      ∙ ap (λ (l : List ℕ). n ∷ l) (records_own i n steps.tail tasks read.behind steps.listed known behind)
       ∙ sym whole
 
 module _ (bytes : List ℕ) (tasks : List Task) (pairs : List Pair) (g : ℕ) (is : reading bytes ≡ readable tasks pairs g)
-    (i p : ℕ) (known : i < length tasks) (early : p < periodOf tasks i) where
+    (i p : ℕ) (known : i < length tasks) (early : p < period_of tasks i) where
   abbrev r : Sections bytes tasks pairs g
   r = read bytes tasks pairs g is i known
 
-  abbrev s : SectionSteps taskCount task_of bytes tasks r.behind
+  abbrev s : SectionSteps task_count task_of bytes tasks r.behind
   s = steps bytes tasks pairs g is i known
 
-  tasks-with : tasksOf (withPhase bytes i p) ≡ got (tasksWith tasks i p) r.behind
-  unfolding tasksOf
-  tasks-with =
-      ap (λ (l : List ℕ). tasksOf (withPhase l i p)) (whole bytes tasks pairs g is i known)
-      ∙ ap tasksOf (with-count (length tasks) i p s.tail)
-      ∙ rw (byte-read 1 (length tasks), s.allowed) (records-shifted i p (length tasks) s.tail tasks r.behind s.listed known early)
+  tasks_with_lem : tasks_of (with_phase bytes i p) ≡ got (tasks_with tasks i p) r.behind
+  unfolding tasks_of
+  tasks_with_lem =
+      ap (λ (l : List ℕ). tasks_of (with_phase l i p)) (whole bytes tasks pairs g is i known)
+      ∙ ap tasks_of (with_count (length tasks) i p s.tail)
+      ∙ rw (byte_read_lem 1 (length tasks), s.allowed) (records_shifted i p (length tasks) s.tail tasks r.behind s.listed known early)
 
-  rule-with : (a b : ℕ) → pairRule (tasksWith tasks i p) a b ≡ pairRule tasks a b
-  unfolding pairRule
-  rule-with a b =
-      rw (length-set tasks i (taskWith (get_or tasks i noTask) p), periods-with tasks i p known early a, periods-with tasks i p known early b)
+  rule_with : (a b : ℕ) → pair_rule (tasks_with tasks i p) a b ≡ pair_rule tasks a b
+  unfolding pair_rule
+  rule_with a b =
+      rw (length-set tasks i (task_with (get_or tasks i no_task) p), periods_with tasks i p known early a, periods_with tasks i p known early b)
 
-  pair-with : pair_of (tasksWith tasks i p) ≡ pair_of tasks
-  unfolding pair_of judgedPair
-  pair-with = λ q bytes. then (byte_of 1 bytes) (λ a rest. then (byte_of 1 rest) (λ b rest. cond (rule-with a b q) (got (record { a = a; b = b }) rest) (refused 5)))
+  pair_with : pair_of (tasks_with tasks i p) ≡ pair_of tasks
+  unfolding pair_of judged_pair
+  pair_with = λ q bytes. then (byte_of 1 bytes) (λ a rest. then (byte_of 1 rest) (λ b rest. cond (rule_with a b q) (got (record { a = a; b = b }) rest) (refused 5)))
 
-  pairs-with : pairsOf (tasksWith tasks i p) r.behind ≡ got pairs r.last
-  unfolding pairsOf
-  pairs-with = ap (λ (one : List ℕ → Parsed Pair). section pairCount one 4 r.behind) pair-with ∙ r.second
+  pairs_with : pairs_of (tasks_with tasks i p) r.behind ≡ got pairs r.last
+  unfolding pairs_of
+  pairs_with = ap (λ (one : List ℕ → Parsed Pair). section pair_count one 4 r.behind) pair_with ∙ r.second
 
   -- the bytes with two bytes replaced read as the request with that phase
-  pub reading-with : reading (withPhase bytes i p) ≡ readable (tasksWith tasks i p) pairs g
+  pub reading_with : reading (with_phase bytes i p) ≡ readable (tasks_with tasks i p) pairs g
   unfolding reading
-  reading-with = rw (tasks-with, pairs-with, r.third)
+  reading_with = rw (tasks_with_lem, pairs_with, r.third)

@@ -4,44 +4,44 @@ use Rattle.std.proofs.Common.{sym, subst, ◌∙◌, arith}
 use Rattle.std.proofs.Math.Path.{ap}
 use Rattle.std.proofs.Math.Seq.{take-set-lt}
 use Rattle.cursor.specs.Padded.{padded}
-use Rattle.cursor.specs.PaddedLaws.{take-padded, getD-padded}
-use Rattle.request.specs.Request.{Reading, readable, unreadable, reading, noTask, noPair, periodOf}
+use Rattle.cursor.specs.PaddedLaws.{take_padded, get_or_padded}
+use Rattle.request.specs.Request.{Reading, readable, unreadable, reading, no_task, no_pair, period_of}
 use Rattle.request.specs.Answers as request
 use Rattle.request.specs.Readable.{KeptReading}
-use Rattle.request.specs.ReadableLaws.{reading-kept}
+use Rattle.request.specs.ReadableLaws.{reading_kept}
 use Rattle.request.specs.declared.Task.{Task}
 use Rattle.request.specs.declared.Pair.{Pair}
 use Rattle.request.specs.declared.Request.{Request}
-use Rattle.cycle.specs.Cycle.{hyperperiod, allJobs, planned, Cycle, cycle, noCycle, afterReading}
-use Rattle.cycle.specs.Answers.{AsRead, reading_of, cycleFor, cycleAnswered}
-use Rattle.cycle.specs.LimitLaws.{WithinLimits, after-within}
-use Rattle.cycle.specs.ReadLaws.{as-read-cycle, reading-back}
-use Rattle.cycle.specs.PhaseLaws.{taskWith, tasksWith, requestWith, phase-as-read}
+use Rattle.cycle.specs.Cycle.{hyperperiod, all_jobs, planned, Cycle, cycle, no_cycle, after_reading}
+use Rattle.cycle.specs.Answers.{AsRead, reading_of, cycle_for, cycle_answered}
+use Rattle.cycle.specs.LimitLaws.{WithinLimits, after_within}
+use Rattle.cycle.specs.ReadLaws.{as_read_cycle, reading_back}
+use Rattle.cycle.specs.PhaseLaws.{task_with, tasks_with, request_with, phase_as_read}
 use Rattle.cycle.specs.declared.Job.{Job}
 use Rattle.cycle.specs.declared.Cycle as answer
 use Rattle.model.specs.Plan.{Instance}
-use Rattle.model.specs.Answers.{instanceOf, instance}
-use Rattle.model.specs.AnswerLaws.{instance-answered}
+use Rattle.model.specs.Answers.{instance_of, instance}
+use Rattle.model.specs.AnswerLaws.{instance_answered}
 use Rattle.model.specs.Within.{Within, InLimits}
-use Rattle.model.specs.WithinLaws.{within-limits, of-in-limits}
-use Rattle.model.specs.Chosen.{Choice, chosen, noPlan, noPlausible, choose, chooseWalk, fullTries}
+use Rattle.model.specs.WithinLaws.{within_limits, of_in_limits}
+use Rattle.model.specs.Chosen.{Choice, chosen, no_plan, no_plausible, choose, choose_walk, full_tries}
 use Rattle.plan_writer.specs.Outcome.{refusal}
-use Rattle.planner.specs.Outcome.{byChoice, outcome, requestTries, outcomeWithin}
-use Rattle.planner.specs.Choices.{noneChosen, choiceAnswer, choiceWithin}
-use Rattle.phases.specs.Phases.{withPhase, outcomeNumber, leadsTo}
-use Rattle.phases.specs.Counting.{Countable, periodIn, phaseNumber}
-use Rattle.phases.specs.PhaseCycle.{jobsWith, after-with, phase-within}
+use Rattle.planner.specs.Outcome.{by_choice, outcome, request_tries, outcome_within}
+use Rattle.planner.specs.Choices.{none_chosen, choice_answer, choice_within}
+use Rattle.phases.specs.Phases.{with_phase, outcome_number, leads_to}
+use Rattle.phases.specs.Counting.{Countable, period_in, phase_number}
+use Rattle.phases.specs.PhaseCycle.{jobs_with, after_with, phase_within}
 
 -- the choice of a request's instance has the number of the planner's outcome
-pub choice-number : (a : ℕ) (s : List ℕ) (x : Instance) → Within s x → (choiceWithin a (chooseWalk x)).refusal ≡ outcomeNumber (outcomeWithin a s)
-unfolding choiceWithin choiceAnswer outcomeWithin outcome requestTries
-choice-number a s x within = rw within (go (ltb a (fullTries x)) (choose x))
+pub choice_number : (a : ℕ) (s : List ℕ) (x : Instance) → Within s x → (choice_within a (choose_walk x)).refusal ≡ outcome_number (outcome_within a s)
+unfolding choice_within choice_answer outcome_within outcome request_tries
+choice_number a s x within = rw within (go (ltb a (full_tries x)) (choose x))
   where
-    go : (b : Bool) (o : Choice) → (cond b (noneChosen 23 a) (choiceAnswer o (fullTries x))).refusal ≡ outcomeNumber (cond b (refusal 23) (byChoice x o))
+    go : (b : Bool) (o : Choice) → (cond b (none_chosen 23 a) (choice_answer o (full_tries x))).refusal ≡ outcome_number (cond b (refusal 23) (by_choice x o))
     go true o = refl
     go false (chosen f frames) = refl
-    go false noPlan = refl
-    go false noPlausible = refl
+    go false no_plan = refl
+    go false no_plausible = refl
 
 -- what a request holds that is within the limits
 pub record Held (r : Request) : Type 0 where
@@ -50,18 +50,18 @@ pub record Held (r : Request) : Type 0 where
   pub g : ℕ
   pub h : ℕ
   pub jobs : List Job
-  pub is : r ≡ request.requestAnswered (readable tasks pairs g)
+  pub is : r ≡ request.request_answered (readable tasks pairs g)
   pub limits : WithinLimits tasks pairs h jobs
 
 pub held : {r : Request} {i : ℕ} → Countable r i → Held r
-held {r} {i} c = go c.as_read.read c.as_read.is c.as_read.kept (as-read-cycle c.as_read)
+held {r} {i} c = go c.as_read.read c.as_read.is c.as_read.kept (as_read_cycle c.as_read)
   where
     -- 7 and 8 are not answered
-    by_tests : (tasks : List Task) (pairs : List Pair) (g : ℕ) → r ≡ request.requestAnswered (readable tasks pairs g) → KeptReading (readable tasks pairs g)
-        → (s t : Bool) → ltb 10000 (hyperperiod tasks) ≡ s → ltb 128 (length (allJobs tasks (hyperperiod tasks))) ≡ t
-        → cycleFor r ≡ cond s (noCycle 7) (cond t (noCycle 8) (cycle tasks pairs g (hyperperiod tasks) (planned tasks (hyperperiod tasks)))) → Held r
-    by_tests tasks pairs g is kept true t p q e = absurd (omega (arith, c.within, ap (λ (d : Cycle). (cycleAnswered d).refusal) e))
-    by_tests tasks pairs g is kept false true p q e = absurd (omega (arith, c.within, ap (λ (d : Cycle). (cycleAnswered d).refusal) e))
+    by_tests : (tasks : List Task) (pairs : List Pair) (g : ℕ) → r ≡ request.request_answered (readable tasks pairs g) → KeptReading (readable tasks pairs g)
+        → (s t : Bool) → ltb 10000 (hyperperiod tasks) ≡ s → ltb 128 (length (all_jobs tasks (hyperperiod tasks))) ≡ t
+        → cycle_for r ≡ cond s (no_cycle 7) (cond t (no_cycle 8) (cycle tasks pairs g (hyperperiod tasks) (planned tasks (hyperperiod tasks)))) → Held r
+    by_tests tasks pairs g is kept true t p q e = absurd (omega (arith, c.within, ap (λ (d : Cycle). (cycle_answered d).refusal) e))
+    by_tests tasks pairs g is kept false true p q e = absurd (omega (arith, c.within, ap (λ (d : Cycle). (cycle_answered d).refusal) e))
     by_tests tasks pairs g is kept false false p q e = record {
       tasks = tasks;
       pairs = pairs;
@@ -69,68 +69,68 @@ held {r} {i} c = go c.as_read.read c.as_read.is c.as_read.kept (as-read-cycle c.
       h = hyperperiod tasks;
       jobs = planned tasks (hyperperiod tasks);
       is = is;
-      limits = after-within (readable tasks pairs g) kept tasks pairs g (hyperperiod tasks) (planned tasks (hyperperiod tasks)) (rw (p, q));
+      limits = after_within (readable tasks pairs g) kept tasks pairs g (hyperperiod tasks) (planned tasks (hyperperiod tasks)) (rw (p, q));
     }
 
-    go : (x : Reading) → r ≡ request.requestAnswered x → KeptReading x → cycleFor r ≡ afterReading x → Held r
+    go : (x : Reading) → r ≡ request.request_answered x → KeptReading x → cycle_for r ≡ after_reading x → Held r
     go (readable tasks pairs g) is kept e =
-        by_tests tasks pairs g is kept (ltb 10000 (hyperperiod tasks)) (ltb 128 (length (allJobs tasks (hyperperiod tasks)))) refl refl e
+        by_tests tasks pairs g is kept (ltb 10000 (hyperperiod tasks)) (ltb 128 (length (all_jobs tasks (hyperperiod tasks)))) refl refl e
     go (unreadable number) is kept e = absurd (omega (arith, c.known, ap (λ (y : Request). y.n) is))
 
-module _ {r : Request} {i : ℕ} (c : Countable r i) (p : ℕ) (early : p < periodIn r i) where
+module _ {r : Request} {i : ℕ} (c : Countable r i) (p : ℕ) (early : p < period_in r i) where
   m : Held r
   m = held c
 
   known : i < length m.tasks
   known = omega (arith, c.known, ap (λ (y : Request). y.n) m.is)
 
-  task-is : get_or r.tasks i noTask ≡ get_or m.tasks i noTask
-  task-is = ap (λ (y : Request). get_or y.tasks i noTask) m.is ∙ getD-padded 16 noTask m.tasks i known
+  task_is : get_or r.tasks i no_task ≡ get_or m.tasks i no_task
+  task_is = ap (λ (y : Request). get_or y.tasks i no_task) m.is ∙ get_or_padded 16 no_task m.tasks i known
 
-  soon : p < periodOf m.tasks i
-  soon = omega (arith, early, ap (λ (x : Task). x.t) task-is)
+  soon : p < period_of m.tasks i
+  soon = omega (arith, early, ap (λ (x : Task). x.t) task_is)
 
-  read-with : reading_of (requestWith r i p) ≡ readable (tasksWith m.tasks i p) m.pairs m.g
+  read_with : reading_of (request_with r i p) ≡ readable (tasks_with m.tasks i p) m.pairs m.g
   unfolding reading_of
-  read-with =
-      ap (λ (y : Request). reading_of (requestWith y i p)) m.is
+  read_with =
+      ap (λ (y : Request). reading_of (request_with y i p)) m.is
       ∙ rw (
-        getD-padded 16 noTask m.tasks i known,
-        take-set-lt (length m.tasks) (padded 16 noTask m.tasks) i (taskWith (get_or m.tasks i noTask) p) known,
-        take-padded 16 noTask m.tasks,
-        take-padded 16 noPair m.pairs,
+        get_or_padded 16 no_task m.tasks i known,
+        take-set-lt (length m.tasks) (padded 16 no_task m.tasks) i (task_with (get_or m.tasks i no_task) p) known,
+        take_padded 16 no_task m.tasks,
+        take_padded 16 no_pair m.pairs,
       )
 
-  cycle-with : cycleFor (requestWith r i p) ≡ cycle (tasksWith m.tasks i p) m.pairs m.g m.h (jobsWith m.tasks i p known soon m.h)
-  unfolding cycleFor
-  cycle-with = ap afterReading read-with ∙ after-with m.tasks i p known soon m.pairs m.g m.h m.jobs m.limits
+  cycle_with : cycle_for (request_with r i p) ≡ cycle (tasks_with m.tasks i p) m.pairs m.g m.h (jobs_with m.tasks i p known soon m.h)
+  unfolding cycle_for
+  cycle_with = ap after_reading read_with ∙ after_with m.tasks i p known soon m.pairs m.g m.h m.jobs m.limits
 
   -- it is planned as every request within the limits
-  pub phase-read : {r' : Request} → r' ≡ requestWith r i p → AsRead r'
-  phase-read e = subst AsRead (sym e) (phase-as-read c.as_read i p c.known early)
+  pub phase_read : {r' : Request} → r' ≡ request_with r i p → AsRead r'
+  phase_read e = subst AsRead (sym e) (phase_as_read c.as_read i p c.known early)
 
-  pub phase-limits : {d : answer.Cycle} → d ≡ cycleAnswered (cycleFor (requestWith r i p)) → InLimits d
-  phase-limits {d} e =
-      let accepted : d.refusal ≡ 0 = ap (λ (y : answer.Cycle). y.refusal) (e ∙ ap cycleAnswered cycle-with) in
-      of-in-limits (requestWith r i p) (phase-read refl) d e accepted
+  pub phase_limits : {d : answer.Cycle} → d ≡ cycle_answered (cycle_for (request_with r i p)) → InLimits d
+  phase_limits {d} e =
+      let accepted : d.refusal ≡ 0 = ap (λ (y : answer.Cycle). y.refusal) (e ∙ ap cycle_answered cycle_with) in
+      of_in_limits (request_with r i p) (phase_read refl) d e accepted
 
   -- and its number is that of the bytes with this phase
-  module _ (bytes : List ℕ) (e : r ≡ request.requestAnswered (reading bytes)) where
-    bytes-hold : reading bytes ≡ readable m.tasks m.pairs m.g
-    bytes-hold =
-        sym (reading-back (reading bytes) (reading-kept bytes)) ∙ ap reading_of (sym e ∙ m.is)
-        ∙ reading-back (readable m.tasks m.pairs m.g) m.limits.readable
+  module _ (bytes : List ℕ) (e : r ≡ request.request_answered (reading bytes)) where
+    bytes_hold : reading bytes ≡ readable m.tasks m.pairs m.g
+    bytes_hold =
+        sym (reading_back (reading bytes) (reading_kept bytes)) ∙ ap reading_of (sym e ∙ m.is)
+        ∙ reading_back (readable m.tasks m.pairs m.g) m.limits.readable
 
     abbrev x : Instance
-    x = instance (tasksWith m.tasks i p) m.pairs m.g m.h (jobsWith m.tasks i p known soon m.h)
+    x = instance (tasks_with m.tasks i p) m.pairs m.g m.h (jobs_with m.tasks i p known soon m.h)
 
-    within : Within (withPhase bytes i p) x
-    within = phase-within m.tasks i p known soon m.pairs m.g m.h m.jobs m.limits bytes bytes-hold
+    within : Within (with_phase bytes i p) x
+    within = phase_within m.tasks i p known soon m.pairs m.g m.h m.jobs m.limits bytes bytes_hold
 
-    pub number_is : (allowance : ℕ) → phaseNumber allowance r i p ≡ leadsTo allowance bytes i p
-    unfolding phaseNumber leadsTo
+    pub number_is : (allowance : ℕ) → phase_number allowance r i p ≡ leads_to allowance bytes i p
+    unfolding phase_number leads_to
     number_is allowance =
-        let same : instanceOf (cycleAnswered (cycleFor (requestWith r i p))) ≡ x
-        = ap (λ (d : Cycle). instanceOf (cycleAnswered d)) cycle-with
-        ∙ instance-answered x.tasks x.pairs x.g x.h x.jobs (within-limits (withPhase bytes i p) x within) in
-        ap (λ (y : Instance). (choiceWithin allowance (chooseWalk y)).refusal) same ∙ choice-number allowance (withPhase bytes i p) x within
+        let same : instance_of (cycle_answered (cycle_for (request_with r i p))) ≡ x
+        = ap (λ (d : Cycle). instance_of (cycle_answered d)) cycle_with
+        ∙ instance_answered x.tasks x.pairs x.g x.h x.jobs (within_limits (with_phase bytes i p) x within) in
+        ap (λ (y : Instance). (choice_within allowance (choose_walk y)).refusal) same ∙ choice_number allowance (with_phase bytes i p) x within

@@ -1,8 +1,8 @@
 // Which phases of a task still fit: how many of them lead to a table, and how many to each refusal of the planner.
 ghost use Rattle.std.specs.Prelude.{◌≡◌, ◌<◌};
-ghost use Rattle.cycle.specs.PhaseLaws.{requestWith};
-ghost use Rattle.phases.specs.Phases.{phaseCounts, uncounted, phases};
-ghost use Rattle.phases.specs.Counting.{Room, oneMore, Countable, periodIn, phaseNumber};
+ghost use Rattle.cycle.specs.PhaseLaws.{request_with};
+ghost use Rattle.phases.specs.Phases.{phase_counts, uncounted, phases};
+ghost use Rattle.phases.specs.Counting.{Room, one_more, Countable, period_in, phase_number};
 
 use request::{Request, Task};
 
@@ -32,7 +32,7 @@ fn none(refusal: u8) -> PhaseCounts
 // The request with phase p for task i.
 fn with_phase(request: Request, i: usize, p: u16) -> Request
     requires { i < 16 }
-    ensures { result ≡ requestWith request i p }
+    ensures { result ≡ request_with request i p }
 {
     let mut tasks = request.tasks;
     let x = tasks[i];
@@ -55,8 +55,8 @@ fn with_phase(request: Request, i: usize, p: u16) -> Request
 
 // What planning comes to with phase p for task i: 0 for a table, 9, 10 or 23. The jobs are listed anew, in the order of their new releases.
 fn number_at(request: Request, i: usize, p: u16, allowance: u64) -> u8
-    requires { Countable request i × (p < periodIn request i) }
-    ensures { result ≡ phaseNumber allowance request i p }
+    requires { Countable request i × (p < period_in request i) }
+    ensures { result ≡ phase_number allowance request i p }
 {
     let shifted = with_phase(request, i, p);
     let cycle = cycle::of(shifted);
@@ -67,7 +67,7 @@ fn number_at(request: Request, i: usize, p: u16, allowance: u64) -> u8
 // One phase more that leads to this number.
 fn one_more(counts: PhaseCounts, number: u8) -> PhaseCounts
     requires { Room counts }
-    ensures { result ≡ oneMore counts number }
+    ensures { result ≡ one_more counts number }
 {
     let mut more = counts;
     if number == 0 {
@@ -85,7 +85,7 @@ fn one_more(counts: PhaseCounts, number: u8) -> PhaseCounts
 // The phases of task i from 0 to T - 1, each planned with the whole allowance.
 fn count(request: Request, i: usize, allowance: u64) -> PhaseCounts
     requires { Countable request i }
-    ensures { result ≡ phaseCounts (phaseNumber allowance request i) (periodIn request i) }
+    ensures { result ≡ phase_counts (phase_number allowance request i) (period_in request i) }
 {
     let tasks = request.tasks;
     let x = tasks[i];

@@ -5,11 +5,11 @@ mod rows;
 pub mod ticks;
 
 ghost use Rattle.text.specs.Text.{PutIn};
-ghost use Rattle.plan_listing.specs.Listing.{refusedLine, listing};
+ghost use Rattle.plan_listing.specs.Listing.{refused_line, listing};
 
 // The line of a refusal.
 pub fn refused(number: u8, out: &mut [u8]) -> usize
-    ensures { PutIn (refusedLine number) out.old result out.new }
+    ensures { PutIn (refused_line number) out.old result out.new }
 {
     let name = text::put_all(out, 0, b"refused ");
     let line = text::put_number(out, name, number as u32);

@@ -2,10 +2,10 @@
 ghost use Rattle.std.specs.Prelude.{◌≤◌, ◌≡◌, ◌++◌, length};
 ghost use Rattle.request.specs.Request.{reading};
 ghost use Rattle.table.specs.Table.{decode, entry_of};
-ghost use Rattle.table.specs.Answers.{entriesSaid};
-ghost use Rattle.text.specs.Text.{decimalOf, filledTo, putAllOf};
-ghost use Rattle.plan_listing.specs.Listing.{headLine, busyTicks, entryText, each, row_line, row_lines, tableLines, tasksIn};
-ghost use Rattle.plan_listing.specs.Answers.{tableIn};
+ghost use Rattle.table.specs.Answers.{entries_said};
+ghost use Rattle.text.specs.Text.{decimal_of, filled_to, put_all_of};
+ghost use Rattle.plan_listing.specs.Listing.{head_line, busy_ticks, entry_text, each, row_line, row_lines, table_lines, tasks_in};
+ghost use Rattle.plan_listing.specs.Answers.{table_in};
 
 use crate::entry::put_name;
 use crate::ticks::cost;
@@ -14,7 +14,7 @@ use table::{Row, Sizes};
 
 // A carried entry is followed by `+`.
 fn put_entry(out: &mut [u8], at: usize, task: u8, job: u8) -> usize
-    ensures { filledTo result out.new ≡ putAllOf (filledTo at out.old) (entryText (entry_of task job)) }
+    ensures { filled_to result out.new ≡ put_all_of (filled_to at out.old) (entry_text (entry_of task job)) }
 {
     let name = put_name(out, at, task, job);
     if !table::job::is_carried(job) {
@@ -25,7 +25,7 @@ fn put_entry(out: &mut [u8], at: usize, task: u8, job: u8) -> usize
 
 fn put_entries(out: &mut [u8], at: usize, row: Row) -> usize
     requires { row.count ≤ 16 }
-    ensures { filledTo result out.new ≡ putAllOf (filledTo at out.old) (each entryText (entriesSaid row)) }
+    ensures { filled_to result out.new ≡ put_all_of (filled_to at out.old) (each entry_text (entries_said row)) }
 {
     let n = row.count;
     let tasks = row.tasks;
@@ -42,7 +42,7 @@ fn put_entries(out: &mut [u8], at: usize, row: Row) -> usize
 // The sum of C over the row's entries, carried ones included.
 fn busy(row: Row, tasks: [Task; 16]) -> u32
     requires { (row.count ≤ 16) × (length tasks ≡ 16) }
-    ensures { result ≡ busyTicks tasks (entriesSaid row) }
+    ensures { result ≡ busy_ticks tasks (entries_said row) }
 {
     let n = row.count;
     let entries = row.tasks;
@@ -57,7 +57,7 @@ fn busy(row: Row, tasks: [Task; 16]) -> u32
 
 fn put_row(out: &mut [u8], at: usize, k: u16, row: Row, tasks: [Task; 16]) -> usize
     requires { (row.count ≤ 16) × (length tasks ≡ 16) }
-    ensures { filledTo result out.new ≡ putAllOf (filledTo at out.old) (row_line tasks k (entriesSaid row)) }
+    ensures { filled_to result out.new ≡ put_all_of (filled_to at out.old) (row_line tasks k (entries_said row)) }
 {
     let number = text::put_number(out, at, k as u32);
     let space = text::put(out, number, b' ');
@@ -67,8 +67,8 @@ fn put_row(out: &mut [u8], at: usize, k: u16, row: Row, tasks: [Task; 16]) -> us
 }
 
 fn put_rows(out: &mut [u8], at: usize, table: &[u8], height: u16, tasks: [Task; 16]) -> usize
-    requires { (height ≡ length (tableIn (decode table.now)).rows) × (length tasks ≡ 16) }
-    ensures { filledTo result out.new ≡ putAllOf (filledTo at out.old) (row_lines tasks 0 (tableIn (decode table.now)).rows) }
+    requires { (height ≡ length (table_in (decode table.now)).rows) × (length tasks ≡ 16) }
+    ensures { filled_to result out.new ≡ put_all_of (filled_to at out.old) (row_lines tasks 0 (table_in (decode table.now)).rows) }
 {
     let mut end = at;
     let mut here = table::read::first_row();
@@ -84,14 +84,14 @@ fn put_rows(out: &mut [u8], at: usize, table: &[u8], height: u16, tasks: [Task; 
 
 // `name` and a size.
 fn put_size(out: &mut [u8], at: usize, name: &[u8], size: u16) -> usize
-    ensures { filledTo result out.new ≡ putAllOf (filledTo at out.old) (name.now ++ decimalOf size) }
+    ensures { filled_to result out.new ≡ put_all_of (filled_to at out.old) (name.now ++ decimal_of size) }
 {
     let named = text::put_all(out, at, name);
     text::put_number(out, named, size as u32)
 }
 
 fn put_head(out: &mut [u8], sizes: Sizes) -> usize
-    ensures { filledTo result out.new ≡ putAllOf (filledTo 0 out.old) (headLine sizes.f sizes.h sizes.height) }
+    ensures { filled_to result out.new ≡ put_all_of (filled_to 0 out.old) (head_line sizes.f sizes.h sizes.height) }
 {
     let frame = put_size(out, 0, b"frame ", sizes.f);
     let cycle = put_size(out, frame, b" cycle ", sizes.h);
@@ -101,7 +101,7 @@ fn put_head(out: &mut [u8], sizes: Sizes) -> usize
 
 // The lines of a table, with C as the request has it.
 pub(super) fn put_table(out: &mut [u8], request: &[u8], table: &[u8]) -> usize
-    ensures { filledTo result out.new ≡ putAllOf (filledTo 0 out.old) (tableLines (tasksIn (reading request.now)) (tableIn (decode table.now))) }
+    ensures { filled_to result out.new ≡ put_all_of (filled_to 0 out.old) (table_lines (tasks_in (reading request.now)) (table_in (decode table.now))) }
 {
     let sizes = table::read::sizes(table);
     let read = request::read(request);

@@ -8,21 +8,21 @@ use Rattle.std.proofs.Math.ListN.{length-set}
 use Rattle.std.proofs.lemmas.List.{length-replicate, get_or-replicate}
 use Rattle.std.proofs.lemmas.Bool.{lt-leb, eqb-false}
 use Rattle.cursor.specs.Padded.{firsts}
-use Rattle.cursor.specs.PaddedLaws.{getD-firsts}
-use Rattle.cycle.specs.Planned.{noJob}
+use Rattle.cursor.specs.PaddedLaws.{get_or_firsts}
+use Rattle.cycle.specs.Planned.{no_job}
 use Rattle.cycle.specs.declared.Job.{Job}
-use Rattle.model.specs.Named.{isJob}
+use Rattle.model.specs.Named.{is_job}
 use Rattle.plan_rules.specs.Every.{every}
-use Rattle.plan_rules.specs.EveryLaws.{both-all, every-snoc}
-use Rattle.plan_rules.specs.Rules.{otherKept}
+use Rattle.plan_rules.specs.EveryLaws.{both_all, every_snoc}
+use Rattle.plan_rules.specs.Rules.{other_kept}
 
 -- of the first n jobs, with their frames
 pub record Earliest (jobs : List Job) (frames : List ℕ) (b n : ℕ) (earliest : List ℕ) : Type 0 where
   pub size : length earliest ≡ 256
-  pub tells : (number k : ℕ) → number < 256 → k ≤ 65535 → leb k (get_or earliest number 0) ≡ every n (otherKept jobs frames b number k)
+  pub tells : (number k : ℕ) → number < 256 → k ≤ 65535 → leb k (get_or earliest number 0) ≡ every n (other_kept jobs frames b number k)
 
-leb-min : (k a b : ℕ) → leb k (min a b) ≡ leb k a && leb k b
-leb-min k a b = go (leb k a) refl (leb k b) refl
+leb_min : (k a b : ℕ) → leb k (min a b) ≡ leb k a && leb k b
+leb_min k a b = go (leb k a) refl (leb k b) refl
   where
     go : (s : Bool) → leb k a ≡ s → (t : Bool) → leb k b ≡ t → leb k (min a b) ≡ s && t
     go true p true q = le-leb k (min a b) (omega (arith, leb-true k a p, leb-true k b q))
@@ -30,57 +30,57 @@ leb-min k a b = go (leb k a) refl (leb k b) refl
     go false p t q = lt-leb k (min a b) (omega (arith, leb-false k a p))
 
 module _ (jobs : List Job) (frames : List ℕ) (b : ℕ) where
-  pub earliest-none : Earliest jobs frames b 0 (replicate 256 65535)
-  earliest-none = record {
+  pub earliest_none : Earliest jobs frames b 0 (replicate 256 65535)
+  earliest_none = record {
     size = length-replicate {A = ℕ} 256 65535;
     tells = λ number k few small. rw (get_or-replicate {A = ℕ} 256 number 65535 0 few) (le-leb k 65535 small);
   }
 
   module _ (z : ℕ) (earliest : List ℕ) (so : Earliest jobs frames b z earliest) where
-    more : (number k : ℕ) → every (z + 1) (otherKept jobs frames b number k) ≡ every z (otherKept jobs frames b number k) && otherKept jobs frames b number k z
-    more number k = every-snoc (otherKept jobs frames b number k) z
+    more : (number k : ℕ) → every (z + 1) (other_kept jobs frames b number k) ≡ every z (other_kept jobs frames b number k) && other_kept jobs frames b number k z
+    more number k = every_snoc (other_kept jobs frames b number k) z
 
-    pub other-task : ((get_or jobs z noJob).task ≡ b → ⊥) → Earliest jobs frames b (z + 1) earliest
-    unfolding otherKept isJob
-    other-task ne = record {
+    pub other_task : ((get_or jobs z no_job).task ≡ b → ⊥) → Earliest jobs frames b (z + 1) earliest
+    unfolding other_kept is_job
+    other_task ne = record {
       size = so.size;
-      tells = λ number k few small. so.tells number k few small ∙ sym (more number k ∙ rw (other number k) (both-all (every z (otherKept jobs frames b number k))));
+      tells = λ number k few small. so.tells number k few small ∙ sym (more number k ∙ rw (other number k) (both_all (every z (other_kept jobs frames b number k))));
     }
       where
-        other : (number k : ℕ) → otherKept jobs frames b number k z ≡ true
-        other number k = rw (ne_eqb (get_or jobs z noJob).task b ne)
+        other : (number k : ℕ) → other_kept jobs frames b number k z ≡ true
+        other number k = rw (ne_eqb (get_or jobs z no_job).task b ne)
 
-    pub own-task : (get_or jobs z noJob).task ≡ b → (get_or jobs z noJob).number < 256
-        → (v : ℕ) → v ≡ min (get_or earliest (get_or jobs z noJob).number 0) (get_or frames z 0) → Earliest jobs frames b (z + 1) (set earliest (get_or jobs z noJob).number v)
-    unfolding otherKept isJob
-    own-task e fits v is = record {
+    pub own_task : (get_or jobs z no_job).task ≡ b → (get_or jobs z no_job).number < 256
+        → (v : ℕ) → v ≡ min (get_or earliest (get_or jobs z no_job).number 0) (get_or frames z 0) → Earliest jobs frames b (z + 1) (set earliest (get_or jobs z no_job).number v)
+    unfolding other_kept is_job
+    own_task e fits v is = record {
       size = simp length-set so.size;
       tells = λ number k few small. sym (more number k ∙ rw (← so.tells number k few small) (go number k (eqb own number) refl));
     }
       where
         own : ℕ
-        own = (get_or jobs z noJob).number
+        own = (get_or jobs z no_job).number
 
         go : (number k : ℕ) (t : Bool) → eqb own number ≡ t
-            → leb k (get_or earliest number 0) && otherKept jobs frames b number k z ≡ leb k (get_or (set earliest own v) number 0)
+            → leb k (get_or earliest number 0) && other_kept jobs frames b number k z ≡ leb k (get_or (set earliest own v) number 0)
         go number k true q =
             let same : own ≡ number = eqb-true own number q in
             let stored : get_or (set earliest own v) number 0 ≡ v = rw (← same) (get_or-set_same earliest own v 0 (omega (arith, so.size))) in
-            rw (eq-eqb (get_or jobs z noJob).task b e, q, stored, is, same) (sym (leb-min k (get_or earliest number 0) (get_or frames z 0)))
+            rw (eq-eqb (get_or jobs z no_job).task b e, q, stored, is, same) (sym (leb_min k (get_or earliest number 0) (get_or frames z 0)))
         go number k false q =
             let kept = get_or-set_other earliest own number v 0 (λ w. eqb-false own number q (sym w)) in
-            rw (eq-eqb (get_or jobs z noJob).task b e, q, kept) (both-all (leb k (get_or earliest number 0)))
+            rw (eq-eqb (get_or jobs z no_job).task b e, q, kept) (both_all (leb k (get_or earliest number 0)))
 
 -- jobs and frames in the first n places of arrays
-module _ (jobs : List Job) (frames : List ℕ) (b n z : ℕ) (h : z < n) (earliest : List ℕ) (so : Earliest (firsts n noJob jobs) (firsts n 0 frames) b z earliest) where
-  job_is : get_or (firsts n noJob jobs) z noJob ≡ get_or jobs z noJob
-  job_is = getD-firsts noJob jobs n z h
+module _ (jobs : List Job) (frames : List ℕ) (b n z : ℕ) (h : z < n) (earliest : List ℕ) (so : Earliest (firsts n no_job jobs) (firsts n 0 frames) b z earliest) where
+  job_is : get_or (firsts n no_job jobs) z no_job ≡ get_or jobs z no_job
+  job_is = get_or_firsts no_job jobs n z h
 
-  pub passed-other : ((get_or jobs z noJob).task ≡ b → ⊥) → Earliest (firsts n noJob jobs) (firsts n 0 frames) b (z + 1) earliest
-  passed-other ne = other-task (firsts n noJob jobs) (firsts n 0 frames) b z earliest so (rw job_is ne)
+  pub passed_other : ((get_or jobs z no_job).task ≡ b → ⊥) → Earliest (firsts n no_job jobs) (firsts n 0 frames) b (z + 1) earliest
+  passed_other ne = other_task (firsts n no_job jobs) (firsts n 0 frames) b z earliest so (rw job_is ne)
 
-  pub passed-own : (get_or jobs z noJob).task ≡ b → (get_or jobs z noJob).number < 256
-      → (v : ℕ) → v ≡ min (get_or earliest (get_or jobs z noJob).number 0) (get_or frames z 0)
-      → Earliest (firsts n noJob jobs) (firsts n 0 frames) b (z + 1) (set earliest (get_or jobs z noJob).number v)
-  passed-own e few v is =
-      rw job_is at (own-task (firsts n noJob jobs) (firsts n 0 frames) b z earliest so (rw job_is e) (rw job_is few) v (rw (job_is, getD-firsts 0 frames n z h) is))
+  pub passed_own : (get_or jobs z no_job).task ≡ b → (get_or jobs z no_job).number < 256
+      → (v : ℕ) → v ≡ min (get_or earliest (get_or jobs z no_job).number 0) (get_or frames z 0)
+      → Earliest (firsts n no_job jobs) (firsts n 0 frames) b (z + 1) (set earliest (get_or jobs z no_job).number v)
+  passed_own e few v is =
+      rw job_is at (own_task (firsts n no_job jobs) (firsts n 0 frames) b z earliest so (rw job_is e) (rw job_is few) v (rw (job_is, get_or_firsts 0 frames n z h) is))

@@ -1,12 +1,12 @@
 // The rules of a plan, on the frames of its jobs: window, capacity and order.
 ghost use Rattle.std.specs.Prelude.{◌≡◌, ◌≤◌, ◌<◌, min, leb};
 ghost use Rattle.cursor.specs.Padded.{firsts};
-ghost use Rattle.request.specs.Request.{noPair};
-ghost use Rattle.cycle.specs.Planned.{noJob};
-ghost use Rattle.model.specs.Named.{isJob};
-ghost use Rattle.model.specs.Answers.{instanceOf};
+ghost use Rattle.request.specs.Request.{no_pair};
+ghost use Rattle.cycle.specs.Planned.{no_job};
+ghost use Rattle.model.specs.Named.{is_job};
+ghost use Rattle.model.specs.Answers.{instance_of};
 ghost use Rattle.plan_rules.specs.Every.{every};
-ghost use Rattle.plan_rules.specs.Rules.{inWindow, windowKept, oneKept, pairKept, capacityKept, rulesRight};
+ghost use Rattle.plan_rules.specs.Rules.{in_window, window_kept, one_kept, pair_kept, capacity_kept, rules_right};
 ghost use Rattle.plan_rules.specs.Earliest.{Earliest};
 
 use cycle::{Cycle, Job};
@@ -14,7 +14,7 @@ use request::Pair;
 
 // Whether it is job `number` of the task.
 pub fn is_job(job: Job, task: u8, number: u8) -> bool
-    ensures { result ≡ isJob task number job }
+    ensures { result ≡ is_job task number job }
 {
     if job.task == task {
         job.number == number
@@ -25,7 +25,7 @@ pub fn is_job(job: Job, task: u8, number: u8) -> bool
 
 // k·f ≥ r and (k+1)·f ≤ r + D.
 pub fn in_window(job: Job, k: u16, f: u16) -> bool
-    ensures { result ≡ inWindow f job k }
+    ensures { result ≡ in_window f job k }
 {
     let start = (k as u32) * (f as u32);
     if start < (job.release as u32) {
@@ -37,7 +37,7 @@ pub fn in_window(job: Job, k: u16, f: u16) -> bool
 // Whether each job's frame lies in its window.
 fn windows_kept(jobs: [Job; 128], frames: &[u16; 128], count: usize, f: u16) -> bool
     requires { count ≤ 128 }
-    ensures { result ≡ every count (windowKept (firsts count noJob jobs) (firsts count 0 frames.now) f) }
+    ensures { result ≡ every count (window_kept (firsts count no_job jobs) (firsts count 0 frames.now) f) }
 {
     let mut y: usize = 0;
     while y < count {
@@ -54,7 +54,7 @@ fn windows_kept(jobs: [Job; 128], frames: &[u16; 128], count: usize, f: u16) -> 
 // there is no room for it.
 fn capacity_kept(cost: &[u32; 128], frames: &[u16; 128], count: usize, rows: u16, f: u16) -> bool
     requires { (count ≤ 128) × (0 < rows) × (rows ≤ 256) }
-    ensures { result ≡ every rows (capacityKept rows (firsts count 0 cost.now) (firsts count 0 frames.now) f) }
+    ensures { result ≡ every rows (capacity_kept rows (firsts count 0 cost.now) (firsts count 0 frames.now) f) }
 {
     let length = f as u32;
     let mut load = [0u32; 256];
@@ -81,7 +81,7 @@ fn smaller(k: u16, l: u16) -> u16
 // The frame of job `number` of task b, for each number: the earliest, or 65,535 where there is none.
 fn earliest_frames(jobs: [Job; 128], frames: &[u16; 128], count: usize, b: u8) -> [u16; 256]
     requires { count ≤ 128 }
-    ensures { Earliest (firsts count noJob jobs) (firsts count 0 frames.now) b count result }
+    ensures { Earliest (firsts count no_job jobs) (firsts count 0 frames.now) b count result }
 {
     let mut earliest = [65535u16; 256];
     let mut z: usize = 0;
@@ -106,7 +106,7 @@ fn not_after(k: u16, partner: u16) -> bool
 // Whether each job of task a has the frame of its job of task b or an earlier one.
 fn pair_kept(jobs: [Job; 128], frames: &[u16; 128], count: usize, a: u8, b: u8) -> bool
     requires { count ≤ 128 }
-    ensures { result ≡ every count (oneKept (firsts count noJob jobs) (firsts count 0 frames.now) count a b) }
+    ensures { result ≡ every count (one_kept (firsts count no_job jobs) (firsts count 0 frames.now) count a b) }
 {
     let earliest = earliest_frames(jobs, frames, count, b);
     let mut y: usize = 0;
@@ -130,7 +130,7 @@ fn pairs_kept(
     count: usize,
 ) -> bool
     requires { (m ≤ 16) × (count ≤ 128) }
-    ensures { result ≡ every m (pairKept (firsts count noJob jobs) (firsts count 0 frames.now) count (firsts m noPair pairs)) }
+    ensures { result ≡ every m (pair_kept (firsts count no_job jobs) (firsts count 0 frames.now) count (firsts m no_pair pairs)) }
 {
     let mut u: usize = 0;
     while u < m {
@@ -145,7 +145,7 @@ fn pairs_kept(
 
 // Whether the frames of the cycle's jobs, of length f in `rows` rows, keep windows, capacity and order. More than 256 rows are no plan's.
 pub fn rules_kept(cycle: Cycle, frames: &[u16; 128], rows: u16, f: u16) -> bool
-    ensures { result ≡ rulesRight (instanceOf cycle) rows f (firsts (min cycle.count 128) 0 frames.now) }
+    ensures { result ≡ rules_right (instance_of cycle) rows f (firsts (min cycle.count 128) 0 frames.now) }
 {
     if rows < 1 {
         return false;

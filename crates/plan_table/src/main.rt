@@ -2,16 +2,16 @@
 // standard error and nothing on standard output.
 ghost use Rattle.std.specs.Prelude.{◌≡◌};
 ghost use Rattle.io.specs.Counts.{IsPrefixLen};
-ghost use Rattle.plan_writer.specs.Outcome.{outcomeBuffer};
-ghost use Rattle.planner.specs.Outcome.{programTries, outcomeWithin, searchedAnswer};
+ghost use Rattle.plan_writer.specs.Outcome.{outcome_buffer};
+ghost use Rattle.planner.specs.Outcome.{program_tries, outcome_within, searched_answer};
 
 use libc::{STDERR_FILENO, STDIN_FILENO};
 use planner::Searched;
 
 // The planner's answer and buffer within the tries that a program allows; the answer's length is within the buffer.
 fn plan(request: &[u8], out: &mut [u8]) -> Searched
-    ensures value { (result ≡ searchedAnswer programTries request.now out.old)
-        × (out.new ≡ outcomeBuffer (outcomeWithin programTries request.now) out.old) }
+    ensures value { (result ≡ searched_answer program_tries request.now out.old)
+        × (out.new ≡ outcome_buffer (outcome_within program_tries request.now) out.old) }
     ensures prefix_len { IsPrefixLen result.length out.new }
 {
     planner::plan(request, planner::PROGRAM_TRIES, out)

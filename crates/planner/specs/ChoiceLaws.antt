@@ -8,19 +8,19 @@ use Rattle.std.proofs.Math.Dec.{ltb}
 use borrow.Author.Tests.{le-ltb, lt-ltb, ltb-true, ltb-false}
 use Rattle.cursor.specs.Padded.{padded}
 use Rattle.search.specs.Search.{Found, none, at, Walk}
-use Rattle.search.specs.Placing.{planWalk}
+use Rattle.search.specs.Placing.{plan_walk}
 use Rattle.model.specs.Plan.{Instance}
-use Rattle.model.specs.Chosen.{noPlan, noPlausible, problemAt, chooseWalk, fullTries}
-use Rattle.model.specs.ChosenTries.{walkWith}
-use Rattle.searcher.specs.Arrays.{placedAnswer, placedWithin}
+use Rattle.model.specs.Chosen.{no_plan, no_plausible, problem_at, choose_walk, full_tries}
+use Rattle.model.specs.ChosenTries.{walk_with}
+use Rattle.searcher.specs.Arrays.{placed_answer, placed_within}
 use Rattle.searcher.specs.declared.Placed.{Placed}
-use Rattle.planner.specs.Choices.{NextTried, noneChosen, choiceAnswer, choiceWithin}
+use Rattle.planner.specs.Choices.{NextTried, none_chosen, choice_answer, choice_within}
 use Rattle.planner.specs.TriedLaws as tried
-use Rattle.planner.specs.TriedLaws.{Choosing, all-passed}
+use Rattle.planner.specs.TriedLaws.{Choosing, all_passed}
 use Rattle.planner.specs.declared.choose.ChosenPlan.{ChosenPlan}
 
 -- what an answer within an allowance says of the search
-module _ (a : ℕ) (w : Walk) {r : Placed} (is : r ≡ placedWithin a w) where
+module _ (a : ℕ) (w : Walk) {r : Placed} (is : r ≡ placed_within a w) where
   abbrev Says : Type 0
   Says =
       (r.answer ≡ 2 → a < w.tries)
@@ -29,7 +29,7 @@ module _ (a : ℕ) (w : Walk) {r : Placed} (is : r ≡ placedWithin a w) where
       × ((r.answer ≡ 2 → ⊥) → (w.tries ≤ a) × (r.left ≡ a - w.tries))
 
   says : Says
-  unfolding placedWithin placedAnswer
+  unfolding placed_within placed_answer
   says = go (ltb a w.tries) refl w.found refl
     where
       go : (b : Bool) → ltb a w.tries ≡ b → (o : Found) → w.found ≡ o → Says
@@ -52,47 +52,47 @@ pub record Searching (x : Instance) (allowed left rows : ℕ) (some : Bool) : Ty
   pub sum : left + spent ≡ allowed
   pub so_far : Choosing x spent rows some
 
-pub searching-start : {x : Instance} {next : ℕ} (allowed : ℕ) → NextTried x 0 next → Searching x allowed allowed next false
-searching-start allowed n = record { spent = 0; sum = omega arith; so_far = tried.choosing-start n }
+pub searching_start : {x : Instance} {next : ℕ} (allowed : ℕ) → NextTried x 0 next → Searching x allowed allowed next false
+searching_start allowed n = record { spent = 0; sum = omega arith; so_far = tried.choosing_start n }
 
 module _ {x : Instance} {allowed left rows : ℕ} {some : Bool} (v : Searching x allowed left rows some) where
-  module _ (few : rows ≤ 256) {r : Placed} (is : r ≡ placedWithin left (planWalk (problemAt x (x.h / rows)) [])) where
+  module _ (few : rows ≤ 256) {r : Placed} (is : r ≡ placed_within left (plan_walk (problem_at x (x.h / rows)) [])) where
     abbrev w : Walk
-    w = walkWith x rows
+    w = walk_with x rows
 
     -- what is left after the length
     pub left_less : (r.answer ≡ 2 → ⊥) → r.left ≤ allowed
     left_less h = omega (arith, ((says left w is).3 h).1, v.sum)
 
     -- a length without a plan
-    pub none-with : {next : ℕ} → (r.answer ≡ 2 → ⊥) → (r.answer ≡ 1 → ⊥) → NextTried x rows next → Searching x allowed r.left next true
-    none-with h₂ h₁ n =
+    pub none_with : {next : ℕ} → (r.answer ≡ 2 → ⊥) → (r.answer ≡ 1 → ⊥) → NextTried x rows next → Searching x allowed r.left next true
+    none_with h₂ h₁ n =
         let (reached, left_is) = (says left w is).3 h₂ in
-        record { spent = v.spent + w.tries; sum = omega (arith, v.sum); so_far = tried.none-with v.so_far few ((says left w is).2 h₂ h₁) n }
+        record { spent = v.spent + w.tries; sum = omega (arith, v.sum); so_far = tried.none_with v.so_far few ((says left w is).2 h₂ h₁) n }
 
     -- a length with one
-    pub one-with : (r.answer ≡ 2 → ⊥) → r.answer ≡ 1
-        → ◌≡◌ {A = ChosenPlan} (record { refusal = 0; f = x.h / rows; frames = r.frames; tries = allowed - r.left }) (choiceWithin allowed (chooseWalk x))
-    unfolding choiceWithin choiceAnswer
-    one-with h₂ h =
-        let (frames, found, frames-are) = (says left w is).1 h in
+    pub one_with : (r.answer ≡ 2 → ⊥) → r.answer ≡ 1
+        → ◌≡◌ {A = ChosenPlan} (record { refusal = 0; f = x.h / rows; frames = r.frames; tries = allowed - r.left }) (choice_within allowed (choose_walk x))
+    unfolding choice_within choice_answer
+    one_with h₂ h =
+        let (frames, found, frames_are) = (says left w is).1 h in
         let (reached, left_is) = (says left w is).3 h₂ in
-        let (choice, tries) = tried.one-with v.so_far few found in
-        let whole : fullTries x ≤ allowed = omega (arith, v.sum) in
-        let tries-are : allowed - r.left ≡ fullTries x = omega (arith, v.sum) in
-        rw (le-ltb allowed (fullTries x) whole, choice) (λ i. record { refusal = 0; f = x.h / rows; frames = frames-are i; tries = tries-are i })
+        let (choice, tries) = tried.one_with v.so_far few found in
+        let whole : full_tries x ≤ allowed = omega (arith, v.sum) in
+        let tries_are : allowed - r.left ≡ full_tries x = omega (arith, v.sum) in
+        rw (le-ltb allowed (full_tries x) whole, choice) (λ i. record { refusal = 0; f = x.h / rows; frames = frames_are i; tries = tries_are i })
 
     -- a length at which the tries end
-    pub out-with : r.answer ≡ 2 → noneChosen 23 allowed ≡ choiceWithin allowed (chooseWalk x)
-    unfolding choiceWithin
-    out-with h =
-        let more : allowed < fullTries x = omega (arith, v.sum, (says left w is).0 h, tried.more-with v.so_far few) in
-        rw (lt-ltb allowed (fullTries x) more)
+    pub out_with : r.answer ≡ 2 → none_chosen 23 allowed ≡ choice_within allowed (choose_walk x)
+    unfolding choice_within
+    out_with h =
+        let more : allowed < full_tries x = omega (arith, v.sum, (says left w is).0 h, tried.more_with v.so_far few) in
+        rw (lt-ltb allowed (full_tries x) more)
 
   -- all lengths are passed
-  pub passed : 256 < rows → choiceAnswer (cond some noPlan noPlausible) (allowed - left) ≡ choiceWithin allowed (chooseWalk x)
-  unfolding choiceWithin
+  pub passed : 256 < rows → choice_answer (cond some no_plan no_plausible) (allowed - left) ≡ choice_within allowed (choose_walk x)
+  unfolding choice_within
   passed all =
-      let (choice, tries) = all-passed v.so_far all in
-      let tries-are : allowed - left ≡ fullTries x = omega (arith, v.sum) in
-      rw (le-ltb allowed (fullTries x) (omega arith), choice, tries-are)
+      let (choice, tries) = all_passed v.so_far all in
+      let tries_are : allowed - left ≡ full_tries x = omega (arith, v.sum) in
+      rw (le-ltb allowed (full_tries x) (omega arith), choice, tries_are)

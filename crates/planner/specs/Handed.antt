@@ -4,10 +4,10 @@ use Rattle.std.specs.Prelude.{ℕ, ◌+◌, ◌*◌, ◌≤◌, ◌<◌, ◌≡�
 use Rattle.table.specs.Table.{Table, encode}
 use Rattle.model.specs.Plan.{Instance, IsPlan, rows_at}
 use Rattle.model.specs.Plausible.{plausible}
-use Rattle.model.specs.Chosen.{IsChosen, NoPlan, fullTries}
+use Rattle.model.specs.Chosen.{IsChosen, NoPlan, full_tries}
 use Rattle.model.specs.Described.{Describes}
-use Rattle.plan_writer.specs.Outcome.{refusal, outcomeBuffer}
-use Rattle.planner.specs.Outcome.{outcomeWithin, searchedAnswer}
+use Rattle.plan_writer.specs.Outcome.{refusal, outcome_buffer}
+use Rattle.planner.specs.Outcome.{outcome_within, searched_answer}
 
 -- "A buffer is long enough if it holds the chosen table, which has 7 + F + 2·(number of jobs) bytes; without a plan, any length is."
 abbrev pub LongEnough : Instance → List ℕ → Type 0
@@ -29,53 +29,53 @@ SomePlausible x = (f : ℕ) × (plausible x f ≡ true)
 
 -- what is answered where so many tries are allowed: the number, 0 for none, the length and the count; and what is left in the buffer
 module _ (allowance : ℕ) (request out : List ℕ) where
-  abbrev pub numberIs : ℕ → Type 0
-  numberIs number = (searchedAnswer allowance request out).refusal ≡ number
+  abbrev pub NumberIs : ℕ → Type 0
+  NumberIs number = (searched_answer allowance request out).refusal ≡ number
 
-  abbrev pub lengthIs : ℕ → Type 0
-  lengthIs size = (searchedAnswer allowance request out).length ≡ size
+  abbrev pub LengthIs : ℕ → Type 0
+  LengthIs size = (searched_answer allowance request out).length ≡ size
 
-  abbrev pub triesAre : ℕ → Type 0
-  triesAre tries = (searchedAnswer allowance request out).tries ≡ tries
+  abbrev pub TriesAre : ℕ → Type 0
+  TriesAre tries = (searched_answer allowance request out).tries ≡ tries
 
-  abbrev pub bufferIs : List ℕ → Type 0
-  bufferIs bytes = outcomeBuffer (outcomeWithin allowance request) out ≡ bytes
+  abbrev pub BufferIs : List ℕ → Type 0
+  BufferIs bytes = outcome_buffer (outcome_within allowance request) out ≡ bytes
 
 -- the chosen plan's table stands in the buffer, with the old bytes behind it: `out` was lent, `after` is left there, `size` is the answer's length
 pub record HandedOut (x : Instance) (size : ℕ) (after out : List ℕ) : Type 0 where
   pub f : ℕ
   pub frames : List ℕ
   -- against every other plan it has the larger f, or the same f and the earlier frame at the first job where the two differ
-  pub is-chosen : IsChosen x f frames
+  pub is_chosen : IsChosen x f frames
   -- the table in the buffer describes it
   pub t : Table
   pub describes : Describes x f frames t
-  pub bytes-are : after ≡ encode t ++ drop (7 + rows_at x f + 2 * length x.jobs) out
+  pub bytes_are : after ≡ encode t ++ drop (7 + rows_at x f + 2 * length x.jobs) out
   -- "The answer holds the length."
-  pub length-is : size ≡ 7 + rows_at x f + 2 * length x.jobs
-  pub encoded-length : length (encode t) ≡ 7 + rows_at x f + 2 * length x.jobs
+  pub length_is : size ≡ 7 + rows_at x f + 2 * length x.jobs
+  pub encoded_length : length (encode t) ≡ 7 + rows_at x f + 2 * length x.jobs
 
 -- x is what is planned for a request within the limits
 pub record Handed (x : Instance) (allowance : ℕ) (request out : List ℕ) : Type 0 where
   -- "Handing out a table exactly when a plan exists holds if the allowance reaches the full search's tries."
-  pub exactly : LongEnough x out → fullTries x ≤ allowance → numberIs allowance request out 0 ↔ SomePlan x
+  pub exactly : LongEnough x out → full_tries x ≤ allowance → NumberIs allowance request out 0 ↔ SomePlan x
   -- and whatever is allowed, it is the chosen one
-  pub chosen-one : numberIs allowance request out 0
-      → HandedOut x (searchedAnswer allowance request out).length (outcomeBuffer (outcomeWithin allowance request) out) out
+  pub chosen_one : NumberIs allowance request out 0
+      → HandedOut x (searched_answer allowance request out).length (outcome_buffer (outcome_within allowance request) out) out
   -- "no plausible f": then nothing is tried, so that no allowance is too small
-  pub nine : numberIs allowance request out 9 ↔ NonePlausible x
+  pub nine : NumberIs allowance request out 9 ↔ NonePlausible x
   -- "some plausible f, no plan"
-  pub ten : numberIs allowance request out 10 ↔ (SomePlausible x × NoPlan x × (fullTries x ≤ allowance))
+  pub ten : NumberIs allowance request out 10 ↔ (SomePlausible x × NoPlan x × (full_tries x ≤ allowance))
   -- "buffer shorter than the table"
-  pub eleven : numberIs allowance request out 11 ↔ (TooShort x out × (fullTries x ≤ allowance))
+  pub eleven : NumberIs allowance request out 11 ↔ (TooShort x out × (full_tries x ≤ allowance))
   -- "It refuses with 23, before 11 and in place of a table or 10, exactly when the full search needs more tries than allowed."
-  pub twenty-three : numberIs allowance request out 23 ↔ (allowance < fullTries x)
+  pub twenty_three : NumberIs allowance request out 23 ↔ (allowance < full_tries x)
   -- "A refusal returns its number, length 0 .. and the buffer untouched."
-  pub untouched : (numberIs allowance request out 0 → ⊥) → lengthIs allowance request out 0 × bufferIs allowance request out out
+  pub untouched : (NumberIs allowance request out 0 → ⊥) → LengthIs allowance request out 0 × BufferIs allowance request out out
 
--- "The count is 0 with 1 to 9 and 17, the allowance with 23, and otherwise the full search's tries." 1 to 8 and 17 are those of `not-planned`.
+-- "The count is 0 with 1 to 9 and 17, the allowance with 23, and otherwise the full search's tries." 1 to 8 and 17 are those of `not_planned`.
 pub record Counted (x : Instance) (allowance : ℕ) (request out : List ℕ) : Type 0 where
-  pub zero : numberIs allowance request out 9 → triesAre allowance request out 0
-  pub spent : numberIs allowance request out 23 → triesAre allowance request out allowance
-  pub full : (numberIs allowance request out 23 → ⊥) → triesAre allowance request out (fullTries x)
-  pub never-more : (searchedAnswer allowance request out).tries ≤ allowance
+  pub zero : NumberIs allowance request out 9 → TriesAre allowance request out 0
+  pub spent : NumberIs allowance request out 23 → TriesAre allowance request out allowance
+  pub full : (NumberIs allowance request out 23 → ⊥) → TriesAre allowance request out (full_tries x)
+  pub never_more : (searched_answer allowance request out).tries ≤ allowance

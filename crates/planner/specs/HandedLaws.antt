@@ -6,69 +6,69 @@ use Rattle.std.proofs.Math.Path.{refl, ap}
 use Rattle.std.proofs.Common.{sym, ◌∙◌, arith}
 use Rattle.std.proofs.Math.Logic.{⊎_elim}
 use Rattle.std.proofs.Math.ListN.{length}
-use Rattle.cursor.specs.ChoiceLaws.{lt-or-ge}
-use Rattle.cycle.specs.Cycle.{noCycle, cycleOf}
+use Rattle.cursor.specs.ChoiceLaws.{lt_or_ge}
+use Rattle.cycle.specs.Cycle.{no_cycle, cycle_of}
 use Rattle.table.specs.Table.{encode}
 use Rattle.model.specs.Plan.{Instance, rows_at}
-use Rattle.model.specs.PlausibleLaws.{plausible-needed}
+use Rattle.model.specs.PlausibleLaws.{plausible_needed}
 use Rattle.model.specs.Good.{Good}
 use Rattle.model.specs.Within.{Within}
-use Rattle.model.specs.WithinLaws.{within-limits, within-good}
-use Rattle.model.specs.Chosen.{Choice, chosen, noPlan, noPlausible, choose, IsChosen, NoPlan, RightBy, RightChoice, fullTries}
-use Rattle.model.specs.ChosenLaws.{choose-right, chosen-exactly}
+use Rattle.model.specs.WithinLaws.{within_limits, within_good}
+use Rattle.model.specs.Chosen.{Choice, chosen, no_plan, no_plausible, choose, IsChosen, NoPlan, RightBy, RightChoice, full_tries}
+use Rattle.model.specs.ChosenLaws.{choose_right, chosen_exactly}
 use Rattle.model.specs.ChosenTries.{none_tried}
-use Rattle.model.specs.Described.{planTable}
-use Rattle.model.specs.PlanTable.{plan-table-describes, plan-table-length}
-use Rattle.plan_writer.specs.Outcome.{Outcome, refusal, outcomeAnswer, outcomeBuffer}
-use Rattle.planner.specs.Outcome.{outcome, inCycle, byChoice, triesIn, requestTries, outcomeWithin, searchedAnswer}
-use Rattle.planner.specs.PlanLaws.{within-reached, within-exceeded}
-use Rattle.plan_writer.specs.OutcomeLaws.{refused-answer, refused-buffer, handed-answer, handed-buffer, short-answer, short-buffer}
-use Rattle.planner.specs.Handed.{NonePlausible, SomePlausible, numberIs, lengthIs, bufferIs, HandedOut, Handed, Counted}
+use Rattle.model.specs.Described.{plan_table}
+use Rattle.model.specs.PlanTable.{plan_table_describes, plan_table_length}
+use Rattle.plan_writer.specs.Outcome.{Outcome, refusal, outcome_answer, outcome_buffer}
+use Rattle.planner.specs.Outcome.{outcome, in_cycle, by_choice, tries_in, request_tries, outcome_within, searched_answer}
+use Rattle.planner.specs.PlanLaws.{within_reached, within_exceeded}
+use Rattle.plan_writer.specs.OutcomeLaws.{refused_answer, refused_buffer, handed_answer, handed_buffer, short_answer, short_buffer}
+use Rattle.planner.specs.Handed.{NonePlausible, SomePlausible, NumberIs, LengthIs, BufferIs, HandedOut, Handed, Counted}
 
 -- an answer, from what the request comes to
-answer-is : (allowance : ℕ) (request out : List ℕ) (o : Outcome) → outcomeWithin allowance request ≡ o
-    → ((searchedAnswer allowance request out).refusal ≡ (outcomeAnswer o out).refusal)
-    × ((searchedAnswer allowance request out).length ≡ (outcomeAnswer o out).length)
-    × (outcomeBuffer (outcomeWithin allowance request) out ≡ outcomeBuffer o out)
-unfolding searchedAnswer
-answer-is allowance request out o e = rw e (refl, refl, refl)
+answer_is : (allowance : ℕ) (request out : List ℕ) (o : Outcome) → outcome_within allowance request ≡ o
+    → ((searched_answer allowance request out).refusal ≡ (outcome_answer o out).refusal)
+    × ((searched_answer allowance request out).length ≡ (outcome_answer o out).length)
+    × (outcome_buffer (outcome_within allowance request) out ≡ outcome_buffer o out)
+unfolding searched_answer
+answer_is allowance request out o e = rw e (refl, refl, refl)
 
 -- from the number of its refusal
-refused-is : (allowance : ℕ) (request out : List ℕ) (number : ℕ) → outcomeWithin allowance request ≡ refusal number
-    → numberIs allowance request out number × lengthIs allowance request out 0 × bufferIs allowance request out out
-refused-is allowance request out number e =
-    let is = answer-is allowance request out (refusal number) e in
-    let answer = refused-answer number out in
-    (is.0 ∙ ap (λ w. w.refusal) answer, is.1 ∙ ap (λ w. w.length) answer, is.2 ∙ refused-buffer number out)
+refused_is : (allowance : ℕ) (request out : List ℕ) (number : ℕ) → outcome_within allowance request ≡ refusal number
+    → NumberIs allowance request out number × LengthIs allowance request out 0 × BufferIs allowance request out out
+refused_is allowance request out number e =
+    let is = answer_is allowance request out (refusal number) e in
+    let answer = refused_answer number out in
+    (is.0 ∙ ap (λ w. w.refusal) answer, is.1 ∙ ap (λ w. w.length) answer, is.2 ∙ refused_buffer number out)
 
 -- a request that is not within the limits is refused with its own number, whatever is allowed, and nothing is tried
-pub not-planned : (allowance : ℕ) (request out : List ℕ) (number : ℕ) → cycleOf request ≡ noCycle number
-    → (searchedAnswer allowance request out ≡ record { refusal = number; length = 0; tries = 0 }) × bufferIs allowance request out out
-unfolding outcome requestTries searchedAnswer
-not-planned allowance request out number e =
-    let none : requestTries request ≡ 0 = ap triesIn e in
-    let is : outcomeWithin allowance request ≡ refusal number = within-reached allowance request (omega arith) ∙ ap inCycle e in
-    let count : min allowance (requestTries request) ≡ 0 = omega arith in
-    rw (is, refused-answer number out, refused-buffer number out) (λ i. record { refusal = number; length = 0; tries = count i }, refl)
+pub not_planned : (allowance : ℕ) (request out : List ℕ) (number : ℕ) → cycle_of request ≡ no_cycle number
+    → (searched_answer allowance request out ≡ record { refusal = number; length = 0; tries = 0 }) × BufferIs allowance request out out
+unfolding outcome request_tries searched_answer
+not_planned allowance request out number e =
+    let none : request_tries request ≡ 0 = ap tries_in e in
+    let is : outcome_within allowance request ≡ refusal number = within_reached allowance request (omega arith) ∙ ap in_cycle e in
+    let count : min allowance (request_tries request) ≡ 0 = omega arith in
+    rw (is, refused_answer number out, refused_buffer number out) (λ i. record { refusal = number; length = 0; tries = count i }, refl)
 
 -- "A larger allowance never turns a table, 9 or 10 into another answer": nor any other answer but 23
-pub larger-allowance : (a b : ℕ) → a ≤ b → (request out : List ℕ) → (numberIs a request out 23 → ⊥)
-    → (searchedAnswer b request out ≡ searchedAnswer a request out) × bufferIs b request out (outcomeBuffer (outcomeWithin a request) out)
-unfolding searchedAnswer
-larger-allowance a b h request out not-out = ⊎_elim (λ t. absurd (not-out (exceeded t))) reached (lt-or-ge a (requestTries request))
+pub larger_allowance : (a b : ℕ) → a ≤ b → (request out : List ℕ) → (NumberIs a request out 23 → ⊥)
+    → (searched_answer b request out ≡ searched_answer a request out) × BufferIs b request out (outcome_buffer (outcome_within a request) out)
+unfolding searched_answer
+larger_allowance a b h request out not_out = ⊎_elim (λ t. absurd (not_out (exceeded t))) reached (lt_or_ge a (request_tries request))
   where
-    exceeded : a < requestTries request → numberIs a request out 23
-    exceeded t = (refused-is a request out 23 (within-exceeded a request t)).0
+    exceeded : a < request_tries request → NumberIs a request out 23
+    exceeded t = (refused_is a request out 23 (within_exceeded a request t)).0
 
-    reached : requestTries request ≤ a
-        → (searchedAnswer b request out ≡ searchedAnswer a request out) × bufferIs b request out (outcomeBuffer (outcomeWithin a request) out)
+    reached : request_tries request ≤ a
+        → (searched_answer b request out ≡ searched_answer a request out) × BufferIs b request out (outcome_buffer (outcome_within a request) out)
     reached t =
-        let same : outcomeWithin b request ≡ outcomeWithin a request = within-reached b request (omega arith) ∙ sym (within-reached a request t) in
-        let count : min b (requestTries request) ≡ min a (requestTries request) = omega arith in
+        let same : outcome_within b request ≡ outcome_within a request = within_reached b request (omega arith) ∙ sym (within_reached a request t) in
+        let count : min b (request_tries request) ≡ min a (request_tries request) = omega arith in
         rw same (
           λ i. record {
-            refusal = (outcomeAnswer (outcomeWithin a request) out).refusal;
-            length = (outcomeAnswer (outcomeWithin a request) out).length;
+            refusal = (outcome_answer (outcome_within a request) out).refusal;
+            length = (outcome_answer (outcome_within a request) out).length;
             tries = count i;
           },
           refl,
@@ -76,42 +76,42 @@ larger-allowance a b h request out not-out = ⊎_elim (λ t. absurd (not-out (ex
 
 module _ (allowance : ℕ) (request out : List ℕ) (x : Instance) (within : Within request x) where
   good : Good x
-  good = within-good request x within
+  good = within_good request x within
 
-  tries-are : requestTries request ≡ fullTries x
-  unfolding requestTries
-  tries-are = ap triesIn within
+  tries_are : request_tries request ≡ full_tries x
+  unfolding request_tries
+  tries_are = ap tries_in within
 
   -- the search was not ended before its end
-  module _ (reached : fullTries x ≤ allowance) where
-    outcome-is : (o : Choice) → choose x ≡ o → outcomeWithin allowance request ≡ byChoice x o
+  module _ (reached : full_tries x ≤ allowance) where
+    outcome_is : (o : Choice) → choose x ≡ o → outcome_within allowance request ≡ by_choice x o
     unfolding outcome
-    outcome-is o q = within-reached allowance request (omega (arith, tries-are)) ∙ ap inCycle within ∙ ap (byChoice x) q
+    outcome_is o q = within_reached allowance request (omega (arith, tries_are)) ∙ ap in_cycle within ∙ ap (by_choice x) q
 
-    not-out : (number : ℕ) → number < 23 → numberIs allowance request out number → numberIs allowance request out 23 ↔ (allowance < fullTries x)
-    not-out number few is = (λ z. absurd (omega (arith, is, z)), λ h. absurd (omega arith))
+    not_out : (number : ℕ) → number < 23 → NumberIs allowance request out number → NumberIs allowance request out 23 ↔ (allowance < full_tries x)
+    not_out number few is = (λ z. absurd (omega (arith, is, z)), λ h. absurd (omega arith))
 
     module _ (f : ℕ) (frames : List ℕ) (q : choose x ≡ chosen f frames) (r : IsChosen x f frames) where
       abbrev bytes : List ℕ
-      bytes = encode (planTable x f frames)
+      bytes = encode (plan_table x f frames)
 
       abbrev size : ℕ
       size = 7 + rows_at x f + 2 * length x.jobs
 
       size_is : length bytes ≡ size
-      size_is = plan-table-length x good f frames r.is-plan
+      size_is = plan_table_length x good f frames r.is_plan
 
       -- where a plan exists, neither 9 nor 10 is due
-      not-nine : NonePlausible x → ⊥
-      not-nine none = none f (plausible-needed x good f frames r.is-plan)
+      not_nine : NonePlausible x → ⊥
+      not_nine none = none f (plausible_needed x good f frames r.is_plan)
 
-      not-ten : NoPlan x → ⊥
-      not-ten none = none f frames r.is-plan
+      not_ten : NoPlan x → ⊥
+      not_ten none = none f frames r.is_plan
 
       -- there is one chosen plan
       same_size : (f' : ℕ) (frames' : List ℕ) → IsChosen x f' frames' → f' ≡ f
       same_size f' frames' r' =
-          let same : chosen f' frames' ≡ chosen f frames = sym ((chosen-exactly x good f' frames').1 r') ∙ q in
+          let same : chosen f' frames' ≡ chosen f frames = sym ((chosen_exactly x good f' frames').1 r') ∙ q in
           cc
 
       -- the table fits
@@ -119,31 +119,31 @@ module _ (allowance : ℕ) (request out : List ℕ) (x : Instance) (within : Wit
         room : length bytes ≤ length out
         room = omega (arith, size_is)
 
-        number_is : numberIs allowance request out 0
-        number_is = (answer-is allowance request out _ (outcome-is (chosen f frames) q)).0 ∙ ap (λ w. w.refusal) (handed-answer (planTable x f frames) out room)
+        number_is : NumberIs allowance request out 0
+        number_is = (answer_is allowance request out _ (outcome_is (chosen f frames) q)).0 ∙ ap (λ w. w.refusal) (handed_answer (plan_table x f frames) out room)
 
-        handed_out : HandedOut x (searchedAnswer allowance request out).length (outcomeBuffer (outcomeWithin allowance request) out) out
+        handed_out : HandedOut x (searched_answer allowance request out).length (outcome_buffer (outcome_within allowance request) out) out
         handed_out =
-            let is = answer-is allowance request out _ (outcome-is (chosen f frames) q) in
+            let is = answer_is allowance request out _ (outcome_is (chosen f frames) q) in
             record {
               f = f;
               frames = frames;
-              is-chosen = r;
-              t = planTable x f frames;
-              describes = plan-table-describes x good f frames r.is-plan (within-limits request x within).h-few;
-              bytes-are = is.2 ∙ handed-buffer (planTable x f frames) out room ∙ ap (λ (k : ℕ). bytes ++ drop k out) size_is;
-              length-is = is.1 ∙ ap (λ w. w.length) (handed-answer (planTable x f frames) out room) ∙ size_is;
-              encoded-length = size_is;
+              is_chosen = r;
+              t = plan_table x f frames;
+              describes = plan_table_describes x good f frames r.is_plan (within_limits request x within).h_few;
+              bytes_are = is.2 ∙ handed_buffer (plan_table x f frames) out room ∙ ap (λ (k : ℕ). bytes ++ drop k out) size_is;
+              length_is = is.1 ∙ ap (λ w. w.length) (handed_answer (plan_table x f frames) out room) ∙ size_is;
+              encoded_length = size_is;
             }
 
-        with-table : Handed x allowance request out
-        with-table = record {
-          exactly = λ enough _. (λ z. (f, frames, r.is-plan), λ plan. number_is);
-          chosen-one = λ z. handed_out;
-          nine = (λ z. absurd (omega (arith, number_is, z)), λ none. absurd (not-nine none));
-          ten = (λ z. absurd (omega (arith, number_is, z)), λ c. absurd (not-ten c.1));
+        with_table : Handed x allowance request out
+        with_table = record {
+          exactly = λ enough _. (λ z. (f, frames, r.is_plan), λ plan. number_is);
+          chosen_one = λ z. handed_out;
+          nine = (λ z. absurd (omega (arith, number_is, z)), λ none. absurd (not_nine none));
+          ten = (λ z. absurd (omega (arith, number_is, z)), λ c. absurd (not_ten c.1));
           eleven = (λ z. absurd (omega (arith, number_is, z)), λ s. absurd (omega (arith, s.0.3, ap (rows_at x) (same_size s.0.0 s.0.1 s.0.2))));
-          twenty-three = not-out 0 (omega arith) number_is;
+          twenty_three = not_out 0 (omega arith) number_is;
           untouched = λ ne. absurd (ne number_is);
         }
 
@@ -152,100 +152,100 @@ module _ (allowance : ℕ) (request out : List ℕ) (x : Instance) (within : Wit
         no_room : length out < length bytes
         no_room = omega (arith, size_is)
 
-        short-is : numberIs allowance request out 11 × lengthIs allowance request out 0 × bufferIs allowance request out out
-        short-is =
-            let is = answer-is allowance request out _ (outcome-is (chosen f frames) q) in
-            let answer = short-answer (planTable x f frames) out no_room in
-            (is.0 ∙ ap (λ w. w.refusal) answer, is.1 ∙ ap (λ w. w.length) answer, is.2 ∙ short-buffer (planTable x f frames) out no_room)
+        short_is : NumberIs allowance request out 11 × LengthIs allowance request out 0 × BufferIs allowance request out out
+        short_is =
+            let is = answer_is allowance request out _ (outcome_is (chosen f frames) q) in
+            let answer = short_answer (plan_table x f frames) out no_room in
+            (is.0 ∙ ap (λ w. w.refusal) answer, is.1 ∙ ap (λ w. w.length) answer, is.2 ∙ short_buffer (plan_table x f frames) out no_room)
 
-        without-room : Handed x allowance request out
-        without-room =
-            let number_is = short-is.0 in
+        without_room : Handed x allowance request out
+        without_room =
+            let number_is = short_is.0 in
             record {
               exactly = λ enough _. absurd (omega (arith, enough f frames r));
-              chosen-one = λ z. absurd (omega (arith, number_is, z));
-              nine = (λ z. absurd (omega (arith, number_is, z)), λ none. absurd (not-nine none));
-              ten = (λ z. absurd (omega (arith, number_is, z)), λ c. absurd (not-ten c.1));
+              chosen_one = λ z. absurd (omega (arith, number_is, z));
+              nine = (λ z. absurd (omega (arith, number_is, z)), λ none. absurd (not_nine none));
+              ten = (λ z. absurd (omega (arith, number_is, z)), λ c. absurd (not_ten c.1));
               eleven = (λ z. ((f, frames, r, short), omega (arith, reached)), λ s. number_is);
-              twenty-three = not-out 11 (omega arith) number_is;
-              untouched = λ ne. (short-is.1, short-is.2);
+              twenty_three = not_out 11 (omega arith) number_is;
+              untouched = λ ne. (short_is.1, short_is.2);
             }
 
     -- 9 and 10
-    module _ (number : ℕ) (is : outcomeWithin allowance request ≡ refusal number) (none : NoPlan x) where
-      without-plan : (number ≡ 9) ↔ NonePlausible x → (number ≡ 10) ↔ SomePlausible x → 0 < number → number < 11 → Handed x allowance request out
-      without-plan is-nine is-ten pos few =
-          let refused = refused-is allowance request out number is in
+    module _ (number : ℕ) (is : outcome_within allowance request ≡ refusal number) (none : NoPlan x) where
+      without_plan : (number ≡ 9) ↔ NonePlausible x → (number ≡ 10) ↔ SomePlausible x → 0 < number → number < 11 → Handed x allowance request out
+      without_plan is_nine is_ten pos few =
+          let refused = refused_is allowance request out number is in
           let given = refused.0 in
           record {
             exactly = λ enough _. (λ z. absurd (omega (arith, given, z)), λ plan. absurd (none plan.0 plan.1 plan.2));
-            chosen-one = λ z. absurd (omega (arith, given, z));
-            nine = (λ z. is-nine.0 (sym given ∙ z), λ c. given ∙ is-nine.1 c);
-            ten = (λ z. (is-ten.0 (sym given ∙ z), none, reached), λ c. given ∙ is-ten.1 c.0);
-            eleven = (λ z. absurd (omega (arith, given, z)), λ s. absurd (none s.0.0 s.0.1 s.0.2.is-plan));
-            twenty-three = not-out number (omega arith) given;
+            chosen_one = λ z. absurd (omega (arith, given, z));
+            nine = (λ z. is_nine.0 (sym given ∙ z), λ c. given ∙ is_nine.1 c);
+            ten = (λ z. (is_ten.0 (sym given ∙ z), none, reached), λ c. given ∙ is_ten.1 c.0);
+            eleven = (λ z. absurd (omega (arith, given, z)), λ s. absurd (none s.0.0 s.0.1 s.0.2.is_plan));
+            twenty_three = not_out number (omega arith) given;
             untouched = λ ne. (refused.1, refused.2);
           }
 
     to_the_end : Handed x allowance request out
     unfolding RightBy
-    to_the_end = go (choose x) refl (choose-right x good)
+    to_the_end = go (choose x) refl (choose_right x good)
       where
         go : (o : Choice) → choose x ≡ o → RightChoice x o → Handed x allowance request out
         go (chosen f frames) q r =
-            ⊎_elim (without-room f frames q r) (with-table f frames q r) (lt-or-ge (length out) (7 + rows_at x f + 2 * length x.jobs))
-        go noPlan q r =
-            without-plan 10 (outcome-is noPlan q) r.0
+            ⊎_elim (without_room f frames q r) (with_table f frames q r) (lt_or_ge (length out) (7 + rows_at x f + 2 * length x.jobs))
+        go no_plan q r =
+            without_plan 10 (outcome_is no_plan q) r.0
             (λ z. absurd (omega arith), λ c. absurd (c r.1.0 r.1.1))
             (λ z. r.1, λ c. refl)
             (omega arith) (omega arith)
-        go noPlausible q r =
-            without-plan 9 (outcome-is noPlausible q) r.0
+        go no_plausible q r =
+            without_plan 9 (outcome_is no_plausible q) r.0
             (λ z. r.1, λ c. refl)
             (λ z. absurd (omega arith), λ c. absurd (r.1 c.0 c.1))
             (omega arith) (omega arith)
 
   -- where no length is plausible, nothing is tried
-  none-tried-then : NonePlausible x → fullTries x ≡ 0
+  none_tried_then : NonePlausible x → full_tries x ≡ 0
   unfolding RightBy
-  none-tried-then none = go (choose x) refl (choose-right x good)
+  none_tried_then none = go (choose x) refl (choose_right x good)
     where
-      go : (o : Choice) → choose x ≡ o → RightChoice x o → fullTries x ≡ 0
-      go (chosen f frames) q r = absurd (none f (plausible-needed x good f frames r.is-plan))
-      go noPlan q r = absurd (none r.1.0 r.1.1)
-      go noPlausible q r = none_tried x q
+      go : (o : Choice) → choose x ≡ o → RightChoice x o → full_tries x ≡ 0
+      go (chosen f frames) q r = absurd (none f (plausible_needed x good f frames r.is_plan))
+      go no_plan q r = absurd (none r.1.0 r.1.1)
+      go no_plausible q r = none_tried x q
 
   -- the search was ended before its end
-  module _ (exceeded : allowance < fullTries x) where
-    out-is : numberIs allowance request out 23 × lengthIs allowance request out 0 × bufferIs allowance request out out
-    out-is = refused-is allowance request out 23 (within-exceeded allowance request (omega (arith, tries-are)))
+  module _ (exceeded : allowance < full_tries x) where
+    out_is : NumberIs allowance request out 23 × LengthIs allowance request out 0 × BufferIs allowance request out out
+    out_is = refused_is allowance request out 23 (within_exceeded allowance request (omega (arith, tries_are)))
 
-    ended-early : Handed x allowance request out
-    ended-early =
-        let given = out-is.0 in
+    ended_early : Handed x allowance request out
+    ended_early =
+        let given = out_is.0 in
         record {
           exactly = λ enough reached. absurd (omega arith);
-          chosen-one = λ z. absurd (omega (arith, given, z));
-          nine = (λ z. absurd (omega (arith, given, z)), λ c. absurd (omega (arith, none-tried-then c)));
+          chosen_one = λ z. absurd (omega (arith, given, z));
+          nine = (λ z. absurd (omega (arith, given, z)), λ c. absurd (omega (arith, none_tried_then c)));
           ten = (λ z. absurd (omega (arith, given, z)), λ c. absurd (omega (arith, c.2)));
           eleven = (λ z. absurd (omega (arith, given, z)), λ s. absurd (omega (arith, s.1)));
-          twenty-three = (λ z. exceeded, λ h. given);
-          untouched = λ ne. (out-is.1, out-is.2);
+          twenty_three = (λ z. exceeded, λ h. given);
+          untouched = λ ne. (out_is.1, out_is.2);
         }
 
   -- THE THEOREM: what planning a request within the limits answers.
-  pub table-handed : Handed x allowance request out
-  table-handed = ⊎_elim ended-early to_the_end (lt-or-ge allowance (fullTries x))
+  pub table_handed : Handed x allowance request out
+  table_handed = ⊎_elim ended_early to_the_end (lt_or_ge allowance (full_tries x))
 
   -- And how many tries it counts.
-  pub tries-counted : Counted x allowance request out
-  unfolding searchedAnswer
-  tries-counted = record {
-    zero = λ z. omega (arith, tries-are, none-tried-then (table-handed.nine.0 z));
-    spent = λ z. omega (arith, tries-are, table-handed.twenty-three.0 z);
-    full = λ ne. not-exceeded (λ h. ne (table-handed.twenty-three.1 h));
-    never-more = omega arith;
+  pub tries_counted : Counted x allowance request out
+  unfolding searched_answer
+  tries_counted = record {
+    zero = λ z. omega (arith, tries_are, none_tried_then (table_handed.nine.0 z));
+    spent = λ z. omega (arith, tries_are, table_handed.twenty_three.0 z);
+    full = λ ne. not_exceeded (λ h. ne (table_handed.twenty_three.1 h));
+    never_more = omega arith;
   }
     where
-      not-exceeded : (allowance < fullTries x → ⊥) → min allowance (requestTries request) ≡ fullTries x
-      not-exceeded h = omega (arith, tries-are)
+      not_exceeded : (allowance < full_tries x → ⊥) → min allowance (request_tries request) ≡ full_tries x
+      not_exceeded h = omega (arith, tries_are)

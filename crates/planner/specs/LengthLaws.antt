@@ -4,93 +4,93 @@ use Rattle.std.proofs.Common.{sym, ◌∙◌, arith}
 use Rattle.std.proofs.Math.Path.{ap, subst⁻¹}
 use Rattle.std.proofs.lemmas.List.{length-map}
 use Rattle.cursor.specs.Padded.{padded}
-use Rattle.cursor.specs.PaddedLaws.{padded-length, take-padded}
+use Rattle.cursor.specs.PaddedLaws.{padded_length, take_padded}
 use Rattle.cycle.specs.declared.Cycle.{Cycle}
 use Rattle.search.specs.Placing.{Proper}
 use Rattle.model.specs.Plan.{Instance, costs}
-use Rattle.model.specs.Answers.{instanceOf}
-use Rattle.model.specs.AnswerLaws.{jobs-counted}
-use Rattle.model.specs.PlanLaws.{costs-length}
-use Rattle.model.specs.PlausibleLaws.{plausible-says}
-use Rattle.model.specs.LinksLaws.{counts-length, places-of-links-length}
-use Rattle.model.specs.Links.{linkCounts, linkPlaces}
-use Rattle.model.specs.Chosen.{firstFrameOf, endFrameOf, problemAt}
-use Rattle.model.specs.ProblemLaws.{problem-proper}
-use Rattle.problem.specs.Answers.{linksAnswer}
+use Rattle.model.specs.Answers.{instance_of}
+use Rattle.model.specs.AnswerLaws.{jobs_counted}
+use Rattle.model.specs.PlanLaws.{costs_length}
+use Rattle.model.specs.PlausibleLaws.{plausible_says}
+use Rattle.model.specs.LinksLaws.{counts_length, places_of_links_length}
+use Rattle.model.specs.Links.{link_counts, link_places}
+use Rattle.model.specs.Chosen.{first_frame_of, end_frame_of, problem_at}
+use Rattle.model.specs.ProblemLaws.{problem_proper}
+use Rattle.problem.specs.Answers.{links_answer}
 use Rattle.problem.specs.declared.JobLinks.{JobLinks}
-use Rattle.searcher.specs.Arrays.{problemOf, Placeable}
+use Rattle.searcher.specs.Arrays.{problem_of, Placeable}
 use Rattle.searcher.specs.declared.Given.{Given}
 use Rattle.planner.specs.Choices.{Searchable}
 
 -- a list of n numbers in an array
 exact : (size n : ℕ) (xs : List ℕ) → length xs ≡ n → take n (padded size 0 xs) ≡ xs
-exact size n xs e = ap (λ (k : ℕ). take k (padded size 0 xs)) (sym e) ∙ take-padded size 0 xs
+exact size n xs e = ap (λ (k : ℕ). take k (padded size 0 xs)) (sym e) ∙ take_padded size 0 xs
 
 module _ {c : Cycle} {cost : List ℕ} {links : JobLinks} {f : ℕ} (s : Searchable c cost links f) where
   abbrev x : Instance
-  x = instanceOf c
+  x = instance_of c
 
   abbrev n : ℕ
   n = c.count
 
   few : n ≤ 128
-  few = s.planned.few-jobs
+  few = s.planned.few_jobs
 
-  jobs-count : length x.jobs ≡ n
-  jobs-count = jobs-counted c few
+  jobs_count : length x.jobs ≡ n
+  jobs_count = jobs_counted c few
 
   pub some : 0 < f
-  some = (plausible-says x f s.plausible-is).some
+  some = (plausible_says x f s.plausible_is).some
 
-  cost-size : length (costs x) ≡ n
-  cost-size = costs-length x ∙ jobs-count
+  cost_size : length (costs x) ≡ n
+  cost_size = costs_length x ∙ jobs_count
 
-  counts-are : links.counts ≡ padded 128 0 (linkCounts x)
-  unfolding linksAnswer
-  counts-are = ap (λ (l : JobLinks). l.counts) s.links-are
+  counts_are : links.counts ≡ padded 128 0 (link_counts x)
+  unfolding links_answer
+  counts_are = ap (λ (l : JobLinks). l.counts) s.links_are
 
-  places-are : links.places ≡ padded 2048 0 (linkPlaces x)
-  unfolding linksAnswer
-  places-are = ap (λ (l : JobLinks). l.places) s.links-are
+  places_are : links.places ≡ padded 2048 0 (link_places x)
+  unfolding links_answer
+  places_are = ap (λ (l : JobLinks). l.places) s.links_are
 
-  counts-size : length (linkCounts x) ≡ n
-  counts-size = counts-length x ∙ jobs-count
+  counts_size : length (link_counts x) ≡ n
+  counts_size = counts_length x ∙ jobs_count
 
-  places-size : length (linkPlaces x) ≡ 16 * n
-  places-size = places-of-links-length x s.planned.good.readable.few-pairs ∙ ap (λ (k : ℕ). 16 * k) jobs-count
+  places_size : length (link_places x) ≡ 16 * n
+  places_size = places_of_links_length x s.planned.good.readable.few_pairs ∙ ap (λ (k : ℕ). 16 * k) jobs_count
 
   abbrev firsts : List ℕ
-  firsts = map (firstFrameOf f) x.jobs
+  firsts = map (first_frame_of f) x.jobs
 
   abbrev ends : List ℕ
-  ends = map (endFrameOf f) x.jobs
+  ends = map (end_frame_of f) x.jobs
 
-  firsts-size : length firsts ≡ n
-  firsts-size = length-map x.jobs (firstFrameOf f) ∙ jobs-count
+  firsts_size : length firsts ≡ n
+  firsts_size = length-map x.jobs (first_frame_of f) ∙ jobs_count
 
-  ends-size : length ends ≡ n
-  ends-size = length-map x.jobs (endFrameOf f) ∙ jobs-count
+  ends_size : length ends ≡ n
+  ends_size = length-map x.jobs (end_frame_of f) ∙ jobs_count
 
-  module _ {first end : List ℕ} (first-is : first ≡ padded 128 0 firsts) (end_is : end ≡ padded 128 0 ends) where
+  module _ {first end : List ℕ} (first_is : first ≡ padded 128 0 firsts) (end_is : end ≡ padded 128 0 ends) where
     abbrev given : Given
     given = record { cost = cost; first = first; end = end; counts = links.counts; links = links.places; n = n; rows = c.h / f; f = f }
 
     -- what is handed over is the problem of the length
-    pub problem-is : problemOf given ≡ problemAt x f
-    unfolding problemAt
-    problem-is =
-        let a = ap (take n) s.cost-is ∙ exact 128 n (costs x) cost-size in
-        let b = ap (take n) first-is ∙ exact 128 n firsts firsts-size in
-        let d = ap (take n) end_is ∙ exact 128 n ends ends-size in
-        let e = ap (take n) counts-are ∙ exact 128 n (linkCounts x) counts-size in
-        let g = ap (take (16 * n)) places-are ∙ exact 2048 (16 * n) (linkPlaces x) places-size in
+    pub problem_is : problem_of given ≡ problem_at x f
+    unfolding problem_at
+    problem_is =
+        let a = ap (take n) s.cost_is ∙ exact 128 n (costs x) cost_size in
+        let b = ap (take n) first_is ∙ exact 128 n firsts firsts_size in
+        let d = ap (take n) end_is ∙ exact 128 n ends ends_size in
+        let e = ap (take n) counts_are ∙ exact 128 n (link_counts x) counts_size in
+        let g = ap (take (16 * n)) places_are ∙ exact 2048 (16 * n) (link_places x) places_size in
         λ i. record { cost = a i; first = b i; end = d i; counts = e i; links = g i; rows = c.h / f; f = f }
 
     pub placeable : f ≤ 65535 → Placeable given
     placeable short = record {
       few = few;
-      costs = omega (arith, ap length s.cost-is, padded-length 128 0 (costs x) (omega (arith, cost-size, few)), few);
-      few-rows = (plausible-says x f s.plausible-is).few-rows;
+      costs = omega (arith, ap length s.cost_is, padded_length 128 0 (costs x) (omega (arith, cost_size, few)), few);
+      few_rows = (plausible_says x f s.plausible_is).few_rows;
       short = short;
-      proper = subst⁻¹ Proper problem-is (problem-proper x s.planned.good f (plausible-says x f s.plausible-is));
+      proper = subst⁻¹ Proper problem_is (problem_proper x s.planned.good f (plausible_says x f s.plausible_is));
     }

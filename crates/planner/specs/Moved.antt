@@ -7,36 +7,36 @@ use Rattle.std.proofs.Math.Path.{refl, sym, ap}
 use Rattle.std.proofs.Common.{◌∙◌, inr}
 use Rattle.std.proofs.Math.Logic.{inl, ⊎_elim}
 use Rattle.model.specs.Plan.{Instance}
-use Rattle.model.specs.Plausible.{commonRule, phaseRule}
+use Rattle.model.specs.Plausible.{common_rule, phase_rule}
 use Rattle.model.specs.Within.{Within}
-use Rattle.model.specs.WithinLaws.{within-good, within_or_not}
-use Rattle.model.specs.Chosen.{noPlan, noPlausible, chooseBy, choose}
-use Rattle.model.specs.ChosenLaws.{choice-moved}
+use Rattle.model.specs.WithinLaws.{within_good, within_or_not}
+use Rattle.model.specs.Chosen.{no_plan, no_plausible, choose_by, choose}
+use Rattle.model.specs.ChosenLaws.{choice_moved}
 use Rattle.plan_writer.specs.Outcome.{refusal}
-use Rattle.planner.specs.Outcome.{outcome, outcomeBy, inCycleBy, byChoice}
+use Rattle.planner.specs.Outcome.{outcome, outcome_by, in_cycle_by, by_choice}
 
 module _ (request : List ℕ) where
   -- by the rule of the phase it is the planner's outcome
-  pub outcome-now : outcomeBy phaseRule request ≡ outcome request
-  unfolding outcomeBy outcome
-  outcome-now = refl
+  pub outcome_now : outcome_by phase_rule request ≡ outcome request
+  unfolding outcome_by outcome
+  outcome_now = refl
 
   -- THE LAW: "No table handed out changes." By 01's rule planning comes to the same, or to 10 where it is now 9.
-  pub outcome-moved : (outcomeBy commonRule request ≡ outcome request) ⊎ ((outcomeBy commonRule request ≡ refusal 10) × (outcome request ≡ refusal 9))
-  unfolding outcomeBy outcome
-  outcome-moved = ⊎_elim (λ w. within w.0 w.1) (λ w. inl (ap (inCycleBy commonRule) w.1 ∙ sym (ap (inCycleBy phaseRule) w.1))) (within_or_not request)
+  pub outcome_moved : (outcome_by common_rule request ≡ outcome request) ⊎ ((outcome_by common_rule request ≡ refusal 10) × (outcome request ≡ refusal 9))
+  unfolding outcome_by outcome
+  outcome_moved = ⊎_elim (λ w. within w.0 w.1) (λ w. inl (ap (in_cycle_by common_rule) w.1 ∙ sym (ap (in_cycle_by phase_rule) w.1))) (within_or_not request)
     where
       within : (x : Instance) → Within request x
-          → (outcomeBy commonRule request ≡ outcome request) ⊎ ((outcomeBy commonRule request ≡ refusal 10) × (outcome request ≡ refusal 9))
-      within x w = go (choice-moved x (within-good request x w))
+          → (outcome_by common_rule request ≡ outcome request) ⊎ ((outcome_by common_rule request ≡ refusal 10) × (outcome request ≡ refusal 9))
+      within x w = go (choice_moved x (within_good request x w))
         where
-          before : outcomeBy commonRule request ≡ byChoice x (chooseBy commonRule x)
-          before = ap (inCycleBy commonRule) w
+          before : outcome_by common_rule request ≡ by_choice x (choose_by common_rule x)
+          before = ap (in_cycle_by common_rule) w
 
-          now : outcome request ≡ byChoice x (choose x)
-          now = ap (inCycleBy phaseRule) w
+          now : outcome request ≡ by_choice x (choose x)
+          now = ap (in_cycle_by phase_rule) w
 
-          go : (chooseBy commonRule x ≡ choose x) ⊎ ((chooseBy commonRule x ≡ noPlan) × (choose x ≡ noPlausible))
-              → (outcomeBy commonRule request ≡ outcome request) ⊎ ((outcomeBy commonRule request ≡ refusal 10) × (outcome request ≡ refusal 9))
-          go (inl e) = inl (before ∙ ap (byChoice x) e ∙ sym now)
-          go (inr (p, q)) = inr (before ∙ ap (byChoice x) p, now ∙ ap (byChoice x) q)
+          go : (choose_by common_rule x ≡ choose x) ⊎ ((choose_by common_rule x ≡ no_plan) × (choose x ≡ no_plausible))
+              → (outcome_by common_rule request ≡ outcome request) ⊎ ((outcome_by common_rule request ≡ refusal 10) × (outcome request ≡ refusal 9))
+          go (inl e) = inl (before ∙ ap (by_choice x) e ∙ sym now)
+          go (inr (p, q)) = inr (before ∙ ap (by_choice x) p, now ∙ ap (by_choice x) q)

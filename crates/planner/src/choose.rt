@@ -1,12 +1,12 @@
 // The choice of the frame length: plausible lengths are tried from the largest down, that is by 1, 2, .. 256 rows. One allowance of tries goes
 // through all of them. The exact planner goes through the same lengths (`next_tried`), with the same numbers for the search (`given_at`).
 ghost use Rattle.std.specs.Prelude.{◌≡◌, cond, []};
-ghost use Rattle.model.specs.Answers.{instanceOf};
+ghost use Rattle.model.specs.Answers.{instance_of};
 ghost use Rattle.model.specs.Within.{InLimits};
-ghost use Rattle.model.specs.Chosen.{problemAt, noPlan, noPlausible, isTried, chooseWalk};
-ghost use Rattle.search.specs.Placing.{planWalk};
-ghost use Rattle.searcher.specs.Arrays.{Placeable, problemOf, placedWithin};
-ghost use Rattle.planner.specs.Choices.{Searchable, NextTried, choiceAnswer, choiceWithin, noneChosen};
+ghost use Rattle.model.specs.Chosen.{problem_at, no_plan, no_plausible, is_tried, choose_walk};
+ghost use Rattle.search.specs.Placing.{plan_walk};
+ghost use Rattle.searcher.specs.Arrays.{Placeable, problem_of, placed_within};
+ghost use Rattle.planner.specs.Choices.{Searchable, NextTried, choice_answer, choice_within, none_chosen};
 
 use cycle::Cycle;
 use problem::JobLinks;
@@ -24,7 +24,7 @@ pub struct ChosenPlan {
 // What the search for a plan with frames of length f is given.
 pub fn given_at(cycle: Cycle, cost: [u32; 128], links: JobLinks, f: u16) -> Given
     requires { Searchable cycle cost links f }
-    ensures { Placeable result × (problemOf result ≡ problemAt (instanceOf cycle) f) }
+    ensures { Placeable result × (problem_of result ≡ problem_at (instance_of cycle) f) }
 {
     let first = problem::first_frames(cycle, f);
     let end = problem::end_frames(cycle, f);
@@ -45,7 +45,7 @@ pub fn given_at(cycle: Cycle, cost: [u32; 128], links: JobLinks, f: u16) -> Give
 // The first plan with frames of length f, if it is found within the tries allowed.
 fn plan_with(cycle: Cycle, cost: [u32; 128], links: JobLinks, f: u16, allowed: u64) -> Placed
     requires { Searchable cycle cost links f }
-    ensures { result ≡ placedWithin allowed (planWalk (problemAt (instanceOf cycle) f) []) }
+    ensures { result ≡ placed_within allowed (plan_walk (problem_at (instance_of cycle) f) []) }
 {
     let given = given_at(cycle, cost, links, f);
     searcher::place_all(given, allowed)
@@ -53,7 +53,7 @@ fn plan_with(cycle: Cycle, cost: [u32; 128], links: JobLinks, f: u16, allowed: u
 
 // Whether H/rows is a plausible length.
 fn is_tried(cycle: Cycle, rows: u16) -> bool
-    ensures { result ≡ isTried (instanceOf cycle) rows }
+    ensures { result ≡ is_tried (instance_of cycle) rows }
 {
     if rows == 0 {
         return false;
@@ -70,7 +70,7 @@ pub const MOST_ROWS: u16 = 256;
 // The next number of rows after this one whose length is plausible; one above the most, if there is none. No length has more rows than the cycle
 // has ticks.
 pub fn next_tried(cycle: Cycle, rows: u16) -> u16
-    ensures { NextTried (instanceOf cycle) rows result }
+    ensures { NextTried (instance_of cycle) rows result }
 {
     let most = arith::at_most(cycle.h as usize, MOST_ROWS as usize) as u16;
     let mut next = rows;
@@ -84,7 +84,7 @@ pub fn next_tried(cycle: Cycle, rows: u16) -> u16
 }
 
 fn none_chosen(refusal: u8, tries: u64) -> ChosenPlan
-    ensures { result ≡ noneChosen refusal tries }
+    ensures { result ≡ none_chosen refusal tries }
 {
     ChosenPlan {
         refusal,
@@ -96,7 +96,7 @@ fn none_chosen(refusal: u8, tries: u64) -> ChosenPlan
 
 // No length has a plan: 10, if some length was tried; else 9.
 pub fn none_left(some: bool, tries: u64) -> ChosenPlan
-    ensures { result ≡ choiceAnswer (cond some noPlan noPlausible) tries }
+    ensures { result ≡ choice_answer (cond some no_plan no_plausible) tries }
 {
     if some {
         return none_chosen(10, tries);
@@ -107,7 +107,7 @@ pub fn none_left(some: bool, tries: u64) -> ChosenPlan
 // The chosen plan of a cycle: that of the first length with a plan; or 23, where the search takes more tries than are allowed.
 pub fn choose(cycle: Cycle, allowed: u64) -> ChosenPlan
     requires { InLimits cycle }
-    ensures { result ≡ choiceWithin allowed (chooseWalk (instanceOf cycle)) }
+    ensures { result ≡ choice_within allowed (choose_walk (instance_of cycle)) }
 {
     let cost = problem::costs(cycle);
     let links = problem::links(cycle);

@@ -2,8 +2,8 @@
 pub mod choose;
 
 ghost use Rattle.std.specs.Prelude.{◌≡◌};
-ghost use Rattle.plan_writer.specs.Outcome.{outcomeBuffer};
-ghost use Rattle.planner.specs.Outcome.{outcomeWithin, searchedAnswer};
+ghost use Rattle.plan_writer.specs.Outcome.{outcome_buffer};
+ghost use Rattle.planner.specs.Outcome.{outcome_within, searched_answer};
 
 // What a program that plans a request from its standard input allows.
 pub const PROGRAM_TRIES: u64 = 10_000_000;
@@ -30,8 +30,8 @@ fn refused(number: u8, tries: u64) -> Searched
 // The table of the request's chosen plan, written into `out`, if it is found with at most `allowance` tries. A refusal, from 1 to 11, 17 or 23,
 // leaves `out` as it was.
 pub fn plan(request: &[u8], allowance: u64, out: &mut [u8]) -> Searched
-    ensures { (result ≡ searchedAnswer allowance request.now out.old)
-        × (out.new ≡ outcomeBuffer (outcomeWithin allowance request.now) out.old) }
+    ensures { (result ≡ searched_answer allowance request.now out.old)
+        × (out.new ≡ outcome_buffer (outcome_within allowance request.now) out.old) }
 {
     let cycle = cycle::read(request);
     if cycle.refusal != 0 {

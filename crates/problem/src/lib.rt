@@ -1,12 +1,12 @@
 // The jobs of a cycle as the search takes them: the cost of each, the frames of its window, and its links with the jobs before it.
 ghost use Rattle.std.specs.Prelude.{◌≡◌, map, ◌≤◌, ◌<◌, min, get_or};
 ghost use Rattle.cursor.specs.Padded.{padded, firsts};
-ghost use Rattle.request.specs.Request.{noTask, noPair};
+ghost use Rattle.request.specs.Request.{no_task, no_pair};
 ghost use Rattle.model.specs.Plan.{slot, costs};
-ghost use Rattle.model.specs.Chosen.{firstFrameOf, endFrameOf};
-ghost use Rattle.model.specs.Links.{placeBefore, linkBy, linksBy};
-ghost use Rattle.model.specs.Answers.{instanceOf};
-ghost use Rattle.problem.specs.Answers.{linksAnswer, asList, Stored};
+ghost use Rattle.model.specs.Chosen.{first_frame_of, end_frame_of};
+ghost use Rattle.model.specs.Links.{place_before, link_by, links_by};
+ghost use Rattle.model.specs.Answers.{instance_of};
+ghost use Rattle.problem.specs.Answers.{links_answer, as_list, Stored};
 
 use cycle::{Cycle, Job};
 use request::{Pair, Task};
@@ -26,7 +26,7 @@ enum LinkFound {
 
 // The time that a transfer of the task takes in its row; the silent ticks alone where it is not one of the n tasks, of which there are at most 16.
 pub fn cost(tasks: [Task; 16], n: usize, g: u8, task: u8) -> u32
-    ensures { result ≡ slot g (get_or (firsts (min n 16) noTask tasks) task noTask) }
+    ensures { result ≡ slot g (get_or (firsts (min n 16) no_task tasks) task no_task) }
 {
     let i = task as usize;
     if arith::at_most(n, 16) <= i {
@@ -38,7 +38,7 @@ pub fn cost(tasks: [Task; 16], n: usize, g: u8, task: u8) -> u32
 
 // The time that each job takes in its row.
 pub fn costs(cycle: Cycle) -> [u32; 128]
-    ensures { result ≡ padded 128 0 (costs (instanceOf cycle)) }
+    ensures { result ≡ padded 128 0 (costs (instance_of cycle)) }
 {
     let tasks = cycle.tasks;
     let jobs = cycle.jobs;
@@ -57,7 +57,7 @@ pub fn costs(cycle: Cycle) -> [u32; 128]
 
 // The first frame of length f that begins at the job's release or later.
 fn first_frame(f: u16, job: Job) -> u16
-    ensures { result ≡ firstFrameOf f job }
+    ensures { result ≡ first_frame_of f job }
 {
     if f == 0 {
         return 0;
@@ -68,7 +68,7 @@ fn first_frame(f: u16, job: Job) -> u16
 
 // That of each job.
 pub fn first_frames(cycle: Cycle, f: u16) -> [u16; 128]
-    ensures { result ≡ padded 128 0 (map (firstFrameOf f) (instanceOf cycle).jobs) }
+    ensures { result ≡ padded 128 0 (map (first_frame_of f) (instance_of cycle).jobs) }
 {
     let jobs = cycle.jobs;
     let count = arith::at_most(cycle.count, 128);
@@ -84,7 +84,7 @@ pub fn first_frames(cycle: Cycle, f: u16) -> [u16; 128]
 
 // The first frame of length f that ends behind the job's due time.
 fn end_frame(f: u16, job: Job) -> u16
-    ensures { result ≡ endFrameOf f job }
+    ensures { result ≡ end_frame_of f job }
 {
     if f == 0 {
         return 0;
@@ -94,7 +94,7 @@ fn end_frame(f: u16, job: Job) -> u16
 
 // That of each job.
 pub fn end_frames(cycle: Cycle, f: u16) -> [u16; 128]
-    ensures { result ≡ padded 128 0 (map (endFrameOf f) (instanceOf cycle).jobs) }
+    ensures { result ≡ padded 128 0 (map (end_frame_of f) (instance_of cycle).jobs) }
 {
     let jobs = cycle.jobs;
     let count = arith::at_most(cycle.count, 128);
@@ -111,7 +111,7 @@ pub fn end_frames(cycle: Cycle, f: u16) -> [u16; 128]
 // The place before y of job j of task i; y, if it has none there.
 fn place_before(jobs: [Job; 128], y: usize, i: u8, j: u8) -> usize
     requires { y ≤ 128 }
-    ensures { result ≡ placeBefore jobs y i j }
+    ensures { result ≡ place_before jobs y i j }
 {
     let mut z: usize = 0;
     while z < y {
@@ -129,7 +129,7 @@ fn place_before(jobs: [Job; 128], y: usize, i: u8, j: u8) -> usize
 // The link of the job at place y by the pair: z to a job that must not stand later, z + 128 to one that must not stand earlier.
 fn link_by(jobs: [Job; 128], y: usize, pair: Pair) -> LinkFound
     requires { y < 128 }
-    ensures { asList result ≡ linkBy jobs y pair }
+    ensures { as_list result ≡ link_by jobs y pair }
 {
     let job = jobs[y];
     if job.task == pair.b {
@@ -157,7 +157,7 @@ fn store_links(
     places: &mut [u8; 2048],
 ) -> u16
     requires { (y < 128) × (m ≤ 16) }
-    ensures { Stored y (linksBy jobs y (firsts m noPair pairs)) places.old places.new result }
+    ensures { Stored y (links_by jobs y (firsts m no_pair pairs)) places.old places.new result }
 {
     let mut count: u16 = 0;
     let mut u: usize = 0;
@@ -177,7 +177,7 @@ fn store_links(
 
 // The links of all jobs.
 pub fn links(cycle: Cycle) -> JobLinks
-    ensures { result ≡ linksAnswer (instanceOf cycle) }
+    ensures { result ≡ links_answer (instance_of cycle) }
 {
     let jobs = cycle.jobs;
     let pairs = cycle.pairs;

@@ -10,32 +10,32 @@ use lib.ListN.{length, get_or, set, replicate, take, length-set, length-replicat
 use lib.Seq.{get_or-set_same, get_or-set_other, get_or-take}
 use lib.Dec.{ltb, eqb}
 use borrow.Author.Tests.{ltb-true, lt-ltb, eq-eqb, ne_eqb, eqb-true, eqb-false}
-use Rattle.searcher.specs.Arrays.{partIn, rowsIn, jobsIn, problemIn}
+use Rattle.searcher.specs.Arrays.{part_in, rows_in, jobs_in, problem_in}
 use Rattle.exact.specs.Sweep.{sum}
-use Rattle.exact.specs.Intervals.{sum-le, sum-add, sum-snoc}
-use Rattle.exact.specs.Arcs.{step_of, roomOf, lastIn, arcNeed}
-use Rattle.exact.specs.ArcsLaws.{none-arc}
+use Rattle.exact.specs.Intervals.{sum_le, sum_add, sum_snoc}
+use Rattle.exact.specs.Arcs.{step_of, room_of, last_in, arc_need}
+use Rattle.exact.specs.ArcsLaws.{none_arc}
 use Rattle.exact.specs.None.{None}
 use Rattle.prune.specs.Arrays.{Packed, domains, Filled}
-use Rattle.prune.specs.Arcs.{stepBy, last_by, weightBy, Light, Needed, Over, SomeOver}
+use Rattle.prune.specs.Arcs.{step_by, last_by, weight_by, Light, Needed, Over, SomeOver}
 
 -- a step of each kind
 module _ (f k c : ℕ) where
-  pub step-none : k ≡ 0 → c ≡ step_of f k c
+  pub step_none : k ≡ 0 → c ≡ step_of f k c
   unfolding step_of
-  step-none e = rw (eq-eqb k 0 e)
+  step_none e = rw (eq-eqb k 0 e)
 
-  pub step-even : (k ≡ 0 → ⊥) → (k + 1) * c % f ≡ 0 → k * c ≡ step_of f k c
+  pub step_even : (k ≡ 0 → ⊥) → (k + 1) * c % f ≡ 0 → k * c ≡ step_of f k c
   unfolding step_of
-  step-even n e = rw (ne_eqb k 0 n, eq-eqb ((k + 1) * c % f) 0 e)
+  step_even n e = rw (ne_eqb k 0 n, eq-eqb ((k + 1) * c % f) 0 e)
 
   pub step_down : (k ≡ 0 → ⊥) → ((k + 1) * c % f ≡ 0 → ⊥) → (k + 1) * c / f * f ≡ step_of f k c
   unfolding step_of
   step_down n e = rw (ne_eqb k 0 n, ne_eqb ((k + 1) * c % f) 0 e)
 
-  step-le : step_of f k c ≤ (k + 1) * c
+  step_le : step_of f k c ≤ (k + 1) * c
   unfolding step_of
-  step-le = go (eqb k 0) (eqb ((k + 1) * c % f) 0)
+  step_le = go (eqb k 0) (eqb ((k + 1) * c % f) 0)
     where
       go : (a b : Bool) → cond a c (cond b (k * c) ((k + 1) * c / f * f)) ≤ (k + 1) * c
       go true b = omega (arith, add-mul k 1 c)
@@ -45,55 +45,55 @@ module _ (f k c : ℕ) where
   pub step_small : k ≤ 4 → c ≤ 65535 → step_of f k c ≤ 327675
   step_small h l =
       let t : (k + 1) * c ≤ 5 * c = mul-le-mul_right c (bound k h) in
-      omega (arith, step-le)
+      omega (arith, step_le)
     where
       bound : (k : ℕ) → k ≤ 4 → k + 1 ≤ 5
       bound k h = omega arith
 
-  pub room-none : k ≡ 0 → f ≡ roomOf f k
-  unfolding roomOf
-  room-none e = rw (eq-eqb k 0 e)
+  pub room_none : k ≡ 0 → f ≡ room_of f k
+  unfolding room_of
+  room_none e = rw (eq-eqb k 0 e)
 
-  pub room-some : (k ≡ 0 → ⊥) → k * f ≡ roomOf f k
-  unfolding roomOf
-  room-some n = rw (ne_eqb k 0 n)
+  pub room_some : (k ≡ 0 → ⊥) → k * f ≡ room_of f k
+  unfolding room_of
+  room_some n = rw (ne_eqb k 0 n)
 
 -- the last place
 module _ (rows s l h : ℕ) where
-  pub last-round : rows ≤ (l + (rows - s)) % rows + (h - 1 - l) → rows - 1 ≡ lastIn rows s l h
-  unfolding lastIn
-  last-round e = round ((l + (rows - s)) % rows + (h - 1 - l)) e
+  pub last_round : rows ≤ (l + (rows - s)) % rows + (h - 1 - l) → rows - 1 ≡ last_in rows s l h
+  unfolding last_in
+  last_round e = round ((l + (rows - s)) % rows + (h - 1 - l)) e
     where
       round : (k : ℕ) → rows ≤ k → rows - 1 ≡ min k (rows - 1)
       round k e = omega arith
 
-  pub last-near : (l + (rows - s)) % rows + (h - 1 - l) < rows → (l + (rows - s)) % rows + (h - 1 - l) ≡ lastIn rows s l h
-  unfolding lastIn
-  last-near e = near ((l + (rows - s)) % rows + (h - 1 - l)) e
+  pub last_near : (l + (rows - s)) % rows + (h - 1 - l) < rows → (l + (rows - s)) % rows + (h - 1 - l) ≡ last_in rows s l h
+  unfolding last_in
+  last_near e = near ((l + (rows - s)) % rows + (h - 1 - l)) e
     where
       near : (k : ℕ) → k < rows → k ≡ min k (rows - 1)
       near k e = omega arith
 
 -- the pass over the jobs
-zeros-at : (k e : ℕ) → get_or {A = ℕ} (replicate k 0) e 0 ≡ 0
-zeros-at zero e = refl
-zeros-at (suc k) zero = refl
-zeros-at (suc k) (suc e) = zeros-at k e
+zeros_at : (k e : ℕ) → get_or {A = ℕ} (replicate k 0) e 0 ≡ 0
+zeros_at zero e = refl
+zeros_at (suc k) zero = refl
+zeros_at (suc k) (suc e) = zeros_at k e
 
-pub needed-none : (last c : ℕ → ℕ) → Needed last c 0 (replicate 256 0)
+pub needed_none : (last c : ℕ → ℕ) → Needed last c 0 (replicate 256 0)
 unfolding sum
-needed-none last c = record {
+needed_none last c = record {
   size = length-replicate {A = ℕ} 256 0;
-  each = λ e h. zeros-at 256 e;
-  small = λ e. omega (arith, zeros-at 256 e);
+  each = λ e h. zeros_at 256 e;
+  small = λ e. omega (arith, zeros_at 256 e);
 }
 
 module _ {last c : ℕ → ℕ} {i : ℕ} {out : List ℕ} (d : Needed last c i out) where
   one_more : (e : ℕ) → sum (λ i. cond (eqb (last i) e) (c i) 0) (i + 1) 0 ≡ sum (λ i. cond (eqb (last i) e) (c i) 0) i 0 + cond (eqb (last i) e) (c i) 0
-  one_more e = rw (add-one i) (sum-snoc (λ i. cond (eqb (last i) e) (c i) 0) i 0 ∙ rw (zero-add i))
+  one_more e = rw (add-one i) (sum_snoc (λ i. cond (eqb (last i) e) (c i) 0) i 0 ∙ rw (zero-add i))
 
-  pub needed-more : {at v : ℕ} → at ≡ last i → v ≡ c i → at < 256 → v ≤ 327675 → Needed last c (i + 1) (set out at (get_or out at 0 + v))
-  needed-more {at} {v} at-is v-is inside fits = record {
+  pub needed_more : {at v : ℕ} → at ≡ last i → v ≡ c i → at < 256 → v ≤ 327675 → Needed last c (i + 1) (set out at (get_or out at 0 + v))
+  needed_more {at} {v} at_is v_is inside fits = record {
     size = length-set out at (get_or out at 0 + v) ∙ d.size;
     each = λ e h. each e h (eqb at e) refl;
     small = λ e. small e (eqb at e) refl;
@@ -105,22 +105,22 @@ module _ {last c : ℕ → ℕ} {i : ℕ} {out : List ℕ} (d : Needed last c i 
       there : (e : ℕ) → (at ≡ e → ⊥) → get_or (set out at (get_or out at 0 + v)) e 0 ≡ get_or out e 0
       there e ne = get_or-set_other out at e (get_or out at 0 + v) 0 (λ w. ne (sym w))
 
-      at-e : (e : ℕ) → at ≡ e → get_or (set out at (get_or out at 0 + v)) e 0 ≡ get_or out e 0 + v
-      at-e e z = sym (ap (λ (k : ℕ). get_or (set out at (get_or out at 0 + v)) k 0) z) ∙ here ∙ ap (λ (k : ℕ). get_or out k 0 + v) z
+      at_e : (e : ℕ) → at ≡ e → get_or (set out at (get_or out at 0 + v)) e 0 ≡ get_or out e 0 + v
+      at_e e z = sym (ap (λ (k : ℕ). get_or (set out at (get_or out at 0 + v)) k 0) z) ∙ here ∙ ap (λ (k : ℕ). get_or out k 0 + v) z
 
       share : (e : ℕ) → cond (eqb (last i) e) (c i) 0 ≡ cond (eqb at e) v 0
-      share e = rw (at-is, v-is)
+      share e = rw (at_is, v_is)
 
       each : (e : ℕ) → e < 256 → (b : Bool) → eqb at e ≡ b → get_or (set out at (get_or out at 0 + v)) e 0 ≡ sum (λ i. cond (eqb (last i) e) (c i) 0) (i + 1) 0
       each e h true q =
           let w : cond (eqb (last i) e) (c i) 0 ≡ v = share e ∙ rw q in
-          omega (arith, d.each e h, one_more e, at-e e (eqb-true at e q))
+          omega (arith, d.each e h, one_more e, at_e e (eqb-true at e q))
       each e h false q =
           let w : cond (eqb (last i) e) (c i) 0 ≡ 0 = share e ∙ rw q in
           omega (arith, d.each e h, one_more e, there e (eqb-false at e q))
 
       small : (e : ℕ) (b : Bool) → eqb at e ≡ b → get_or (set out at (get_or out at 0 + v)) e 0 ≤ (i + 1) * 327675
-      small e true q = omega (arith, d.small e, at-e e (eqb-true at e q))
+      small e true q = omega (arith, d.small e, at_e e (eqb-true at e q))
       small e false q = omega (arith, d.small e, there e (eqb-false at e q))
 
 -- the pass over the places: `need` is no more than what the jobs count that have their last frame before place e, `has` what the places hold
@@ -128,11 +128,11 @@ pub record Comparing (last c : ℕ → ℕ) (n rows room e need has : ℕ) : Typ
   pub most : e ≤ rows
   pub asks : need ≤ sum (λ i. cond (ltb (last i) e) (c i) 0) n 0
   pub holds : has ≡ room * e
-  pub need-small : need ≤ e * 41942400
-  pub has-small : has ≤ e * 4294967295
+  pub need_small : need ≤ e * 41942400
+  pub has_small : has ≤ e * 4294967295
 
-pub comparing-start : (last c : ℕ → ℕ) (n rows room : ℕ) → Comparing last c n rows room 0 0 0
-comparing-start last c n rows room = record { most = omega arith; asks = omega arith; holds = omega arith; need-small = omega arith; has-small = omega arith }
+pub comparing_start : (last c : ℕ → ℕ) (n rows room : ℕ) → Comparing last c n rows room 0 0 0
+comparing_start last c n rows room = record { most = omega arith; asks = omega arith; holds = omega arith; need_small = omega arith; has_small = omega arith }
 
 one_place : (p e c : ℕ) → cond (ltb p e) c 0 + cond (eqb p e) c 0 ≤ cond (ltb p (e + 1)) c 0
 one_place p e c = go (ltb p e) refl (eqb p e) refl
@@ -145,51 +145,51 @@ one_place p e c = go (ltb p e) refl (eqb p e) refl
 
 module _ {last c : ℕ → ℕ} {n rows room e need has : ℕ} (v : Comparing last c n rows room e need has) (more : e < rows) (few : rows ≤ 256) (jobs : n ≤ 128)
     {out : List ℕ} (d : Needed last c n out) where
-  pub need-small : get_or out e 0 ≤ 41942400
-  need-small = omega (arith, d.small e)
+  pub need_small : get_or out e 0 ≤ 41942400
+  need_small = omega (arith, d.small e)
 
-  pub comparing-more : room ≤ 4294967295 → Comparing last c n rows room (e + 1) (need + get_or out e 0) (has + room)
-  comparing-more fits = record {
+  pub comparing_more : room ≤ 4294967295 → Comparing last c n rows room (e + 1) (need + get_or out e 0) (has + room)
+  comparing_more fits = record {
     most = omega arith;
     asks = omega (
       arith,
       v.asks,
       d.each e (omega arith),
-      sum-add (λ i. cond (ltb (last i) e) (c i) 0) (λ i. cond (eqb (last i) e) (c i) 0) n 0,
-      sum-le (λ i. cond (ltb (last i) e) (c i) 0 + cond (eqb (last i) e) (c i) 0) (λ i. cond (ltb (last i) (e + 1)) (c i) 0) n 0 (λ i l. one_place (last i) e (c i)),
+      sum_add (λ i. cond (ltb (last i) e) (c i) 0) (λ i. cond (eqb (last i) e) (c i) 0) n 0,
+      sum_le (λ i. cond (ltb (last i) e) (c i) 0 + cond (eqb (last i) e) (c i) 0) (λ i. cond (ltb (last i) (e + 1)) (c i) 0) n 0 (λ i l. one_place (last i) e (c i)),
     );
     holds = omega (arith, v.holds, mul-add room e 1);
-    need-small = omega (arith, v.need-small, need-small);
-    has-small = omega (arith, v.has-small);
+    need_small = omega (arith, v.need_small, need_small);
+    has_small = omega (arith, v.has_small);
   }
 
-pub over-here : {last c : ℕ → ℕ} {n rows room e need has : ℕ} → Comparing last c n rows room e need has → has < need → Over last c n room
-over-here {e = e} v h = record { width = e; more = omega (arith, v.asks, v.holds) }
+pub over_here : {last c : ℕ → ℕ} {n rows room e need has : ℕ} → Comparing last c n rows room e need has → has < need → Over last c n room
+over_here {e = e} v h = record { width = e; more = omega (arith, v.asks, v.holds) }
 
 -- the weights
-pub light-none : (weights : List ℕ) → Light weights 0
-light-none weights = record { each = λ i h. absurd (omega arith) }
+pub light_none : (weights : List ℕ) → Light weights 0
+light_none weights = record { each = λ i h. absurd (omega arith) }
 
-pub light-more : {weights : List ℕ} {j : ℕ} (v : ℕ) → length weights ≡ 128 → j < 128 → Light weights j → v ≤ 327675 → Light (set weights j v) (j + 1)
-light-more {weights} {j} v size h w le = record { each = λ i l. go i l (eqb i j) refl }
+pub light_more : {weights : List ℕ} {j : ℕ} (v : ℕ) → length weights ≡ 128 → j < 128 → Light weights j → v ≤ 327675 → Light (set weights j v) (j + 1)
+light_more {weights} {j} v size h w le = record { each = λ i l. go i l (eqb i j) refl }
   where
     go : (i : ℕ) → i < j + 1 → (b : Bool) → eqb i j ≡ b → get_or (set weights j v) i 0 ≤ 327675
     go i l true q = let z : i ≡ j = eqb-true i j q in rw z (omega (arith, get_or-set_same weights j v 0 (omega arith)))
     go i l false q = let z : i ≡ j → ⊥ = eqb-false i j q in omega (arith, get_or-set_other weights j i v 0 z, w.each i (omega arith))
 
 -- what is over is none
-pub none-of-over : {g : List (List ℕ)} {links : List ℕ} (v : Packed g links) {low high weights : List ℕ} (k : ℕ) {room : ℕ} → 0 < get_or (partIn g 4) 1 0
-    → Filled (stepBy (get_or (partIn g 4) 1 0) k (partIn g 0)) (jobsIn g) weights → room ≡ roomOf (get_or (partIn g 4) 1 0) k
-    → SomeOver (rowsIn g) low high (weightBy weights) (jobsIn g) room → None (problemIn g links) (domains low high)
-unfolding arcNeed
-none-of-over {g} {links} v {low} {high} {weights} k {room} some w r o =
-    none-arc v.proper some k o.start o.inside (domains low high) o.over.width (rw (← r) (rw v.jobs (omega (arith, o.over.more, asks))))
+pub none_of_over : {g : List (List ℕ)} {links : List ℕ} (v : Packed g links) {low high weights : List ℕ} (k : ℕ) {room : ℕ} → 0 < get_or (part_in g 4) 1 0
+    → Filled (step_by (get_or (part_in g 4) 1 0) k (part_in g 0)) (jobs_in g) weights → room ≡ room_of (get_or (part_in g 4) 1 0) k
+    → SomeOver (rows_in g) low high (weight_by weights) (jobs_in g) room → None (problem_in g links) (domains low high)
+unfolding arc_need
+none_of_over {g} {links} v {low} {high} {weights} k {room} some w r o =
+    none_arc v.proper some k o.start o.inside (domains low high) o.over.width (rw (← r) (rw v.jobs (omega (arith, o.over.more, asks))))
   where
-    asks : sum (λ i. cond (ltb (last_by (rowsIn g) o.start low high i) o.over.width) (weightBy weights i) 0) (jobsIn g) 0
-        ≤ sum (λ i. cond (ltb (last_by (rowsIn g) o.start low high i) o.over.width) (step_of (get_or (partIn g 4) 1 0) k (get_or (take (jobsIn g) (partIn g 0)) i 0)) 0) (jobsIn g) 0
-    asks = sum-le (λ i. cond (ltb (last_by (rowsIn g) o.start low high i) o.over.width) (weightBy weights i) 0)
-        (λ i. cond (ltb (last_by (rowsIn g) o.start low high i) o.over.width) (step_of (get_or (partIn g 4) 1 0) k (get_or (take (jobsIn g) (partIn g 0)) i 0)) 0) (jobsIn g) 0
-        (λ i l. let h : i < jobsIn g = omega arith in rw (get_or-take (jobsIn g) (partIn g 0) i 0 h, w.each i h) (omega arith))
+    asks : sum (λ i. cond (ltb (last_by (rows_in g) o.start low high i) o.over.width) (weight_by weights i) 0) (jobs_in g) 0
+        ≤ sum (λ i. cond (ltb (last_by (rows_in g) o.start low high i) o.over.width) (step_of (get_or (part_in g 4) 1 0) k (get_or (take (jobs_in g) (part_in g 0)) i 0)) 0) (jobs_in g) 0
+    asks = sum_le (λ i. cond (ltb (last_by (rows_in g) o.start low high i) o.over.width) (weight_by weights i) 0)
+        (λ i. cond (ltb (last_by (rows_in g) o.start low high i) o.over.width) (step_of (get_or (part_in g 4) 1 0) k (get_or (take (jobs_in g) (part_in g 0)) i 0)) 0) (jobs_in g) 0
+        (λ i l. let h : i < jobs_in g = omega arith in rw (get_or-take (jobs_in g) (part_in g 0) i 0 h, w.each i h) (omega arith))
 
 -- products that fit
 pub product_small : (a c : ℕ) → a ≤ 5 → c ≤ 65535 → a * c ≤ 327675

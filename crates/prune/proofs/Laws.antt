@@ -12,56 +12,56 @@ use lib.ListN.{length, get_or, set, replicate, length-set, length-replicate}
 use lib.Seq.{get_or-take, drop-cons, get_or-set_same, get_or-set_other, set-get_or}
 use lib.Dec.{ltb, eqb}
 use borrow.Author.Tests.{le-leb, lt-leb, ltb-true, ltb-false, lt-ltb, le-ltb, eq-eqb, ne_eqb, eqb-true, eqb-false}
-use Rattle.search.specs.Placing.{Problem, linksAt, linksOf}
-use Rattle.search.specs.PlacingLaws.{part, link-in}
-use Rattle.searcher.specs.Arrays.{partIn, countsIn, rowsIn, jobsIn, problemIn, LinksBack}
-use Rattle.searcher.proofs.Laws as place-laws
+use Rattle.search.specs.Placing.{Problem, links_at, links_of}
+use Rattle.search.specs.PlacingLaws.{part, link_in}
+use Rattle.searcher.specs.Arrays.{part_in, counts_in, rows_in, jobs_in, problem_in, LinksBack}
+use Rattle.searcher.proofs.Laws as place_laws
 use Rattle.exact.specs.Domains.{Domains}
 use Rattle.exact.specs.Sweep.{From}
-use Rattle.exact.specs.Sided.{side_in, fromSide, Stated}
-use Rattle.exact.specs.None.{None, none-link, none-empty, none-swept, none-split}
-use Rattle.sweep.specs.Arrays.{jobsOf, rulesIn, Sweepable}
-use Rattle.prune.specs.Arrays.{Packed, domains, raised, lowered, Linked, Tightened, Empty, Filled, sideBy, row_by, markedBy, Marked}
+use Rattle.exact.specs.Sided.{side_in, from_side, Stated}
+use Rattle.exact.specs.None.{None, none_link, none_empty, none_swept, none_split}
+use Rattle.sweep.specs.Arrays.{jobs_of, rules_in, Sweepable}
+use Rattle.prune.specs.Arrays.{Packed, domains, raised, lowered, Linked, Tightened, Empty, Filled, side_by, row_by, marked_by, Marked}
 
 -- one frame moved, or not
-pub not-raised : (low : List ℕ) (i v : ℕ) → v ≤ get_or low i 0 → low ≡ raised low i v
-not-raised low i v h = let e : max (get_or low i 0) v ≡ get_or low i 0 = omega arith in rw e (sym (set-get_or low i 0))
+pub not_raised : (low : List ℕ) (i v : ℕ) → v ≤ get_or low i 0 → low ≡ raised low i v
+not_raised low i v h = let e : max (get_or low i 0) v ≡ get_or low i 0 = omega arith in rw e (sym (set-get_or low i 0))
 
-pub is-raised : (low : List ℕ) (i v : ℕ) → get_or low i 0 < v → set low i v ≡ raised low i v
-is-raised low i v h = let e : max (get_or low i 0) v ≡ v = omega arith in rw e
+pub is_raised : (low : List ℕ) (i v : ℕ) → get_or low i 0 < v → set low i v ≡ raised low i v
+is_raised low i v h = let e : max (get_or low i 0) v ≡ v = omega arith in rw e
 
-pub not-lowered : (high : List ℕ) (i v : ℕ) → get_or high i 0 ≤ v → high ≡ lowered high i v
-not-lowered high i v h = let e : min (get_or high i 0) v ≡ get_or high i 0 = omega arith in rw e (sym (set-get_or high i 0))
+pub not_lowered : (high : List ℕ) (i v : ℕ) → get_or high i 0 ≤ v → high ≡ lowered high i v
+not_lowered high i v h = let e : min (get_or high i 0) v ≡ get_or high i 0 = omega arith in rw e (sym (set-get_or high i 0))
 
-pub is-lowered : (high : List ℕ) (i v : ℕ) → v < get_or high i 0 → set high i v ≡ lowered high i v
-is-lowered high i v h = let e : min (get_or high i 0) v ≡ v = omega arith in rw e
+pub is_lowered : (high : List ℕ) (i v : ℕ) → v < get_or high i 0 → set high i v ≡ lowered high i v
+is_lowered high i v h = let e : min (get_or high i 0) v ≡ v = omega arith in rw e
 
 -- what is given is one problem, and its links are those of the arrays
 module _ {g : List (List ℕ)} {links : List ℕ} (c : Packed g links) where
   abbrev x : Problem
-  x = problemIn g links
+  x = problem_in g links
 
   abbrev n : ℕ
-  n = jobsIn g
+  n = jobs_in g
 
   abbrev counts : List ℕ
-  counts = countsIn g
+  counts = counts_in g
 
   module _ (i : ℕ) (h : i < n) where
-    pub same-links : linksOf x i ≡ linksAt counts links i
-    same-links = place-laws.same-links counts links n i h c.proper.linked
+    pub same_links : links_of x i ≡ links_at counts links i
+    same_links = place_laws.same_links counts links n i h c.proper.linked
 
-    pub links-back : LinksBack counts links i
-    links-back = place-laws.links-back counts links n i h c.proper.linked c.few (omega (arith, c.proper.counted, c.jobs))
+    pub links_back : LinksBack counts links i
+    links_back = place_laws.links_back counts links n i h c.proper.linked c.few (omega (arith, c.proper.counted, c.jobs))
 
     -- a link takes nothing away
-    pub link-tightens : {l : ℕ} {low high low' high' : List ℕ} → Memᴰ l (linksAt counts links i) → Linked low high i l low' high'
+    pub link_tightens : {l : ℕ} {low high low' high' : List ℕ} → Memᴰ l (links_at counts links i) → Linked low high i l low' high'
         → Tightened x (domains low high) (domains low' high')
-    link-tightens {l} {low} {high} {low'} {high'} m w = record
-        { keeps = λ d. none-link c.proper (domains low high) i l (omega (arith, c.jobs)) mem (go (ltb l 128) refl d) }
+    link_tightens {l} {low} {high} {low'} {high'} m w = record
+        { keeps = λ d. none_link c.proper (domains low high) i l (omega (arith, c.jobs)) mem (go (ltb l 128) refl d) }
       where
-        mem : Memᴰ l (linksOf x i)
-        mem = subst (λ (ls : List ℕ). Memᴰ l ls) (sym same-links) m
+        mem : Memᴰ l (links_of x i)
+        mem = subst (λ (ls : List ℕ). Memᴰ l ls) (sym same_links) m
 
         go : (b : Bool) → ltb l 128 ≡ b → None x (domains low' high')
             → None x (cond b (domains (raised low i (get_or low l 0)) (lowered high l (get_or high i 0)))
@@ -70,14 +70,14 @@ module _ {g : List (List ℕ)} {links : List ℕ} (c : Packed g links) where
         go false e d = let t = w.behind (ltb-false l 128 e) in rw (t.lows, t.highs) at d
 
   pub sweepable : Sweepable g links
-  sweepable = record { few = c.few; few-rows = c.few-rows; back = λ i h. links-back i h }
+  sweepable = record { few = c.few; few_rows = c.few_rows; back = λ i h. links_back i h }
 
 -- tightened in steps
-pub tight-same : {x : Problem} {d : Domains} → Tightened x d d
-tight-same = record { keeps = λ n. n }
+pub tight_same : {x : Problem} {d : Domains} → Tightened x d d
+tight_same = record { keeps = λ n. n }
 
-pub tight-more : {x : Problem} {d e f : Domains} → Tightened x d e → Tightened x e f → Tightened x d f
-tight-more a b = record { keeps = λ n. a.keeps (b.keeps n) }
+pub tight_more : {x : Problem} {d e f : Domains} → Tightened x d e → Tightened x e f → Tightened x d f
+tight_more a b = record { keeps = λ n. a.keeps (b.keeps n) }
 
 -- the loop over the links of job i
 pub record Ranging (counts links : List ℕ) (i end at : ℕ) : Type 0 where
@@ -88,22 +88,22 @@ pub record Ranging (counts links : List ℕ) (i end at : ℕ) : Type 0 where
   pub short : end ≤ 2048
 
 module _ {counts links : List ℕ} {i : ℕ} (g : LinksBack counts links i) where
-  pub ranging-start : Ranging counts links i (16 * i + get_or counts i 0) (16 * i)
-  ranging-start = record {
+  pub ranging_start : Ranging counts links i (16 * i + get_or counts i 0) (16 * i)
+  ranging_start = record {
     begun = omega arith;
     most = omega arith;
     stop = refl;
     room = omega (arith, g.room, g.few);
     short = omega
-        (arith, g.is-job, g.few);
+        (arith, g.is_job, g.few);
   }
 
 module _ {counts links : List ℕ} {i end at : ℕ} (r : Ranging counts links i end at) (h : at < end) where
-  pub ranging-turn : Ranging counts links i end (at + 1)
-  ranging-turn = record { begun = omega (arith, r.begun); most = omega arith; stop = r.stop; room = r.room; short = r.short }
+  pub ranging_turn : Ranging counts links i end (at + 1)
+  ranging_turn = record { begun = omega (arith, r.begun); most = omega arith; stop = r.stop; room = r.room; short = r.short }
 
-  pub in-links : Memᴰ (get_or links at 0) (linksAt counts links i)
-  in-links = link-in counts links i at r.begun (omega (arith, r.stop)) (omega (arith, r.room))
+  pub in_links : Memᴰ (get_or links at 0) (links_at counts links i)
+  in_links = link_in counts links i at r.begun (omega (arith, r.stop)) (omega (arith, r.room))
 
 -- an array is filled
 pub filled_none : (f : ℕ → ℕ) → Filled f 0 (replicate 128 0)
@@ -118,33 +118,33 @@ filled_more {f} {j} {out} v w h e = record { size = length-set out j v ∙ w.siz
 
 -- the side of a job
 module _ (rows l h : ℕ) where
-  pub side-first : h ≤ rows → 0 ≡ side_in rows l h
+  pub side_first : h ≤ rows → 0 ≡ side_in rows l h
   unfolding side_in
-  side-first a = rw (le-leb h rows a)
+  side_first a = rw (le-leb h rows a)
 
   pub side_before : rows < h → l < rows → 1024 ≡ side_in rows l h
   unfolding side_in
   side_before a b = rw (lt-leb h rows a, lt-leb rows l b)
 
-  pub side-beyond : rows < h → rows ≤ l → rows + rows < h → 1024 ≡ side_in rows l h
+  pub side_beyond : rows < h → rows ≤ l → rows + rows < h → 1024 ≡ side_in rows l h
   unfolding side_in
-  side-beyond a b d = rw (lt-leb h rows a, le-leb rows l b, lt-leb h (rows + rows) d)
+  side_beyond a b d = rw (lt-leb h rows a, le-leb rows l b, lt-leb h (rows + rows) d)
 
-  pub side-second : rows < h → rows ≤ l → h ≤ rows + rows → rows ≡ side_in rows l h
+  pub side_second : rows < h → rows ≤ l → h ≤ rows + rows → rows ≡ side_in rows l h
   unfolding side_in
-  side-second a b d = rw (lt-leb h rows a, le-leb rows l b, le-leb h (rows + rows) d)
+  side_second a b d = rw (lt-leb h rows a, le-leb rows l b, le-leb h (rows + rows) d)
 
 module _ (side v away : ℕ) where
-  pub from-away : side ≡ 1024 → away ≡ fromSide side v away
-  unfolding fromSide
-  from-away e = rw (eq-eqb side 1024 e)
+  pub from_away : side ≡ 1024 → away ≡ from_side side v away
+  unfolding from_side
+  from_away e = rw (eq-eqb side 1024 e)
 
-  pub from-none : (side ≡ 1024 → ⊥) → v < side → 0 ≡ fromSide side v away
-  unfolding fromSide
-  from-none e h = rw (ne_eqb side 1024 e) (omega arith)
+  pub from_none : (side ≡ 1024 → ⊥) → v < side → 0 ≡ from_side side v away
+  unfolding from_side
+  from_none e h = rw (ne_eqb side 1024 e) (omega arith)
 
-  pub from_some : (side ≡ 1024 → ⊥) → v - side ≡ fromSide side v away
-  unfolding fromSide
+  pub from_some : (side ≡ 1024 → ⊥) → v - side ≡ from_side side v away
+  unfolding from_side
   from_some e = rw (ne_eqb side 1024 e)
 
 -- marks
@@ -156,34 +156,34 @@ still_one (y ∷ ys) (suc k) zero e = e
 still_one (y ∷ ys) (suc k) (suc j) e = still_one ys k j e
 
 module _ (out : List ℕ) (l : ℕ) where
-  pub not-marked : l < 128 → out ≡ markedBy out l
-  not-marked h = rw (lt-ltb l 128 h)
+  pub not_marked : l < 128 → out ≡ marked_by out l
+  not_marked h = rw (lt-ltb l 128 h)
 
-  pub is-marked : 128 ≤ l → set out (l - 128) 1 ≡ markedBy out l
-  is-marked h = rw (le-ltb l 128 h)
+  pub is_marked : 128 ≤ l → set out (l - 128) 1 ≡ marked_by out l
+  is_marked h = rw (le-ltb l 128 h)
 
-  marked-size : length (markedBy out l) ≡ length out
-  marked-size = go (ltb l 128)
+  marked_size : length (marked_by out l) ≡ length out
+  marked_size = go (ltb l 128)
     where
       go : (b : Bool) → length (cond b out (set out (l - 128) 1)) ≡ length out
       go true = refl
       go false = length-set out (l - 128) 1
 
-  still_marked : (j : ℕ) → get_or out j 0 ≡ 1 → get_or (markedBy out l) j 0 ≡ 1
+  still_marked : (j : ℕ) → get_or out j 0 ≡ 1 → get_or (marked_by out l) j 0 ≡ 1
   still_marked j e = go (ltb l 128)
     where
       go : (b : Bool) → get_or (cond b out (set out (l - 128) 1)) j 0 ≡ 1
       go true = e
       go false = still_one out (l - 128) j e
 
-  this-marked : 128 ≤ l → l - 128 < length out → get_or (markedBy out l) (l - 128) 0 ≡ 1
-  this-marked h t = rw (le-ltb l 128 h) (get_or-set_same out (l - 128) 1 0 t)
+  this_marked : 128 ≤ l → l - 128 < length out → get_or (marked_by out l) (l - 128) 0 ≡ 1
+  this_marked h t = rw (le-ltb l 128 h) (get_or-set_same out (l - 128) 1 0 t)
 
-pub marked-none : (counts links : List ℕ) → Marked counts links 0 (replicate 128 0)
-marked-none counts links = record { size = length-replicate {A = ℕ} 128 0; each = λ y l h m t. absurd (omega arith) }
+pub marked_none : (counts links : List ℕ) → Marked counts links 0 (replicate 128 0)
+marked_none counts links = record { size = length-replicate {A = ℕ} 128 0; each = λ y l h m t. absurd (omega arith) }
 
-part-more : (links : List ℕ) (at end : ℕ) → at < end → end ≤ length links → part at end links ≡ get_or links at 0 ∷ part (at + 1) end links
-part-more links at end h room =
+part_more : (links : List ℕ) (at end : ℕ) → at < end → end ≤ length links → part at end links ≡ get_or links at 0 ∷ part (at + 1) end links
+part_more links at end h room =
     let z : end - at ≡ suc (end - (at + 1)) = omega arith in
     rw (z, drop-cons links at 0 (omega arith), add-one at)
 
@@ -191,20 +191,20 @@ part-more links at end h room =
 pub record Marking (counts links : List ℕ) (y end at : ℕ) (out : List ℕ) : Type 0 where
   pub range : Ranging counts links y end at
   pub before : Marked counts links y out
-  pub left : (l : ℕ) → Memᴰ l (linksAt counts links y) → 128 ≤ l → Memᴰ l (part at end links) ⊎ (get_or out (l - 128) 0 ≡ 1)
+  pub left : (l : ℕ) → Memᴰ l (links_at counts links y) → 128 ≤ l → Memᴰ l (part at end links) ⊎ (get_or out (l - 128) 0 ≡ 1)
 
 module _ {counts links : List ℕ} {y : ℕ} (g : LinksBack counts links y) where
-  pub marking-start : {out : List ℕ} → Marked counts links y out → Marking counts links y (16 * y + get_or counts y 0) (16 * y) out
-  marking-start w =
+  pub marking_start : {out : List ℕ} → Marked counts links y out → Marking counts links y (16 * y + get_or counts y 0) (16 * y) out
+  marking_start w =
       let z : 16 * y + get_or counts y 0 - 16 * y ≡ get_or counts y 0 = omega arith in
-      record { range = ranging-start g; before = w; left = λ l m h. inl (rw z m) }
+      record { range = ranging_start g; before = w; left = λ l m h. inl (rw z m) }
 
   module _ {end at : ℕ} {out : List ℕ} (v : Marking counts links y end at out) where
-    pub marking-turn : at < end → {out' : List ℕ} → out' ≡ markedBy out (get_or links at 0) → Marking counts links y end (at + 1) out'
-    marking-turn h {out'} e = record {
-      range = ranging-turn v.range h;
+    pub marking_turn : at < end → {out' : List ℕ} → out' ≡ marked_by out (get_or links at 0) → Marking counts links y end (at + 1) out'
+    marking_turn h {out'} e = record {
+      range = ranging_turn v.range h;
       before = record {
-        size = rw e (marked-size out this ∙ v.before.size);
+        size = rw e (marked_size out this ∙ v.before.size);
         each = λ z l t m b. rw e (still_marked out this (l - 128) (v.before.each z l t m b));
       };
       left = λ l m b. ⊎_elim (λ w. next l m b (⊎_elim (λ q. inl q) (λ q. inr q) (Memᴰ.cases_cons (unrolled l w))))
@@ -215,17 +215,17 @@ module _ {counts links : List ℕ} {y : ℕ} (g : LinksBack counts links y) wher
         this = get_or links at 0
 
         unrolled : (l : ℕ) → Memᴰ l (part at end links) → Memᴰ l (this ∷ part (at + 1) end links)
-        unrolled l w = subst (λ (ls : List ℕ). Memᴰ l ls) (part-more links at end h v.range.room) w
+        unrolled l w = subst (λ (ls : List ℕ). Memᴰ l ls) (part_more links at end h v.range.room) w
 
-        next : (l : ℕ) → Memᴰ l (linksAt counts links y) → 128 ≤ l → (l ≡ this) ⊎ Memᴰ l (part (at + 1) end links)
+        next : (l : ℕ) → Memᴰ l (links_at counts links y) → 128 ≤ l → (l ≡ this) ⊎ Memᴰ l (part (at + 1) end links)
             → Memᴰ l (part (at + 1) end links) ⊎ (get_or out' (l - 128) 0 ≡ 1)
         next l m b (inl q) =
             let p : l - 128 < y = rw (le-ltb l 128 b) at (g.back l m) in
-            inr (rw (e, ← q) (this-marked out l b (omega (arith, g.is-job, v.before.size))))
+            inr (rw (e, ← q) (this_marked out l b (omega (arith, g.is_job, v.before.size))))
         next l m b (inr q) = inl q
 
-    pub marking-stop : end ≤ at → Marked counts links (y + 1) out
-    marking-stop h = record {
+    pub marking_stop : end ≤ at → Marked counts links (y + 1) out
+    marking_stop h = record {
       size = v.before.size;
       each = λ z l t m b. ⊎_elim (λ q. same z l q m b) (λ q. v.before.each z l q m b)
           (eq-or-lt_of_le (at_most z t));
@@ -235,42 +235,42 @@ module _ {counts links : List ℕ} {y : ℕ} (g : LinksBack counts links y) wher
         at_most z t = omega arith
 
         empty : (l : ℕ) → Memᴰ l (part at end links) → ⊥
-        empty l m = let z : end - at ≡ 0 = omega arith in Memᴰ.not-nil (rw z at m)
+        empty l m = let z : end - at ≡ 0 = omega arith in Memᴰ.not_nil (rw z at m)
 
-        same : (z l : ℕ) → z ≡ y → Memᴰ l (linksAt counts links z) → 128 ≤ l → get_or out (l - 128) 0 ≡ 1
+        same : (z l : ℕ) → z ≡ y → Memᴰ l (links_at counts links z) → 128 ≤ l → get_or out (l - 128) 0 ≡ 1
         same z l q m b = ⊎_elim (λ w. absurd (empty l w)) (λ w. w) (v.left l (rw q at m) b)
 
 -- the question itself
 module _ {g : List (List ℕ)} {links : List ℕ} (c : Packed g links) {low high : List ℕ} where
-  pub none-of-empty : Empty low high (jobsIn g) → None (problemIn g links) (domains low high)
-  none-of-empty e = none-empty c.proper (domains low high) e.job (omega (arith, e.is-job, c.jobs)) e.none
+  pub none_of_empty : Empty low high (jobs_in g) → None (problem_in g links) (domains low high)
+  none_of_empty e = none_empty c.proper (domains low high) e.job (omega (arith, e.is_job, c.jobs)) e.none
 
-  pub none-of-sweep : {first end side tied : List ℕ} → Filled (sideBy (rowsIn g) low high) (jobsIn g) side → Filled (row_by low side 1024) (jobsIn g) first
-      → Filled (row_by high side 1025) (jobsIn g) end → Marked (countsIn g) links (jobsIn g) tied
-      → From (rulesIn g links (first ∷ end ∷ side ∷ tied ∷ [])) (rowsIn g) 0 (replicate 128 false) → None (problemIn g links) (domains low high)
-  unfolding rulesIn
-  none-of-sweep {first} {end} {side} {tied} sides firsts ends ties e = none-swept c.proper stated 128 c.few e
+  pub none_of_sweep : {first end side tied : List ℕ} → Filled (side_by (rows_in g) low high) (jobs_in g) side → Filled (row_by low side 1024) (jobs_in g) first
+      → Filled (row_by high side 1025) (jobs_in g) end → Marked (counts_in g) links (jobs_in g) tied
+      → From (rules_in g links (first ∷ end ∷ side ∷ tied ∷ [])) (rows_in g) 0 (replicate 128 false) → None (problem_in g links) (domains low high)
+  unfolding rules_in
+  none_of_sweep {first} {end} {side} {tied} sides firsts ends ties e = none_swept c.proper stated 128 c.few e
     where
-      stated : Stated (problemIn g links) (domains low high) (jobsOf g links (first ∷ end ∷ side ∷ tied ∷ []))
+      stated : Stated (problem_in g links) (domains low high) (jobs_of g links (first ∷ end ∷ side ∷ tied ∷ []))
       stated = record {
-        few-rows = c.few-rows;
+        few_rows = c.few_rows;
         jobs = sym c.jobs;
         room = refl;
-        costs = λ i h. sym (get_or-take (jobsIn g) (partIn g 0) i 0 h);
+        costs = λ i h. sym (get_or-take (jobs_in g) (part_in g 0) i 0 h);
         sides = λ i h. sides.each i h;
         firsts = λ i h. firsts.each i h;
         ends = λ i h. ends.each i h;
-        linked = λ i h. sym (same-links c i h);
+        linked = λ i h. sym (same_links c i h);
         ties = λ y i h m. marks y i h m;
       }
         where
-          marks : (y i : ℕ) → y < jobsIn g → Memᴰ (i + 128) (linksAt (countsIn g) links y) → not (eqb (get_or tied i 0) 0) ≡ true
+          marks : (y i : ℕ) → y < jobs_in g → Memᴰ (i + 128) (links_at (counts_in g) links y) → not (eqb (get_or tied i 0) 0) ≡ true
           marks y i h m =
               let z : i + 128 - 128 ≡ i = omega arith in
               let t : get_or tied i 0 ≡ 1 = rw z at (ties.each y (i + 128) h m (omega arith)) in
               rw t refl
 
   -- with one job not carried, and carried
-  pub none-of-both : (i : ℕ) → None (problemIn g links) (domains low (set high i (rowsIn g)))
-      → None (problemIn g links) (domains (set low i (rowsIn g)) high) → None (problemIn g links) (domains low high)
-  none-of-both i a b = none-split c.proper (domains low high) i a b
+  pub none_of_both : (i : ℕ) → None (problem_in g links) (domains low (set high i (rows_in g)))
+      → None (problem_in g links) (domains (set low i (rows_in g)) high) → None (problem_in g links) (domains low high)
+  none_of_both i a b = none_split c.proper (domains low high) i a b

@@ -2,18 +2,18 @@
 -- domains ensures that what it leaves out is no placing. Assumes nothing.
 use Rattle.std.specs.Prelude.{◌≡◌, cond, ℕ, ◌-◌, ◌≤◌, ◌<◌, min, max, length, get_or, set, ltb}
 use mathlib.Core.List.{List, Memᴰ}
-use Rattle.search.specs.Placing.{Problem, linksAt, Proper}
-use Rattle.searcher.specs.Arrays.{rowsIn, jobsIn, problemIn}
+use Rattle.search.specs.Placing.{Problem, links_at, Proper}
+use Rattle.searcher.specs.Arrays.{rows_in, jobs_in, problem_in}
 use Rattle.exact.specs.Domains.{Domains}
-use Rattle.exact.specs.Sided.{side_in, fromSide}
+use Rattle.exact.specs.Sided.{side_in, from_side}
 use Rattle.exact.specs.None.{None}
 
 -- what is given is one problem, of as many jobs and rows as the arrays have room for
 pub record Packed (g : List (List ℕ)) (links : List ℕ) : Type 0 where
-  pub few : jobsIn g ≤ 128
-  pub few-rows : rowsIn g ≤ 256
-  pub jobs : length (problemIn g links).cost ≡ jobsIn g
-  pub proper : Proper (problemIn g links)
+  pub few : jobs_in g ≤ 128
+  pub few_rows : rows_in g ≤ 256
+  pub jobs : length (problem_in g links).cost ≡ jobs_in g
+  pub proper : Proper (problem_in g links)
 
 -- the domains in two arrays
 abbrev pub domains : List ℕ → List ℕ → Domains
@@ -43,7 +43,7 @@ pub record Tightened (x : Problem) (d d' : Domains) : Type 0 where
 -- some domain is empty
 pub record Empty (low high : List ℕ) (n : ℕ) : Type 0 where
   pub job : ℕ
-  pub is-job : job < n
+  pub is_job : job < n
   pub none : get_or high job 0 ≤ get_or low job 0
 
 -- an array of 128 numbers whose first n are those of f
@@ -52,17 +52,17 @@ pub record Filled (f : ℕ → ℕ) (n : ℕ) (out : List ℕ) : Type 0 where
   pub each : (i : ℕ) → i < n → get_or out i 0 ≡ f i
 
 -- the side of each job, and its frames counted from there
-abbrev pub sideBy : ℕ → List ℕ → List ℕ → ℕ → ℕ
-sideBy rows low high i = side_in rows (get_or low i 0) (get_or high i 0)
+abbrev pub side_by : ℕ → List ℕ → List ℕ → ℕ → ℕ
+side_by rows low high i = side_in rows (get_or low i 0) (get_or high i 0)
 
 abbrev pub row_by : List ℕ → List ℕ → ℕ → ℕ → ℕ
-row_by frames sides away i = fromSide (get_or sides i 0) (get_or frames i 0) away
+row_by frames sides away i = from_side (get_or sides i 0) (get_or frames i 0) away
 
 -- a job that a link from 128 on names is marked
-abbrev pub markedBy : List ℕ → ℕ → List ℕ
-markedBy out l = cond (ltb l 128) out (set out (l - 128) 1)
+abbrev pub marked_by : List ℕ → ℕ → List ℕ
+marked_by out l = cond (ltb l 128) out (set out (l - 128) 1)
 
 -- each job is marked that a link of the first m jobs says must not be later than it
 pub record Marked (counts links : List ℕ) (m : ℕ) (out : List ℕ) : Type 0 where
   pub size : length out ≡ 128
-  pub each : (y l : ℕ) → y < m → Memᴰ l (linksAt counts links y) → 128 ≤ l → get_or out (l - 128) 0 ≡ 1
+  pub each : (y l : ℕ) → y < m → Memᴰ l (links_at counts links y) → 128 ≤ l → get_or out (l - 128) 0 ≡ 1

@@ -1,11 +1,11 @@
 // Arcs: rows that follow each other, round the cycle too. The jobs that must stand in some arc count too much for it, by their costs or by a step
 // function of them. Costs of at most f together count no more than a row holds, by every step.
 ghost use Rattle.std.specs.Prelude.{◌≡◌, true, ◌-◌, ◌≤◌, ◌<◌};
-ghost use Rattle.searcher.specs.Arrays.{partIn, problemIn};
+ghost use Rattle.searcher.specs.Arrays.{part_in, problem_in};
 ghost use Rattle.exact.specs.None.{None};
-ghost use Rattle.exact.specs.Arcs.{step_of, roomOf, lastIn};
+ghost use Rattle.exact.specs.Arcs.{step_of, room_of, last_in};
 ghost use Rattle.prune.specs.Arrays.{Packed, domains, Filled};
-ghost use Rattle.prune.specs.Arcs.{stepBy, last_by, weightBy, Light, Needed, Over, SomeOver};
+ghost use Rattle.prune.specs.Arcs.{step_by, last_by, weight_by, Light, Needed, Over, SomeOver};
 
 // What cost c counts by step k, where a row holds f.
 fn weight(c: u16, f: u16, k: u16) -> u32
@@ -25,7 +25,7 @@ fn weight(c: u16, f: u16, k: u16) -> u32
 // What a row holds by step k.
 fn room_of(f: u16, k: u16) -> u32
     requires { k ≤ 4 }
-    ensures { result ≡ roomOf f k }
+    ensures { result ≡ room_of f k }
 {
     if k == 0 {
         return f as u32;
@@ -36,7 +36,7 @@ fn room_of(f: u16, k: u16) -> u32
 // What the jobs count by step k.
 fn weights_of(given: &[[u16; 128]; 5], n: usize, f: u16, k: u16) -> [u32; 128]
     requires { (n ≤ 128) × (0 < f) × (k ≤ 4) }
-    ensures { Filled (stepBy f k (partIn given.now 0)) n result × Light result n }
+    ensures { Filled (step_by f k (part_in given.now 0)) n result × Light result n }
 {
     let mut out = [0u32; 128];
     let mut i = 0;
@@ -61,7 +61,7 @@ fn span(l: u16, h: u16) -> u16
 // The place of the last of these frames, counted from row s on; the last place of all, if they go round.
 fn last_place(l: u16, h: u16, rows: u16, s: u16) -> usize
     requires { (0 < rows) × (s ≤ rows) }
-    ensures { (result ≡ lastIn rows s l h) × (result < rows) }
+    ensures { (result ≡ last_in rows s l h) × (result < rows) }
 {
     let from = (l as u32 + (rows - s) as u32) % (rows as u32);
     let last = from + span(l, h) as u32;
@@ -82,7 +82,7 @@ fn needs_of(
 ) -> [u32; 256]
     requires n_bound { (n ≤ 128) × (0 < rows) × (rows ≤ 256) × (s ≤ rows) }
     requires light { Light weights.now n }
-    ensures { Needed (last_by rows s low.now high.now) (weightBy weights.now) n result }
+    ensures { Needed (last_by rows s low.now high.now) (weight_by weights.now) n result }
 {
     let mut need = [0u32; 256];
     let mut i = 0;
@@ -106,7 +106,7 @@ fn is_over(
 ) -> bool
     requires n_bound { (n ≤ 128) × (0 < rows) × (rows ≤ 256) × (s ≤ rows) }
     requires light { Light weights.now n }
-    ensures { result ≡ true → Over (last_by rows s low.now high.now) (weightBy weights.now) n room }
+    ensures { result ≡ true → Over (last_by rows s low.now high.now) (weight_by weights.now) n room }
 {
     let need = needs_of(weights, low, high, n, rows, s);
     let mut e: u16 = 0;
@@ -134,7 +134,7 @@ fn some_over(
 ) -> bool
     requires n_bound { (n ≤ 128) × (0 < rows) × (rows ≤ 256) }
     requires light { Light weights.now n }
-    ensures { result ≡ true → SomeOver rows low.now high.now (weightBy weights.now) n room }
+    ensures { result ≡ true → SomeOver rows low.now high.now (weight_by weights.now) n room }
 {
     let mut s: u16 = 0;
     while s < rows {
@@ -156,7 +156,7 @@ fn is_full(
 ) -> bool
     requires packed { Packed given.now links.now }
     requires k_bound { k ≤ 4 }
-    ensures { result ≡ true → None (problemIn given.now links.now) (domains low.now high.now) }
+    ensures { result ≡ true → None (problem_in given.now links.now) (domains low.now high.now) }
 {
     let n = given[4][2] as usize;
     let rows = given[4][0];
@@ -176,7 +176,7 @@ pub(super) fn some_full(
     high: &[u16; 128],
 ) -> bool
     requires { Packed given.now links.now }
-    ensures { result ≡ true → None (problemIn given.now links.now) (domains low.now high.now) }
+    ensures { result ≡ true → None (problem_in given.now links.now) (domains low.now high.now) }
 {
     let mut k: u16 = 0;
     while k <= 4 {

@@ -6,13 +6,13 @@ mod sides;
 mod tighten;
 
 ghost use Rattle.std.specs.Prelude.{◌≡◌, true, false, ◌+◌};
-ghost use Rattle.searcher.specs.Arrays.{countsIn, jobsIn, problemIn, LinksBack};
+ghost use Rattle.searcher.specs.Arrays.{counts_in, jobs_in, problem_in, LinksBack};
 ghost use Rattle.exact.specs.None.{None};
-ghost use Rattle.prune.specs.Arrays.{Packed, domains, markedBy, Marked};
+ghost use Rattle.prune.specs.Arrays.{Packed, domains, marked_by, Marked};
 
 // Marks the job that link l names, if it must not be earlier.
 fn mark(out: &mut [u16; 128], l: u8)
-    ensures { out.new ≡ markedBy out.old l }
+    ensures { out.new ≡ marked_by out.old l }
 {
     if l < 128 {
         return;
@@ -22,9 +22,9 @@ fn mark(out: &mut [u16; 128], l: u8)
 
 // Marks the jobs that the links of job y name.
 fn mark_links(given: &[[u16; 128]; 5], links: &[u8; 2048], out: &mut [u16; 128], y: usize)
-    requires links_back { LinksBack (countsIn given.now) links.now y }
-    requires marked { Marked (countsIn given.now) links.now y out.old }
-    ensures { Marked (countsIn given.now) links.now (y + 1) out.new }
+    requires links_back { LinksBack (counts_in given.now) links.now y }
+    requires marked { Marked (counts_in given.now) links.now y out.old }
+    ensures { Marked (counts_in given.now) links.now (y + 1) out.new }
 {
     let mut at = 16 * y;
     let end = at + given[3][y] as usize;
@@ -37,7 +37,7 @@ fn mark_links(given: &[[u16; 128]; 5], links: &[u8; 2048], out: &mut [u16; 128],
 // The jobs that a job with a higher number must not be later than.
 pub fn tied_jobs(given: &[[u16; 128]; 5], links: &[u8; 2048]) -> [u16; 128]
     requires { Packed given.now links.now }
-    ensures { Marked (countsIn given.now) links.now (jobsIn given.now) result }
+    ensures { Marked (counts_in given.now) links.now (jobs_in given.now) result }
 {
     let n = given[4][2] as usize;
     let mut out = [0u16; 128];
@@ -57,7 +57,7 @@ pub fn is_crowded(
     high: [u16; 128],
 ) -> bool
     requires { Packed given.now links.now }
-    ensures { result ≡ true → None (problemIn given.now links.now) (domains low high) }
+    ensures { result ≡ true → None (problem_in given.now links.now) (domains low high) }
 {
     let mut l = low;
     let mut h = high;
@@ -77,8 +77,8 @@ pub fn may(
     depth: u16,
 ) -> bool
     requires packed { Packed given.now links.now }
-    requires marked { Marked (countsIn given.now) links.now (jobsIn given.now) tied }
-    ensures { result ≡ false → None (problemIn given.now links.now) (domains low high) }
+    requires marked { Marked (counts_in given.now) links.now (jobs_in given.now) tied }
+    ensures { result ≡ false → None (problem_in given.now links.now) (domains low high) }
 {
     let n = given[4][2] as usize;
     let rows = given[4][0];

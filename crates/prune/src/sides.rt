@@ -1,7 +1,7 @@
 // Sides and rows: a job is sided if all its frames lie in one cycle; its rows are its frames less its side.
 ghost use Rattle.std.specs.Prelude.{◌≡◌, ◌≤◌};
-ghost use Rattle.exact.specs.Sided.{side_in, fromSide};
-ghost use Rattle.prune.specs.Arrays.{Filled, sideBy, row_by};
+ghost use Rattle.exact.specs.Sided.{side_in, from_side};
+ghost use Rattle.prune.specs.Arrays.{Filled, side_by, row_by};
 
 // The side of a job with these frames: 0, the number of rows, or 1024 if it is not sided.
 fn side_of(rows: u16, l: u16, h: u16) -> u16
@@ -22,7 +22,7 @@ fn side_of(rows: u16, l: u16, h: u16) -> u16
 
 // A frame as a row, counted from the side.
 fn from_side(side: u16, v: u16, away: u16) -> u16
-    ensures { result ≡ fromSide side v away }
+    ensures { result ≡ from_side side v away }
 {
     if side == 1024 {
         return away;
@@ -36,7 +36,7 @@ fn from_side(side: u16, v: u16, away: u16) -> u16
 // The sides of n jobs.
 pub(super) fn sides_of(low: &[u16; 128], high: &[u16; 128], n: usize, rows: u16) -> [u16; 128]
     requires { (n ≤ 128) × (rows ≤ 256) }
-    ensures { Filled (sideBy rows low.now high.now) n result }
+    ensures { Filled (side_by rows low.now high.now) n result }
 {
     let mut out = [0u16; 128];
     let mut i = 0;

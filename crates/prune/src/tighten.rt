@@ -1,6 +1,6 @@
 // Domains tightened by the links: for each job the frames from `low` to before `high`. What they leave out is no placing.
 ghost use Rattle.std.specs.Prelude.{◌≡◌, true, ◌≤◌, ◌<◌};
-ghost use Rattle.searcher.specs.Arrays.{jobsIn, problemIn};
+ghost use Rattle.searcher.specs.Arrays.{jobs_in, problem_in};
 ghost use Rattle.prune.specs.Arrays.{Packed, domains, raised, lowered, Tied, Linked, Tightened, Empty};
 
 fn either(a: bool, b: bool) -> bool {
@@ -66,8 +66,8 @@ fn tie_links(
     i: usize,
 ) -> bool
     requires packed { Packed given.now links.now }
-    requires i_bound { i < jobsIn given.now }
-    ensures { Tightened (problemIn given.now links.now)
+    requires i_bound { i < jobs_in given.now }
+    ensures { Tightened (problem_in given.now links.now)
         (domains low.old high.old) (domains low.new high.new) }
 {
     let mut at = 16 * i;
@@ -89,7 +89,7 @@ fn pass(
     high: &mut [u16; 128],
 ) -> bool
     requires { Packed given.now links.now }
-    ensures { Tightened (problemIn given.now links.now)
+    ensures { Tightened (problem_in given.now links.now)
         (domains low.old high.old) (domains low.new high.new) }
 {
     let n = given[4][2] as usize;
@@ -111,7 +111,7 @@ pub(super) fn tighten(
     high: &mut [u16; 128],
 )
     requires { Packed given.now links.now }
-    ensures { Tightened (problemIn given.now links.now)
+    ensures { Tightened (problem_in given.now links.now)
         (domains low.old high.old) (domains low.new high.new) }
 {
     let mut k: u8 = 0;

@@ -3,7 +3,7 @@ use Rattle.std.specs.Prelude.{ℕ, ◌+◌, ◌-◌, ◌*◌, List, length, repl
 use Rattle.cursor.specs.Parsed.{Parsed, got, refused}
 use Rattle.cursor.specs.Widths.{located}
 use Rattle.cursor.specs.Padded.{padded}
-use Rattle.request.specs.Request.{Reading, readable, unreadable, noTask, noPair}
+use Rattle.request.specs.Request.{Reading, readable, unreadable, no_task, no_pair}
 use Rattle.request.specs.declared.Task.{Task}
 use Rattle.request.specs.declared.Pair.{Pair}
 use Rattle.request.specs.declared.Request.{Request}
@@ -16,57 +16,57 @@ use Rattle.request.specs.declared.PairRead.{PairRead}
 use Rattle.request.specs.declared.PairRead.TheVariants.{OnePair, NoPair}
 
 -- a task of 8 bytes was read at a place, or refused
-abbrev pub taskRead : ℕ → Parsed Task → TaskRead
-taskRead at r = located OneTask NoTask 8 at r
+abbrev pub task_read : ℕ → Parsed Task → TaskRead
+task_read at r = located OneTask NoTask 8 at r
 
-abbrev pub taskNumber : TaskRead → ℕ
-taskNumber (OneTask x next) = 0
-taskNumber (NoTask number) = number
+abbrev pub task_number : TaskRead → ℕ
+task_number (OneTask x next) = 0
+task_number (NoTask number) = number
 
 -- a pair of 2 bytes
-abbrev pub pairRead : ℕ → Parsed Pair → PairRead
-pairRead at r = located OnePair NoPair 2 at r
+abbrev pub pair_read : ℕ → Parsed Pair → PairRead
+pair_read at r = located OnePair NoPair 2 at r
 
-abbrev pub pairNumber : PairRead → ℕ
-pairNumber (OnePair x next) = 0
-pairNumber (NoPair number) = number
+abbrev pub pair_number : PairRead → ℕ
+pair_number (OnePair x next) = 0
+pair_number (NoPair number) = number
 
 -- A section as an answer, which `answer` makes of the number of its refusal, its count, its records in 16 places and where it ends.
-abbrev pub sectionAnswer : {A R : Type 0} → (ℕ → ℕ → List A → ℕ → R) → A → ℕ → Parsed (List A) → R
-sectionAnswer answer blank width (got xs rest) = answer 0 (length xs) (padded 16 blank xs) (1 + width * length xs)
-sectionAnswer answer blank width (refused number) = answer number 0 (replicate 16 blank) 0
+abbrev pub section_answer : {A R : Type 0} → (ℕ → ℕ → List A → ℕ → R) → A → ℕ → Parsed (List A) → R
+section_answer answer blank width (got xs rest) = answer 0 (length xs) (padded 16 blank xs) (1 + width * length xs)
+section_answer answer blank width (refused number) = answer number 0 (replicate 16 blank) 0
 
-abbrev pub taskAnswer : ℕ → ℕ → List Task → ℕ → TaskSection
-taskAnswer number n tasks end = record { refusal = number; n = n; tasks = tasks; end = end }
+abbrev pub task_answer : ℕ → ℕ → List Task → ℕ → TaskSection
+task_answer number n tasks end = record { refusal = number; n = n; tasks = tasks; end = end }
 
-abbrev pub taskSection : Parsed (List Task) → TaskSection
-taskSection r = sectionAnswer taskAnswer noTask 8 r
+abbrev pub task_section : Parsed (List Task) → TaskSection
+task_section r = section_answer task_answer no_task 8 r
 
-abbrev pub pairAnswer : ℕ → ℕ → List Pair → ℕ → PairSection
-pairAnswer number m pairs end = record { refusal = number; m = m; pairs = pairs; end = end }
+abbrev pub pair_answer : ℕ → ℕ → List Pair → ℕ → PairSection
+pair_answer number m pairs end = record { refusal = number; m = m; pairs = pairs; end = end }
 
-abbrev pub pairSection : Parsed (List Pair) → PairSection
-pairSection r = sectionAnswer pairAnswer noPair 2 r
+abbrev pub pair_section : Parsed (List Pair) → PairSection
+pair_section r = section_answer pair_answer no_pair 2 r
 
-abbrev pub noTasks : ℕ → TaskSection
-noTasks number = taskSection (refused number)
+abbrev pub no_tasks : ℕ → TaskSection
+no_tasks number = task_section (refused number)
 
-abbrev pub noPairs : ℕ → PairSection
-noPairs number = pairSection (refused number)
+abbrev pub no_pairs : ℕ → PairSection
+no_pairs number = pair_section (refused number)
 
-abbrev pub noSilent : ℕ → SilentSection
-noSilent number = record { refusal = number; g = 0; end = 0 }
+abbrev pub no_silent : ℕ → SilentSection
+no_silent number = record { refusal = number; g = 0; end = 0 }
 
 -- the third section of some bytes, which ends where the bytes behind it begin
-abbrev pub silentSection : List ℕ → Parsed ℕ → SilentSection
-silentSection bytes (got g rest) = record { refusal = 0; g = g; end = length bytes - length rest }
-silentSection bytes (refused number) = noSilent number
+abbrev pub silent_section : List ℕ → Parsed ℕ → SilentSection
+silent_section bytes (got g rest) = record { refusal = 0; g = g; end = length bytes - length rest }
+silent_section bytes (refused number) = no_silent number
 
 abbrev pub unread : ℕ → Request
-unread number = record { refusal = number; n = 0; tasks = replicate 16 noTask; m = 0; pairs = replicate 16 noPair; g = 0 }
+unread number = record { refusal = number; n = 0; tasks = replicate 16 no_task; m = 0; pairs = replicate 16 no_pair; g = 0 }
 
 -- the reading of a request as the function's answer
-abbrev pub requestAnswered : Reading → Request
-requestAnswered (readable tasks pairs g) =
-    record { refusal = 0; n = length tasks; tasks = padded 16 noTask tasks; m = length pairs; pairs = padded 16 noPair pairs; g = g }
-requestAnswered (unreadable number) = unread number
+abbrev pub request_answered : Reading → Request
+request_answered (readable tasks pairs g) =
+    record { refusal = 0; n = length tasks; tasks = padded 16 no_task tasks; m = length pairs; pairs = padded 16 no_pair pairs; g = g }
+request_answered (unreadable number) = unread number

@@ -8,16 +8,16 @@ use Rattle.std.proofs.Math.ListN.{get_or-append}
 use Rattle.std.proofs.Math.Seq.{get_or-append_seam}
 use borrow.Author.Tests.{lt-ltb, le-ltb}
 use Rattle.cursor.specs.Parsed.{Parsed, got, refused, then, records}
-use Rattle.cursor.specs.ChoiceLaws.{lt-or-ge}
+use Rattle.cursor.specs.ChoiceLaws.{lt_or_ge}
 use Rattle.cursor.specs.Fields.{byte_of, word_of}
-use Rattle.cursor.specs.FieldLaws.{byte-here, byte-none, word-here, word_none}
+use Rattle.cursor.specs.FieldLaws.{byte_here, byte_none, word_here, word_none}
 use Rattle.request.specs.Request.{section}
 use Rattle.request.specs.Exactly.{
   Place,
-  task-count,
-  pair-count,
-  silent-count,
-  silent-ticks,
+  task_count_lem,
+  pair_count_lem,
+  silent_count,
+  silent_ticks,
   the_end,
   task,
   pair,
@@ -34,24 +34,24 @@ module _ (s : List ℕ) where
   -- The place whose bytes a byte is one of.
   unfoldable pub find : ℕ → Place
   find x =
-      cond (ltb x 1) task-count
+      cond (ltb x 1) task_count_lem
       (cond (ltb x (second s)) (task ((x - 1) / 8))
-      (cond (ltb x (second s + 1)) pair-count
+      (cond (ltb x (second s + 1)) pair_count_lem
       (cond (ltb x (third s)) (pair ((x - (second s + 1)) / 2))
-      (cond (ltb x (third s + 1)) silent-count
-      (cond (ltb x (third s + 1 + byte s (third s))) silent-ticks the_end)))))
+      (cond (ltb x (third s + 1)) silent_count
+      (cond (ltb x (third s + 1 + byte s (third s))) silent_ticks the_end)))))
 
-  find-within : (p : Place) → (field s p).There → (x : ℕ) → (field s p).at ≤ x → x < (field s p).at + (field s p).size → find x ≡ p
+  find_within : (p : Place) → (field s p).There → (x : ℕ) → (field s p).at ≤ x → x < (field s p).at + (field s p).size → find x ≡ p
   unfolding find
-  find-within task-count here x low high = rw (lt-ltb x 1 high)
-  find-within (task i) here x low high =
+  find_within task_count_lem here x low high = rw (lt-ltb x 1 high)
+  find_within (task i) here x low high =
       let place : (x - 1) / 8 ≡ i = omega arith in
       rw (le-ltb x 1 (omega arith), lt-ltb x (second s) (omega arith), place)
-  find-within pair-count here x low high = rw (le-ltb x 1 (omega arith), le-ltb x (second s) low, lt-ltb x (second s + 1) high)
-  find-within (pair j) here x low high =
+  find_within pair_count_lem here x low high = rw (le-ltb x 1 (omega arith), le-ltb x (second s) low, lt-ltb x (second s + 1) high)
+  find_within (pair j) here x low high =
       let place : (x - (second s + 1)) / 2 ≡ j = omega arith in
       rw (le-ltb x 1 (omega arith), le-ltb x (second s) (omega arith), le-ltb x (second s + 1) (omega arith), lt-ltb x (third s) (omega arith), place)
-  find-within silent-count here x low high =
+  find_within silent_count here x low high =
       rw (
         le-ltb x 1 (omega arith),
         le-ltb x (second s) (omega arith),
@@ -59,7 +59,7 @@ module _ (s : List ℕ) where
         le-ltb x (third s) low,
         lt-ltb x (third s + 1) high,
       )
-  find-within silent-ticks here x low high =
+  find_within silent_ticks here x low high =
       rw (
         le-ltb x 1 (omega arith),
         le-ltb x (second s) (omega arith),
@@ -68,11 +68,11 @@ module _ (s : List ℕ) where
         le-ltb x (third s + 1) low,
         lt-ltb x (third s + 1 + byte s (third s)) (omega (arith, here.1)),
       )
-  find-within the_end here x low high = absurd (omega arith)
+  find_within the_end here x low high = absurd (omega arith)
 
-  pub find-end : (x : ℕ) → (field s the_end).at ≤ x → find x ≡ the_end
+  pub find_end : (x : ℕ) → (field s the_end).at ≤ x → find x ≡ the_end
   unfolding find
-  find-end x low =
+  find_end x low =
       rw (
         le-ltb x 1 (omega arith),
         le-ltb x (second s) (omega arith),
@@ -84,13 +84,13 @@ module _ (s : List ℕ) where
 
   -- a place is the one at its first byte
   pub found : (p : Place) → (field s p).There → find (field s p).at ≡ p
-  found task-count here = find-within task-count here _ (omega arith) (omega arith)
-  found (task i) here = find-within (task i) here _ (omega arith) (omega arith)
-  found pair-count here = find-within pair-count here _ (omega arith) (omega arith)
-  found (pair j) here = find-within (pair j) here _ (omega arith) (omega arith)
-  found silent-count here = find-within silent-count here _ (omega arith) (omega arith)
-  found silent-ticks here = find-within silent-ticks here _ (omega arith) (omega arith)
-  found the_end here = find-end _ (omega arith)
+  found task_count_lem here = find_within task_count_lem here _ (omega arith) (omega arith)
+  found (task i) here = find_within (task i) here _ (omega arith) (omega arith)
+  found pair_count_lem here = find_within pair_count_lem here _ (omega arith) (omega arith)
+  found (pair j) here = find_within (pair j) here _ (omega arith) (omega arith)
+  found silent_count here = find_within silent_count here _ (omega arith) (omega arith)
+  found silent_ticks here = find_within silent_ticks here _ (omega arith) (omega arith)
+  found the_end here = find_end _ (omega arith)
 
   -- all places that begin before a byte are kept
   abbrev pub KeptBelow : ℕ → Type 0
@@ -103,8 +103,8 @@ module _ (s : List ℕ) where
   pub kept_more : (p : Place) → (field s p).There → KeptBelow (field s p).at → Kept s p → KeptBelow ((field s p).at + (field s p).size)
   kept_more p here below kept q there low =
       ⊎_elim (λ l. below q there l)
-      (λ h. subst (Kept s) (sym (find-within p here (field s q).at h low) ∙ found q there) kept)
-      (lt-or-ge (field s q).at (field s p).at)
+      (λ h. subst (Kept s) (sym (find_within p here (field s q).at h low) ∙ found q there) kept)
+      (lt_or_ge (field s q).at (field s p).at)
 
   -- A step of the reader stops at a place with its number, or goes on from byte a with a value, and all places before are kept.
   pub data Step {A : Type 0} (a : ℕ) (Value : A → Type 0) (r : Parsed A) : Type 0 where
@@ -113,11 +113,11 @@ module _ (s : List ℕ) where
 
   -- what a place gives where its bytes are cut, and where they break its rule
   module _ (p : Place) (here : (field s p).There) (below : KeptBelow (field s p).at) where
-    pub cut-here : length s < (field s p).at + (field s p).size → Stops s 1
-    cut-here h = record { place = p; there = here; before = below; gives = inl (h, refl) }
+    pub cut_here : length s < (field s p).at + (field s p).size → Stops s 1
+    cut_here h = record { place = p; there = here; before = below; gives = inl (h, refl) }
 
-    pub broken-here : (field s p).at + (field s p).size ≤ length s → ((field s p).Rule → ⊥) → Stops s (field s p).number
-    broken-here h bad = record { place = p; there = here; before = below; gives = inr (λ cut. omega arith, bad, refl) }
+    pub broken_here : (field s p).at + (field s p).size ≤ length s → ((field s p).Rule → ⊥) → Stops s (field s p).number
+    broken_here h bad = record { place = p; there = here; before = below; gives = inr (λ cut. omega arith, bad, refl) }
 
     pub kept_here : (field s p).at + (field s p).size ≤ length s → (field s p).Rule → KeptBelow ((field s p).at + (field s p).size)
     kept_here h good = kept_more p here below (record { whole = λ cut. omega arith; rule = good })
@@ -157,8 +157,8 @@ module _ (s : List ℕ) where
         go r (stops number at is) more = stops number at (rw is)
         go r (goes kept x v is) more = rw is (more x v kept)
 
-    all-records : KeptBelow start → Step (start + width * total) (Filled blank value total) (records one total [] (drop start s))
-    all-records below =
+    all_records : KeptBelow start → Step (start + width * total) (Filled blank value total) (records one total [] (drop start s))
+    all_records below =
         let first : start + width * 0 ≡ start = omega arith in
         rw first at (run total 0 (omega arith) [] (refl, λ i h. absurd (omega arith)) (rw first below))
 
@@ -166,17 +166,17 @@ module _ (s : List ℕ) where
   module _ {A : Type 0} (test : ℕ → Bool) (one : List ℕ → Parsed A) (number : ℕ) (blank : A) (value : ℕ → A) (start width : ℕ)
       (step : (i : ℕ) → i < byte s start → KeptBelow (start + 1 + width * i)
       → Step (start + 1 + width * suc i) (λ x. x ≡ value i) (one (drop (start + 1 + width * i) s))) where
-    pub section-step : (length s ≤ start → Stops s 1) → (start < length s → test (byte s start) ≡ false → Stops s number)
+    pub section_step : (length s ≤ start → Stops s 1) → (start < length s → test (byte s start) ≡ false → Stops s number)
         → (start < length s → test (byte s start) ≡ true → KeptBelow (start + 1))
         → Step (start + 1 + width * byte s start) (Filled blank value (byte s start)) (section test one number (drop start s))
-    section-step cut bad good = go (lt-or-ge start (length s))
+    section_step cut bad good = go (lt_or_ge start (length s))
       where
         judged : start < length s → (t : Bool) → test (byte s start) ≡ t
             → Step (start + 1 + width * byte s start) (Filled blank value (byte s start)) (cond t (records one (byte s start) [] (drop (start + 1) s)) (refused number))
-        judged h true e = all-records one blank value (start + 1) width (byte s start) step (good h e)
+        judged h true e = all_records one blank value (start + 1) width (byte s start) step (good h e)
         judged h false e = stops number (bad h e) refl
 
         go : (start < length s) ⊎ (length s ≤ start)
             → Step (start + 1 + width * byte s start) (Filled blank value (byte s start)) (section test one number (drop start s))
-        go (inl h) = rw (byte-here 1 s start h) (judged h (test (byte s start)) refl)
-        go (inr h) = stops 1 (cut h) (rw (byte-none 1 s start h))
+        go (inl h) = rw (byte_here 1 s start h) (judged h (test (byte s start)) refl)
+        go (inr h) = stops 1 (cut h) (rw (byte_none 1 s start h))

@@ -1,6 +1,6 @@
 -- What a readable request keeps: the form under 01's "Request file", as facts; and which numbers a refusal has.
 use Rattle.std.specs.Prelude.{ℕ, ◌≤◌, ◌<◌, ◌≡◌, List, ◌⊎◌, length, get_or}
-use Rattle.request.specs.Request.{noTask, noPair, periodOf, Reading, readable, unreadable}
+use Rattle.request.specs.Request.{no_task, no_pair, period_of, Reading, readable, unreadable}
 use Rattle.request.specs.declared.Task.{Task}
 use Rattle.request.specs.declared.Pair.{Pair}
 
@@ -15,14 +15,14 @@ pub record TaskKept (x : Task) : Type 0 where
 pub record PairKept (tasks : List Task) (q : Pair) : Type 0 where
   pub rises : q.a < q.b
   pub known : q.b < length tasks
-  pub period : periodOf tasks q.a ≡ periodOf tasks q.b
+  pub period : period_of tasks q.a ≡ period_of tasks q.b
 
 pub record Readable (tasks : List Task) (pairs : List Pair) : Type 0 where
-  pub some-task : 1 ≤ length tasks
-  pub few-tasks : length tasks ≤ 16
-  pub few-pairs : length pairs ≤ 16
-  pub task : (i : ℕ) → i < length tasks → TaskKept (get_or tasks i noTask)
-  pub pair : (u : ℕ) → u < length pairs → PairKept tasks (get_or pairs u noPair)
+  pub some_task : 1 ≤ length tasks
+  pub few_tasks : length tasks ≤ 16
+  pub few_pairs : length pairs ≤ 16
+  pub task : (i : ℕ) → i < length tasks → TaskKept (get_or tasks i no_task)
+  pub pair : (u : ℕ) → u < length pairs → PairKept tasks (get_or pairs u no_pair)
 
 -- The number of a refusal is from 1 to 6, or 17.
 abbrev pub UnreadNumber : ℕ → Type 0

@@ -4,13 +4,13 @@ use Rattle.std.specs.Prelude.{ℕ, ◌+◌, ◌≤◌, ◌≡◌, refl, List, dr
 use Rattle.std.proofs.Common.{arith}
 use Rattle.cursor.specs.Parsed.{got, refused}
 use Rattle.cursor.specs.Fields.{byte_of, word_of, byte_at, word_at}
-use Rattle.cursor.specs.FieldLaws.{byte-taken, word-taken}
-use Rattle.cursor.specs.Widths.{Wide, byte-wide, word_wide, then-wide, rule-wide, Told, a-record, a-number, record-taken, record-refused}
+use Rattle.cursor.specs.FieldLaws.{byte_taken, word_taken}
+use Rattle.cursor.specs.Widths.{Wide, byte_wide, word_wide, then_wide, rule_wide, Told, a_record, a_number, record_taken, record_refused}
 use Rattle.cursor.specs.declared.Cursor.{Cursor}
 use Rattle.cursor.specs.declared.ByteRead.TheVariants.{Byte}
 use Rattle.cursor.specs.declared.WordRead.TheVariants.{Word}
-use Rattle.request.specs.Request.{task_of, judgedTask, taskRule, pair_of, judgedPair, pairRule}
-use Rattle.request.specs.Answers.{taskRead, pairRead}
+use Rattle.request.specs.Request.{task_of, judged_task, task_rule, pair_of, judged_pair, pair_rule}
+use Rattle.request.specs.Answers.{task_read, pair_read}
 use Rattle.request.specs.declared.Task.{Task}
 use Rattle.request.specs.declared.Pair.{Pair}
 use Rattle.request.specs.declared.TaskRead.{TaskRead}
@@ -25,71 +25,71 @@ TaskNumber number = (1 ≤ number) × (number ≤ 3)
 abbrev pub PairNumber : ℕ → Type 0
 PairNumber number = (1 ≤ number) × (number ≤ 5)
 
-pub task-wide : (bytes : List ℕ) → Wide TaskNumber 8 bytes (task_of bytes)
-unfolding task_of judgedTask
-task-wide bytes =
+pub task_wide : (bytes : List ℕ) → Wide TaskNumber 8 bytes (task_of bytes)
+unfolding task_of judged_task
+task_wide bytes =
     let word = word_wide TaskNumber 1 (omega arith) in
-    then-wide TaskNumber 2 6 bytes (word_of 1 bytes) _ (word bytes) (λ c rest.
-    then-wide TaskNumber 2 4 rest (word_of 1 rest) _ (word rest) (λ t rest.
-    then-wide TaskNumber 2 2 rest (word_of 1 rest) _ (word rest) (λ d rest.
-    then-wide TaskNumber 2 0 rest (word_of 1 rest) _ (word rest) (λ p rest.
-    rule-wide TaskNumber (taskRule (record { c = c; t = t; d = d; p = p })) _ rest 3 (omega arith)))))
+    then_wide TaskNumber 2 6 bytes (word_of 1 bytes) _ (word bytes) (λ c rest.
+    then_wide TaskNumber 2 4 rest (word_of 1 rest) _ (word rest) (λ t rest.
+    then_wide TaskNumber 2 2 rest (word_of 1 rest) _ (word rest) (λ d rest.
+    then_wide TaskNumber 2 0 rest (word_of 1 rest) _ (word rest) (λ p rest.
+    rule_wide TaskNumber (task_rule (record { c = c; t = t; d = d; p = p })) _ rest 3 (omega arith)))))
 
-pub pair-wide : (tasks : List Task) (bytes : List ℕ) → Wide PairNumber 2 bytes (pair_of tasks bytes)
-unfolding pair_of judgedPair
-pair-wide tasks bytes =
-    let byte = byte-wide PairNumber 1 (omega arith) in
-    then-wide PairNumber 1 1 bytes (byte_of 1 bytes) _ (byte bytes) (λ a rest.
-    then-wide PairNumber 1 0 rest (byte_of 1 rest) _ (byte rest) (λ b rest. rule-wide PairNumber (pairRule tasks a b) _ rest 5 (omega arith)))
+pub pair_wide : (tasks : List Task) (bytes : List ℕ) → Wide PairNumber 2 bytes (pair_of tasks bytes)
+unfolding pair_of judged_pair
+pair_wide tasks bytes =
+    let byte = byte_wide PairNumber 1 (omega arith) in
+    then_wide PairNumber 1 1 bytes (byte_of 1 bytes) _ (byte bytes) (λ a rest.
+    then_wide PairNumber 1 0 rest (byte_of 1 rest) _ (byte rest) (λ b rest. rule_wide PairNumber (pair_rule tasks a b) _ rest 5 (omega arith)))
 
 -- four words in a row are a task, which is judged
 module _ (s : List ℕ) (at : ℕ) {c t d p : ℕ} {k1 k2 k3 k4 : Cursor}
     (e1 : word_at s at ≡ Word c k1) (e2 : word_at s k1.at ≡ Word t k2) (e3 : word_at s k2.at ≡ Word d k3) (e4 : word_at s k3.at ≡ Word p k4) where
-  pub task-words : task_of (drop at s) ≡ judgedTask (record { c = c; t = t; d = d; p = p }) (drop k4.at s)
+  pub task_words : task_of (drop at s) ≡ judged_task (record { c = c; t = t; d = d; p = p }) (drop k4.at s)
   unfolding task_of
-  task-words =
-      simp ((word-taken 1 s at c k1 e1).field, (word-taken 1 s k1.at t k2 e2).field, (word-taken 1 s k2.at d k3 e3).field, (word-taken 1 s k3.at p k4 e4).field)
+  task_words =
+      simp ((word_taken 1 s at c k1 e1).field, (word_taken 1 s k1.at t k2 e2).field, (word_taken 1 s k2.at d k3 e3).field, (word_taken 1 s k3.at p k4 e4).field)
 
-  pub task-end : k4 ≡ record { at = at + 8 }
-  task-end =
-      let one = (word-taken 1 s at c k1 e1).moved in
-      let two = (word-taken 1 s k1.at t k2 e2).moved in
-      let three = (word-taken 1 s k2.at d k3 e3).moved in
-      let moved : k4.at ≡ at + 8 = omega (arith, one, two, three, (word-taken 1 s k3.at p k4 e4).moved) in
+  pub task_end : k4 ≡ record { at = at + 8 }
+  task_end =
+      let one = (word_taken 1 s at c k1 e1).moved in
+      let two = (word_taken 1 s k1.at t k2 e2).moved in
+      let three = (word_taken 1 s k2.at d k3 e3).moved in
+      let moved : k4.at ≡ at + 8 = omega (arith, one, two, three, (word_taken 1 s k3.at p k4 e4).moved) in
       λ i. record { at = moved i }
 
 -- two bytes in a row are a pair, which is judged
 module _ (s : List ℕ) (at : ℕ) {a b : ℕ} {k1 k2 : Cursor} (e1 : byte_at s at ≡ Byte a k1) (e2 : byte_at s k1.at ≡ Byte b k2) where
-  pub pair-bytes : (tasks : List Task) → pair_of tasks (drop at s) ≡ judgedPair tasks a b (drop k2.at s)
+  pub pair_bytes_lem : (tasks : List Task) → pair_of tasks (drop at s) ≡ judged_pair tasks a b (drop k2.at s)
   unfolding pair_of
-  pair-bytes tasks = simp ((byte-taken 1 s at a k1 e1).field, (byte-taken 1 s k1.at b k2 e2).field)
+  pair_bytes_lem tasks = simp ((byte_taken 1 s at a k1 e1).field, (byte_taken 1 s k1.at b k2 e2).field)
 
   pub pair_end : k2 ≡ record { at = at + 2 }
   pair_end =
-      let moved : k2.at ≡ at + 2 = omega (arith, (byte-taken 1 s at a k1 e1).moved, (byte-taken 1 s k1.at b k2 e2).moved) in
+      let moved : k2.at ≡ at + 2 = omega (arith, (byte_taken 1 s at a k1 e1).moved, (byte_taken 1 s k1.at b k2 e2).moved) in
       λ i. record { at = moved i }
 
 -- what the answer for a record tells
-abbrev taskTold : TaskRead → Told Task
-taskTold (OneTask x next) = a-record x next
-taskTold (NoTask number) = a-number number
+abbrev task_told : TaskRead → Told Task
+task_told (OneTask x next) = a_record x next
+task_told (NoTask number) = a_number number
 
-abbrev pairTold : PairRead → Told Pair
-pairTold (OnePair x next) = a-record x next
-pairTold (NoPair number) = a-number number
+abbrev pair_told : PairRead → Told Pair
+pair_told (OnePair x next) = a_record x next
+pair_told (NoPair number) = a_number number
 
 module _ (s : List ℕ) (at : ℕ) where
-  pub task-taken : {x : Task} {next : Cursor} → taskRead at (task_of (drop at s)) ≡ OneTask x next
+  pub task_taken : {x : Task} {next : Cursor} → task_read at (task_of (drop at s)) ≡ OneTask x next
       → (task_of (drop at s) ≡ got x (drop next.at s)) × (next.at ≡ at + 8)
-  task-taken = record-taken OneTask NoTask taskTold (λ x next. refl) (λ number. refl) 8 at s TaskNumber (task_of (drop at s)) (task-wide (drop at s)) _ _
+  task_taken = record_taken OneTask NoTask task_told (λ x next. refl) (λ number. refl) 8 at s TaskNumber (task_of (drop at s)) (task_wide (drop at s)) _ _
 
-  pub task-refused : {number : ℕ} → taskRead at (task_of (drop at s)) ≡ NoTask number → task_of (drop at s) ≡ refused number
-  task-refused = record-refused OneTask NoTask taskTold (λ x next. refl) (λ number. refl) 8 at s (task_of (drop at s)) _
+  pub task_refused : {number : ℕ} → task_read at (task_of (drop at s)) ≡ NoTask number → task_of (drop at s) ≡ refused number
+  task_refused = record_refused OneTask NoTask task_told (λ x next. refl) (λ number. refl) 8 at s (task_of (drop at s)) _
 
 module _ (tasks : List Task) (s : List ℕ) (at : ℕ) where
-  pub pair-taken : {x : Pair} {next : Cursor} → pairRead at (pair_of tasks (drop at s)) ≡ OnePair x next
+  pub pair_taken : {x : Pair} {next : Cursor} → pair_read at (pair_of tasks (drop at s)) ≡ OnePair x next
       → (pair_of tasks (drop at s) ≡ got x (drop next.at s)) × (next.at ≡ at + 2)
-  pair-taken = record-taken OnePair NoPair pairTold (λ x next. refl) (λ number. refl) 2 at s PairNumber (pair_of tasks (drop at s)) (pair-wide tasks (drop at s)) _ _
+  pair_taken = record_taken OnePair NoPair pair_told (λ x next. refl) (λ number. refl) 2 at s PairNumber (pair_of tasks (drop at s)) (pair_wide tasks (drop at s)) _ _
 
-  pub pair-refused : {number : ℕ} → pairRead at (pair_of tasks (drop at s)) ≡ NoPair number → pair_of tasks (drop at s) ≡ refused number
-  pair-refused = record-refused OnePair NoPair pairTold (λ x next. refl) (λ number. refl) 2 at s (pair_of tasks (drop at s)) _
+  pub pair_refused : {number : ℕ} → pair_read at (pair_of tasks (drop at s)) ≡ NoPair number → pair_of tasks (drop at s) ≡ refused number
+  pair_refused = record_refused OnePair NoPair pair_told (λ x next. refl) (λ number. refl) 2 at s (pair_of tasks (drop at s)) _

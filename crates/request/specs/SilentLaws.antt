@@ -11,70 +11,70 @@ use Rattle.cursor.specs.ParsedLaws.{never}
 use Rattle.cursor.specs.Fields.{byte_of}
 use Rattle.cursor.specs.FieldLaws.{ByteTaken}
 use Rattle.cursor.specs.declared.Cursor.{Cursor}
-use Rattle.request.specs.Request.{silentOf}
-use Rattle.request.specs.Answers.{noSilent, silentSection}
+use Rattle.request.specs.Request.{silent_of}
+use Rattle.request.specs.Answers.{no_silent, silent_section}
 
 -- the third section, read or refused with one of its numbers
 abbrev pub SilentRead : List ℕ → Parsed ℕ → Type 0
 SilentRead bytes (got g rest) = (g ≤ 15) × (length rest ≤ length bytes)
 SilentRead bytes (refused number) = (number ≡ 1) ⊎ (number ≡ 17)
 
-pub silent-number-pos : {number : ℕ} → (number ≡ 1) ⊎ (number ≡ 17) → 0 < number
-silent-number-pos (inl e) = omega arith
-silent-number-pos (inr e) = omega arith
+pub silent_number_pos : {number : ℕ} → (number ≡ 1) ⊎ (number ≡ 17) → 0 < number
+silent_number_pos (inl e) = omega arith
+silent_number_pos (inr e) = omega arith
 
-pub silent-section : (bytes : List ℕ) → SilentRead bytes (silentOf bytes)
-unfolding silentOf byte_of
-silent-section [] = (omega arith, omega arith)
-silent-section (zero ∷ rest) = (omega arith, omega arith)
-silent-section (suc zero ∷ []) = inl refl
-silent-section (suc zero ∷ (g ∷ rest)) = go (leb g 15) refl
+pub silent_section_lem : (bytes : List ℕ) → SilentRead bytes (silent_of bytes)
+unfolding silent_of byte_of
+silent_section_lem [] = (omega arith, omega arith)
+silent_section_lem (zero ∷ rest) = (omega arith, omega arith)
+silent_section_lem (suc zero ∷ []) = inl refl
+silent_section_lem (suc zero ∷ (g ∷ rest)) = go (leb g 15) refl
   where
     go : (b : Bool) → leb g 15 ≡ b → SilentRead (1 ∷ g ∷ rest) (cond b (got g rest) (refused 17))
     go true e = (leb-true g 15 e, omega arith)
     go false e = inr refl
-silent-section (suc (suc n) ∷ rest) = inr refl
+silent_section_lem (suc (suc n) ∷ rest) = inr refl
 
 -- The ways out of the section's reader: no byte is left,
-pub silent-none : (s : List ℕ) → length s ≤ 0 → noSilent 0 ≡ silentSection s (silentOf s)
-unfolding silentOf
-silent-none [] h = refl
-silent-none (n ∷ rest) h = absurd (omega arith)
+pub silent_none : (s : List ℕ) → length s ≤ 0 → no_silent 0 ≡ silent_section s (silent_of s)
+unfolding silent_of
+silent_none [] h = refl
+silent_none (n ∷ rest) h = absurd (omega arith)
 
 -- a part of the bytes ends where those behind it begin
-part-ends : (s : List ℕ) (k : ℕ) → k ≤ length s → length s - length (drop k s) ≡ k
-part-ends s k h = rw length-drop (omega arith)
+part_ends : (s : List ℕ) (k : ℕ) → k ≤ length s → length s - length (drop k s) ≡ k
+part_ends s k h = rw length-drop (omega arith)
 
 -- its count n is above 1 or 0,
 module _ (s : List ℕ) (n : ℕ) (start : Cursor) (count : ByteTaken 1 s 0 n start) where
-  counted : silentOf s ≡ silentOf (n ∷ drop start.at s)
+  counted : silent_of s ≡ silent_of (n ∷ drop start.at s)
   unfolding byte_of
   counted = go s count.field
     where
-      go : (l : List ℕ) → byte_of 1 l ≡ got n (drop start.at s) → silentOf l ≡ silentOf (n ∷ drop start.at s)
+      go : (l : List ℕ) → byte_of 1 l ≡ got n (drop start.at s) → silent_of l ≡ silent_of (n ∷ drop start.at s)
       go [] f = absurd (never (cc))
       go (x ∷ l) f = cc
 
-  pub silent-many : 1 < n → noSilent 17 ≡ silentSection s (silentOf s)
-  unfolding silentOf
-  silent-many h = let two : n ≡ suc (suc (n - 2)) = omega arith in rw (counted, two)
+  pub silent_many : 1 < n → no_silent 17 ≡ silent_section s (silent_of s)
+  unfolding silent_of
+  silent_many h = let two : n ≡ suc (suc (n - 2)) = omega arith in rw (counted, two)
 
-  pub silent-no-byte : n ≡ 0 → record { refusal = 0; g = 0; end = start.at } ≡ silentSection s (silentOf s)
-  unfolding silentOf
-  silent-no-byte z = rw (counted, z) (rw (part-ends s start.at (omega (arith, count.moved, count.within))))
+  pub silent_no_byte : n ≡ 0 → record { refusal = 0; g = 0; end = start.at } ≡ silent_section s (silent_of s)
+  unfolding silent_of
+  silent_no_byte z = rw (counted, z) (rw (part_ends s start.at (omega (arith, count.moved, count.within))))
 
   -- or the count is 1, and the byte behind it is missing, above 15 or g
   module _ (most : n ≤ 1) (some : n ≡ 0 → ⊥) where
-    byte_next : silentOf s ≡ then (byte_of 1 (drop start.at s)) (λ g rest. cond (leb g 15) (got g rest) (refused 17))
-    unfolding silentOf
+    byte_next : silent_of s ≡ then (byte_of 1 (drop start.at s)) (λ g rest. cond (leb g 15) (got g rest) (refused 17))
+    unfolding silent_of
     byte_next = let one : n ≡ 1 = omega arith in rw (counted, one)
 
-    pub silent-missing : byte_of 1 (drop start.at s) ≡ refused 1 → noSilent 1 ≡ silentSection s (silentOf s)
-    silent-missing none = rw (byte_next, none)
+    pub silent_missing : byte_of 1 (drop start.at s) ≡ refused 1 → no_silent 1 ≡ silent_section s (silent_of s)
+    silent_missing none = rw (byte_next, none)
 
     module _ (g : ℕ) (behind : Cursor) (byte : ByteTaken 1 s start.at g behind) where
-      pub silent-above : 15 < g → noSilent 17 ≡ silentSection s (silentOf s)
-      silent-above h = rw (byte_next, byte.field, lt-leb g 15 h)
+      pub silent_above : 15 < g → no_silent 17 ≡ silent_section s (silent_of s)
+      silent_above h = rw (byte_next, byte.field, lt-leb g 15 h)
 
-      pub silent-given : g ≤ 15 → record { refusal = 0; g = g; end = behind.at } ≡ silentSection s (silentOf s)
-      silent-given h = rw (byte_next, byte.field, le-leb g 15 h) (rw (part-ends s behind.at (omega (arith, byte.moved, byte.within))))
+      pub silent_given : g ≤ 15 → record { refusal = 0; g = g; end = behind.at } ≡ silent_section s (silent_of s)
+      silent_given h = rw (byte_next, byte.field, le-leb g 15 h) (rw (part_ends s behind.at (omega (arith, byte.moved, byte.within))))

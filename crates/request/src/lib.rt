@@ -3,8 +3,8 @@
 pub mod write;
 
 ghost use Rattle.std.specs.Prelude.{◌≡◌, ◌≤◌, take, drop, length};
-ghost use Rattle.request.specs.Request.{taskRule, pairRule, task_of, pair_of, tasksOf, pairsOf, silentOf, reading};
-ghost use Rattle.request.specs.Answers.{taskRead, pairRead, taskNumber, pairNumber, noTasks, noPairs, noSilent, taskSection, pairSection, silentSection, unread, requestAnswered};
+ghost use Rattle.request.specs.Request.{task_rule, pair_rule, task_of, pair_of, tasks_of, pairs_of, silent_of, reading};
+ghost use Rattle.request.specs.Answers.{task_read, pair_read, task_number, pair_number, no_tasks, no_pairs, no_silent, task_section, pair_section, silent_section, unread, request_answered};
 
 use cursor::{ByteRead, Cursor, WordRead};
 
@@ -74,7 +74,7 @@ struct SilentSection {
 
 // 1 ≤ C ≤ D ≤ T and P < T.
 fn keeps_task_rule(x: Task) -> bool
-    ensures { result ≡ taskRule x }
+    ensures { result ≡ task_rule x }
 {
     if x.c < 1 {
         return false;
@@ -92,7 +92,7 @@ fn keeps_task_rule(x: Task) -> bool
 }
 
 fn read_task(s: &[u8], from: Cursor) -> TaskRead
-    ensures { result ≡ taskRead from.at (task_of (drop from.at s.now)) }
+    ensures { result ≡ task_read from.at (task_of (drop from.at s.now)) }
 {
     let WordRead::Word(c, after_c) = from.word(s) else {
         return TaskRead::NoTask(1);
@@ -115,7 +115,7 @@ fn read_task(s: &[u8], from: Cursor) -> TaskRead
 }
 
 fn number_of_task(r: TaskRead) -> u8
-    ensures { result ≡ taskNumber r }
+    ensures { result ≡ task_number r }
 {
     match r {
         TaskRead::OneTask(_, _) => 0,
@@ -124,7 +124,7 @@ fn number_of_task(r: TaskRead) -> u8
 }
 
 fn no_tasks(refusal: u8) -> TaskSection
-    ensures { result ≡ noTasks refusal }
+    ensures { result ≡ no_tasks refusal }
 {
     TaskSection {
         refusal,
@@ -141,7 +141,7 @@ fn no_tasks(refusal: u8) -> TaskSection
 
 // The first section, from the front of s.
 fn read_tasks(s: &[u8]) -> TaskSection
-    ensures { result ≡ taskSection (tasksOf s.now) }
+    ensures { result ≡ task_section (tasks_of s.now) }
 {
     let front = Cursor { at: 0 };
     let ByteRead::Byte(count, start) = front.byte(s) else {
@@ -182,7 +182,7 @@ fn read_tasks(s: &[u8]) -> TaskSection
 // a < b < n and equal T.
 fn keeps_pair_rule(tasks: [Task; 16], n: usize, a: u8, b: u8) -> bool
     requires { (n ≤ 16) × (length tasks ≡ 16) }
-    ensures { result ≡ pairRule (take n tasks) a b }
+    ensures { result ≡ pair_rule (take n tasks) a b }
 {
     let first = a as usize;
     let second = b as usize;
@@ -199,7 +199,7 @@ fn keeps_pair_rule(tasks: [Task; 16], n: usize, a: u8, b: u8) -> bool
 
 fn read_pair(s: &[u8], from: Cursor, tasks: [Task; 16], n: usize) -> PairRead
     requires { (n ≤ 16) × (length tasks ≡ 16) }
-    ensures { result ≡ pairRead from.at (pair_of (take n tasks) (drop from.at s.now)) }
+    ensures { result ≡ pair_read from.at (pair_of (take n tasks) (drop from.at s.now)) }
 {
     let ByteRead::Byte(a, after_a) = from.byte(s) else {
         return PairRead::NoPair(1);
@@ -215,7 +215,7 @@ fn read_pair(s: &[u8], from: Cursor, tasks: [Task; 16], n: usize) -> PairRead
 }
 
 fn number_of_pair(r: PairRead) -> u8
-    ensures { result ≡ pairNumber r }
+    ensures { result ≡ pair_number r }
 {
     match r {
         PairRead::OnePair(_, _) => 0,
@@ -224,7 +224,7 @@ fn number_of_pair(r: PairRead) -> u8
 }
 
 fn no_pairs(refusal: u8) -> PairSection
-    ensures { result ≡ noPairs refusal }
+    ensures { result ≡ no_pairs refusal }
 {
     PairSection {
         refusal,
@@ -237,7 +237,7 @@ fn no_pairs(refusal: u8) -> PairSection
 // The second section, from the front of s, for the tasks of the first.
 fn read_pairs(s: &[u8], tasks: [Task; 16], n: usize) -> PairSection
     requires { (n ≤ 16) × (length tasks ≡ 16) }
-    ensures { result ≡ pairSection (pairsOf (take n tasks) s.now) }
+    ensures { result ≡ pair_section (pairs_of (take n tasks) s.now) }
 {
     let front = Cursor { at: 0 };
     let ByteRead::Byte(count, start) = front.byte(s) else {
@@ -268,7 +268,7 @@ fn read_pairs(s: &[u8], tasks: [Task; 16], n: usize) -> PairSection
 }
 
 fn no_silent(refusal: u8) -> SilentSection
-    ensures { result ≡ noSilent refusal }
+    ensures { result ≡ no_silent refusal }
 {
     SilentSection {
         refusal,
@@ -279,7 +279,7 @@ fn no_silent(refusal: u8) -> SilentSection
 
 // The third section, from the front of s: the silent ticks, and 0 where it is left out.
 fn read_silent(s: &[u8]) -> SilentSection
-    ensures { result ≡ silentSection s.now (silentOf s.now) }
+    ensures { result ≡ silent_section s.now (silent_of s.now) }
 {
     let front = Cursor { at: 0 };
     let ByteRead::Byte(count, start) = front.byte(s) else {
@@ -328,7 +328,7 @@ fn refused(refusal: u8) -> Request
 
 // A request, or the number, from 1 to 6 or 17, that its bytes are refused with.
 pub fn read(s: &[u8]) -> Request
-    ensures { result ≡ requestAnswered (reading s.now) }
+    ensures { result ≡ request_answered (reading s.now) }
 {
     let first = read_tasks(s);
     if first.refusal != 0 {

@@ -2,8 +2,8 @@
 ghost use Rattle.std.specs.Prelude.{◌≡◌, ◌++◌, ◌+◌, ◌*◌, ◌≤◌, min, length, drop};
 ghost use Rattle.cursor.specs.Padded.{firsts};
 ghost use Rattle.cursor.specs.Pieces.{Placed};
-ghost use Rattle.request.specs.Request.{noTask, noPair};
-ghost use Rattle.request.specs.Encode.{taskBytes, pairBytes, sectionBytes, silentBytes, requestBytes};
+ghost use Rattle.request.specs.Request.{no_task, no_pair};
+ghost use Rattle.request.specs.Encode.{task_bytes, pair_bytes, section_bytes, silent_bytes, request_bytes};
 ghost use Rattle.cursor.specs.Written.{written, buffer};
 
 use crate::{Pair, Task};
@@ -11,7 +11,7 @@ use cursor::Written;
 
 fn write_task(out: &mut [u8], x: Task)
     requires { 8 ≤ length out.old }
-    ensures { out.new ≡ taskBytes x ++ drop 8 out.old }
+    ensures { out.new ≡ task_bytes x ++ drop 8 out.old }
 {
     cursor::put_word(out, 0, x.c);
     cursor::put_word(out, 2, x.t);
@@ -21,8 +21,8 @@ fn write_task(out: &mut [u8], x: Task)
 
 // The first section, at the front of `out`; answers the number of its bytes.
 fn write_tasks(out: &mut [u8], tasks: [Task; 16], n: usize) -> usize
-    requires { (n ≤ 16) × (length (sectionBytes taskBytes (firsts n noTask tasks)) ≤ length out.old) }
-    ensures { Placed (sectionBytes taskBytes (firsts n noTask tasks)) out.old out.new result }
+    requires { (n ≤ 16) × (length (section_bytes task_bytes (firsts n no_task tasks)) ≤ length out.old) }
+    ensures { Placed (section_bytes task_bytes (firsts n no_task tasks)) out.old out.new result }
 {
     out[0] = n as u8;
     let mut at: usize = 1;
@@ -38,8 +38,8 @@ fn write_tasks(out: &mut [u8], tasks: [Task; 16], n: usize) -> usize
 
 // The second section, at the front of `out`; answers the number of its bytes.
 fn write_pairs(out: &mut [u8], pairs: [Pair; 16], m: usize) -> usize
-    requires { (m ≤ 16) × (length (sectionBytes pairBytes (firsts m noPair pairs)) ≤ length out.old) }
-    ensures { Placed (sectionBytes pairBytes (firsts m noPair pairs)) out.old out.new result }
+    requires { (m ≤ 16) × (length (section_bytes pair_bytes (firsts m no_pair pairs)) ≤ length out.old) }
+    ensures { Placed (section_bytes pair_bytes (firsts m no_pair pairs)) out.old out.new result }
 {
     out[0] = m as u8;
     let mut at: usize = 1;
@@ -56,15 +56,15 @@ fn write_pairs(out: &mut [u8], pairs: [Pair; 16], m: usize) -> usize
 
 // The third section has two bytes; it is left out where g is 0.
 fn silent_length(g: u8) -> usize
-    ensures { result ≡ length (silentBytes g) }
+    ensures { result ≡ length (silent_bytes g) }
 {
     if g == 0 { 0 } else { 2 }
 }
 
 // The third section, at the front of `out`; answers the number of its bytes.
 fn write_silent(out: &mut [u8], g: u8) -> usize
-    requires { length (silentBytes g) ≤ length out.old }
-    ensures { Placed (silentBytes g) out.old out.new result }
+    requires { length (silent_bytes g) ≤ length out.old }
+    ensures { Placed (silent_bytes g) out.old out.new result }
 {
     let width = silent_length(g);
     if width == 0 {
@@ -84,8 +84,8 @@ fn write_sections(
     m: usize,
     g: u8,
 ) -> usize
-    requires { (n ≤ 16) × (m ≤ 16) × (length (requestBytes (firsts n noTask tasks) (firsts m noPair pairs) g) ≤ length out.old) }
-    ensures { Placed (requestBytes (firsts n noTask tasks) (firsts m noPair pairs) g) out.old out.new result }
+    requires { (n ≤ 16) × (m ≤ 16) × (length (request_bytes (firsts n no_task tasks) (firsts m no_pair pairs) g) ≤ length out.old) }
+    ensures { Placed (request_bytes (firsts n no_task tasks) (firsts m no_pair pairs) g) out.old out.new result }
 {
     let first = write_tasks(out, tasks, n);
     let second = write_pairs(&mut out[first..], pairs, m);
@@ -96,7 +96,7 @@ fn write_sections(
 
 fn request_length(n: usize, m: usize, g: u8) -> usize
     requires { (n ≤ 16) × (m ≤ 16) }
-    ensures { result ≡ 2 + 8 * n + 2 * m + length (silentBytes g) }
+    ensures { result ≡ 2 + 8 * n + 2 * m + length (silent_bytes g) }
 {
     2 + 8 * n + 2 * m + silent_length(g)
 }
@@ -110,8 +110,8 @@ pub fn write(
     g: u8,
     out: &mut [u8],
 ) -> Written
-    ensures { (result ≡ written (requestBytes (firsts (min n 16) noTask tasks) (firsts (min m 16) noPair pairs) g) out.old)
-        × (out.new ≡ buffer (requestBytes (firsts (min n 16) noTask tasks) (firsts (min m 16) noPair pairs) g) out.old) }
+    ensures { (result ≡ written (request_bytes (firsts (min n 16) no_task tasks) (firsts (min m 16) no_pair pairs) g) out.old)
+        × (out.new ≡ buffer (request_bytes (firsts (min n 16) no_task tasks) (firsts (min m 16) no_pair pairs) g) out.old) }
 {
     let count = arith::at_most(n, 16);
     let links = arith::at_most(m, 16);

@@ -2,15 +2,15 @@
 -- Nothing here names a definition of Rewritten: to be believed is this record, over what the check answers.
 use Rattle.std.specs.Prelude.{ℕ, ◌≤◌, ◌<◌, ◌≡◌, ◌↔◌, List, ◌++◌, length, drop}
 use Rattle.cursor.specs.declared.Written.{Written}
-use Rattle.checker.specs.Checked.{checkNumber}
+use Rattle.checker.specs.Checked.{check_number}
 
 -- of what a call answers, and of the buffer before and after it
 pub record RewriteExact (request bytes out : List ℕ) (answer : Written) (after : List ℕ) : Type 0 where
   -- "rewriting the check's and then 11"
-  pub check-first : (checkNumber request bytes ≡ 0 → ⊥) → answer.refusal ≡ checkNumber request bytes
+  pub check_first : (check_number request bytes ≡ 0 → ⊥) → answer.refusal ≡ check_number request bytes
   -- 11: "buffer shorter than the table"
-  pub eleven : (answer.refusal ≡ 11) ↔ ((checkNumber request bytes ≡ 0) × (length out < length bytes))
-  pub written : (answer.refusal ≡ 0) ↔ ((checkNumber request bytes ≡ 0) × (length bytes ≤ length out))
+  pub eleven : (answer.refusal ≡ 11) ↔ ((check_number request bytes ≡ 0) × (length out < length bytes))
+  pub written : (answer.refusal ≡ 0) ↔ ((check_number request bytes ≡ 0) × (length bytes ≤ length out))
   -- the same bytes; "bytes behind the table keep their old content. The answer holds the length."
   pub same_bytes : answer.refusal ≡ 0 → (answer.length ≡ length bytes) × (after ≡ bytes ++ drop (length bytes) out)
   -- "A refusal returns its number, length 0 .. and the buffer untouched."

@@ -2,15 +2,15 @@
 -- the chosen plan, and are written again as they are.
 use Rattle.std.specs.Prelude.{ℕ, ◌≤◌, ◌≡◌, List, ◌++◌, length, drop}
 use Rattle.cursor.specs.Padded.{padded}
-use Rattle.cycle.specs.Cycle.{cycleOf}
-use Rattle.cycle.specs.Answers.{cycleAnswered}
+use Rattle.cycle.specs.Cycle.{cycle_of}
+use Rattle.cycle.specs.Answers.{cycle_answered}
 use Rattle.table.specs.Table.{decode}
 use Rattle.model.specs.Plan.{Instance}
 use Rattle.model.specs.Within.{Within}
 use Rattle.model.specs.Chosen.{IsChosen}
-use Rattle.plan_writer.specs.Outcome.{outcomeAnswer, outcomeBuffer}
+use Rattle.plan_writer.specs.Outcome.{outcome_answer, outcome_buffer}
 use Rattle.checker.specs.Checked as checker
-use Rattle.checker.specs.Answers.{readAnswer}
+use Rattle.checker.specs.Answers.{read_answer}
 use Rattle.rewriter.specs.Rewritten.{rewritten}
 
 pub record ReadsBack (request bytes : List ℕ) : Type 0 where
@@ -19,13 +19,13 @@ pub record ReadsBack (request bytes : List ℕ) : Type 0 where
   pub within : Within request x
   pub f : ℕ
   pub frames : List ℕ
-  pub is-chosen : IsChosen x f frames
+  pub is_chosen : IsChosen x f frames
   -- `checker::check` answers 0
-  pub passes : checker.checkNumber request bytes ≡ 0
+  pub passes : checker.check_number request bytes ≡ 0
   -- `checker::read_plan` answers that plan, with the request's cycle
-  pub reads : readAnswer (cycleAnswered (cycleOf request)) (checker.checked (cycleOf request) (decode bytes))
-      ≡ record { refusal = 0; cycle = cycleAnswered (cycleOf request); f = f; frames = padded 128 0 frames }
+  pub reads : read_answer (cycle_answered (cycle_of request)) (checker.checked (cycle_of request) (decode bytes))
+      ≡ record { refusal = 0; cycle = cycle_answered (cycle_of request); f = f; frames = padded 128 0 frames }
   -- `rewriter::rewrite` writes the same bytes, and those behind them stay
   pub writes : (out : List ℕ) → length bytes ≤ length out
-      → (outcomeAnswer (rewritten request bytes) out ≡ record { refusal = 0; length = length bytes })
-      × (outcomeBuffer (rewritten request bytes) out ≡ bytes ++ drop (length bytes) out)
+      → (outcome_answer (rewritten request bytes) out ≡ record { refusal = 0; length = length bytes })
+      × (outcome_buffer (rewritten request bytes) out ≡ bytes ++ drop (length bytes) out)

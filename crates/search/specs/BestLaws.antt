@@ -12,7 +12,7 @@ use Rattle.std.proofs.Math.Nat.{add-zero}
 use Rattle.std.proofs.Math.ListN.{length, take, get_or, length-append, get_or-append}
 use Rattle.std.proofs.Math.Seq.{take-length, take_all, take-append_seam, get_or-append_seam}
 use Rattle.std.proofs.lemmas.List.{take-append-le}
-use Rattle.search.specs.Search.{Found, none, at, Walk, goOn, oneTry, walkFrames, walk}
+use Rattle.search.specs.Search.{Found, none, at, Walk, go_on, one_try, walk_frames, walk}
 use Rattle.search.specs.Best.{MayStand, Placing, Best}
 
 module _ (ok : List ℕ → ℕ → Bool) (lo cnt : ℕ → ℕ) where
@@ -28,18 +28,18 @@ module _ (ok : List ℕ → ℕ → Bool) (lo cnt : ℕ → ℕ) where
       sym (take-take (length p) (length (p ++ (k ∷ []))) q (omega (arith, length-append p (k ∷ []))))
       ∙ ap (take (length p)) e ∙ take-append_seam p (k ∷ [])
 
-  next-is : (p q : List ℕ) (k : ℕ) → take (length (p ++ (k ∷ []))) q ≡ p ++ (k ∷ []) → get_or q (length p) 0 ≡ k
-  next-is p q k e =
+  next_is : (p q : List ℕ) (k : ℕ) → take (length (p ++ (k ∷ []))) q ≡ p ++ (k ∷ []) → get_or q (length p) 0 ≡ k
+  next_is p q k e =
       sym (get_or-take (length (p ++ (k ∷ []))) q (length p) 0 (omega (arith, length-append p (k ∷ []))))
       ∙ ap (λ (l : List ℕ). get_or l (length p) 0) e ∙ get_or-append_seam p k [] 0
 
   -- one job more
-  pub placing-more : (p : List ℕ) (k : ℕ) → Placing ok lo cnt (length p) p → lo (length p) ≤ k → k < lo (length p) + cnt (length p) → ok p k ≡ true
+  pub placing_more : (p : List ℕ) (k : ℕ) → Placing ok lo cnt (length p) p → lo (length p) ≤ k → k < lo (length p) + cnt (length p) → ok p k ≡ true
       → Placing ok lo cnt (length (p ++ (k ∷ []))) (p ++ (k ∷ []))
-  placing-more p k g a b t = record { all = refl; each = λ i h. ⊎_elim (last i) (old i) (eq-or-lt_of_le (le-len i h)) }
+  placing_more p k g a b t = record { all = refl; each = λ i h. ⊎_elim (last i) (old i) (eq-or-lt_of_le (le_len i h)) }
     where
-      le-len : (i : ℕ) → i < length (p ++ (k ∷ [])) → i ≤ length p
-      le-len i h = omega (arith, length-append p (k ∷ []))
+      le_len : (i : ℕ) → i < length (p ++ (k ∷ [])) → i ≤ length p
+      le_len i h = omega (arith, length-append p (k ∷ []))
 
       old : (i : ℕ) → i < length p → MayStand ok lo cnt (p ++ (k ∷ [])) i
       old i l =
@@ -54,44 +54,44 @@ module _ (ok : List ℕ → ℕ → Bool) (lo cnt : ℕ → ℕ) where
 
   module _ (n : ℕ) (p : List ℕ) (more : length p < n) (s : List ℕ → Walk) where
     -- the next job in frame k, and then `rest`, where of the placings that begin with p none has an earlier frame there
-    frame-best : (k t : ℕ) (rest : Walk)
+    frame_best : (k t : ℕ) (rest : Walk)
         → (ok p k ≡ true → Best ok lo cnt n (p ++ (k ∷ [])) (s (p ++ (k ∷ []))).found)
         → ((q : List ℕ) → Placing ok lo cnt n q → take (length p) q ≡ p → k ≤ get_or q (length p) 0)
         → (((q : List ℕ) → Placing ok lo cnt n q → take (length p) q ≡ p → k + 1 ≤ get_or q (length p) 0) → Best ok lo cnt n p rest.found)
-        → Best ok lo cnt n p (goOn (oneTry (ok p k) (s (p ++ (k ∷ [])))).found t rest).found
-    unfolding Best goOn oneTry
-    frame-best k t rest ih below later = go (ok p k) refl
+        → Best ok lo cnt n p (go_on (one_try (ok p k) (s (p ++ (k ∷ [])))).found t rest).found
+    unfolding Best go_on one_try
+    frame_best k t rest ih below later = go (ok p k) refl
       where
         after : ((q : List ℕ) → Placing ok lo cnt n q → take (length p) q ≡ p → get_or q (length p) 0 ≡ k → ⊥) → Best ok lo cnt n p rest.found
         after never = later (λ q v e. ⊎_elim (λ h. absurd (never q v e (sym h))) (λ h. omega arith) (eq-or-lt_of_le (below q v e)))
 
-        found : (o : Found) → Best ok lo cnt n (p ++ (k ∷ [])) o → Best ok lo cnt n p (goOn o t rest).found
+        found : (o : Found) → Best ok lo cnt n (p ++ (k ∷ [])) o → Best ok lo cnt n p (go_on o t rest).found
         found none b = after (λ q v e h. b q v (extends p q k (omega (arith, v.all)) e h))
         found (at x) b = (
           b.0,
           shorter p x k b.1,
           λ q v e. ⊎_elim (λ h. b.2 q v (extends p q k (omega (arith, v.all)) e (sym h)))
-              (λ h. inr (record { place = length p; same = shorter p x k b.1 ∙ sym e; less = rw (next-is p x k b.1) h })) (eq-or-lt_of_le (below q v e)),
+              (λ h. inr (record { place = length p; same = shorter p x k b.1 ∙ sym e; less = rw (next_is p x k b.1) h })) (eq-or-lt_of_le (below q v e)),
         )
 
-        go : (b : Bool) → ok p k ≡ b → Best ok lo cnt n p (goOn (oneTry b (s (p ++ (k ∷ [])))).found t rest).found
+        go : (b : Bool) → ok p k ≡ b → Best ok lo cnt n p (go_on (one_try b (s (p ++ (k ∷ [])))).found t rest).found
         go true w = found (s (p ++ (k ∷ []))).found (ih w)
         go false w = after (λ q v e h.
             false≢true (sym w ∙ ap (ok p) (sym h) ∙ ap (λ (l : List ℕ). ok l (get_or q (length p) 0)) (sym e) ∙ (v.each (length p) more).may))
 
     -- the frames from k on, c of them
-    frames-best : ((k : ℕ) → lo (length p) ≤ k → k < lo (length p) + cnt (length p) → ok p k ≡ true
+    frames_best : ((k : ℕ) → lo (length p) ≤ k → k < lo (length p) + cnt (length p) → ok p k ≡ true
         → Best ok lo cnt n (p ++ (k ∷ [])) (s (p ++ (k ∷ []))).found)
         → (c k : ℕ) → lo (length p) ≤ k → k + c ≡ lo (length p) + cnt (length p)
         → ((q : List ℕ) → Placing ok lo cnt n q → take (length p) q ≡ p → k ≤ get_or q (length p) 0)
-        → Best ok lo cnt n p (walkFrames (λ k. oneTry (ok p k) (s (p ++ (k ∷ [])))) c k).found
-    unfolding Best walkFrames
-    frames-best ih zero k a w below = λ q v e.
+        → Best ok lo cnt n p (walk_frames (λ k. one_try (ok p k) (s (p ++ (k ∷ [])))) c k).found
+    unfolding Best walk_frames
+    frames_best ih zero k a w below = λ q v e.
         let h : get_or q (length p) 0 < lo (length p) + cnt (length p) = (v.each (length p) more).to in omega (arith, below q v e)
-    frames-best ih (suc c) k a w below =
-        frame-best k (oneTry (ok p k) (s (p ++ (k ∷ [])))).tries (walkFrames (λ k. oneTry (ok p k) (s (p ++ (k ∷ [])))) c (k + 1))
+    frames_best ih (suc c) k a w below =
+        frame_best k (one_try (ok p k) (s (p ++ (k ∷ [])))).tries (walk_frames (λ k. one_try (ok p k) (s (p ++ (k ∷ [])))) c (k + 1))
         (ih k a (omega arith)) below
-        (frames-best ih c (k + 1) (omega arith) (omega arith))
+        (frames_best ih c (k + 1) (omega arith) (omega arith))
 
   -- the search for the m jobs after those in p
   pub best : (m : ℕ) (p : List ℕ) → Placing ok lo cnt (length p) p → Best ok lo cnt (length p + m) p (walk ok lo cnt m p).found
@@ -100,7 +100,7 @@ module _ (ok : List ℕ → ℕ → Bool) (lo cnt : ℕ → ℕ) where
       (rw add-zero g, take-length p, λ q v e. inl (sym e ∙ take_all (length p) q (omega (arith, v.all))))
   best (suc m) p g =
       let longer : (k : ℕ) → length (p ++ (k ∷ [])) + m ≡ length p + suc m = λ k. omega (arith, length-append p (k ∷ [])) in
-      frames-best (length p + suc m) p (omega arith) (walk ok lo cnt m)
-      (λ k a b t. rw (longer k) at (best m (p ++ (k ∷ [])) (placing-more p k g a b t)))
+      frames_best (length p + suc m) p (omega arith) (walk ok lo cnt m)
+      (λ k a b t. rw (longer k) at (best m (p ++ (k ∷ [])) (placing_more p k g a b t)))
       (cnt (length p)) (lo (length p)) (omega arith) refl
       (λ q v e. (v.each (length p) (omega arith)).from)

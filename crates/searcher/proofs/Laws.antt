@@ -13,20 +13,20 @@ use lib.Seq.{length-take-le, take-suc, take-suc-set, take-take, take-set-le, dro
 use lib.Dec.{leb}
 use borrow.Author.Tests.{leb-true}
 use Rattle.cursor.specs.Padded.{padded}
-use Rattle.cursor.specs.PaddedLaws.{set-padded}
-use Rattle.search.specs.Search.{Found, none, at, Walk, goOn}
-use Rattle.search.specs.Counting.{on_none, on-found, one_more, attemptWalk, fromWalk, walk_end, walk_more, walk-all, walk-next, walk-may, walk-not}
-use Rattle.search.specs.Placing.{planWalk, Problem, linksAt, linksOf, partner, hasRoom, fits, fold, earliest, latest, Bounds, Linked, LoadsKept}
-use Rattle.search.specs.PlacingLaws.{put-loads, part, fold_end, fold_more, link-in, kept-between}
-use Rattle.search.specs.LoadLaws.{tested-by-load, fits-room}
+use Rattle.cursor.specs.PaddedLaws.{set_padded}
+use Rattle.search.specs.Search.{Found, none, at, Walk, go_on}
+use Rattle.search.specs.Counting.{on_none, on_found, one_more, attempt_walk, from_walk, walk_end, walk_more, walk_all, walk_next, walk_may, walk_not}
+use Rattle.search.specs.Placing.{plan_walk, Problem, links_at, links_of, partner, has_room, fits, fold, earliest, latest, Bounds, Linked, LoadsKept}
+use Rattle.search.specs.PlacingLaws.{put_loads, part, fold_end, fold_more, link_in, kept_between}
+use Rattle.search.specs.LoadLaws.{tested_by_load, fits_room}
 use Rattle.searcher.specs.Arrays.{LinksBack, Ready, Placing, Testing, number, Tried, TriedJob, TriedFrame}
 
 -- one number more in the first unused place
-pub one-stored : (xs : List ℕ) (j : ℕ) → j < length xs → j < 128 → set (padded 128 0 (take j xs)) j (get_or xs j 0) ≡ padded 128 0 (take (j + 1) xs)
-one-stored xs j h room =
+pub one_stored : (xs : List ℕ) (j : ℕ) → j < length xs → j < 128 → set (padded 128 0 (take j xs)) j (get_or xs j 0) ≡ padded 128 0 (take (j + 1) xs)
+one_stored xs j h room =
     let e : length (take j xs) ≡ j = length-take-le j xs (omega arith) in
     rw (add-one j, take-suc xs j 0 h)
-    (ap (λ (i : ℕ). set (padded 128 0 (take j xs)) i (get_or xs j 0)) (sym e) ∙ set-padded 128 0 (take j xs) (get_or xs j 0) (omega arith))
+    (ap (λ (i : ℕ). set (padded 128 0 (take j xs)) i (get_or xs j 0)) (sym e) ∙ set_padded 128 0 (take j xs) (get_or xs j 0) (omega arith))
 
 -- the loop over the links of job i: v is the bound so far, and with the links from place `at` on it becomes the whole bound
 pub record Bound (next : ℕ → ℕ → ℕ) (start : ℕ) (counts links : List ℕ) (i end at v : ℕ) : Type 0 where
@@ -35,17 +35,17 @@ pub record Bound (next : ℕ → ℕ → ℕ) (start : ℕ) (counts links : List
   pub stop : end ≡ 16 * i + get_or counts i 0
   pub room : end ≤ length links
   pub short : end ≤ 2048
-  pub same : fold next v (part at end links) ≡ fold next start (linksAt counts links i)
+  pub same : fold next v (part at end links) ≡ fold next start (links_at counts links i)
 
 module _ {next : ℕ → ℕ → ℕ} {start : ℕ} {counts links : List ℕ} {i : ℕ} (g : LinksBack counts links i) where
-  pub bound-start : Bound next start counts links i (16 * i + get_or counts i 0) (16 * i) start
-  bound-start =
+  pub bound_start : Bound next start counts links i (16 * i + get_or counts i 0) (16 * i) start
+  bound_start =
       let z : 16 * i + get_or counts i 0 - 16 * i ≡ get_or counts i 0 = omega arith in
-      record { begun = omega arith; most = omega arith; stop = refl; room = omega (arith, g.room, g.few); short = omega (arith, g.is-job, g.few); same = rw z }
+      record { begun = omega arith; most = omega arith; stop = refl; room = omega (arith, g.room, g.few); short = omega (arith, g.is_job, g.few); same = rw z }
 
   module _ {end at v : ℕ} (b : Bound next start counts links i end at v) where
-    pub bound-turn : at < end → Bound next start counts links i end (at + 1) (next v (get_or links at 0))
-    bound-turn h = record {
+    pub bound_turn : at < end → Bound next start counts links i end (at + 1) (next v (get_or links at 0))
+    bound_turn h = record {
       begun = omega (arith, b.begun);
       most = omega arith;
       stop = b.stop;
@@ -54,20 +54,20 @@ module _ {next : ℕ → ℕ → ℕ} {start : ℕ} {counts links : List ℕ} {i
       same = fold_more next links v at end h b.room ∙ b.same;
     }
 
-    pub bound-stop : end ≤ at → v ≡ fold next start (linksAt counts links i)
-    bound-stop h = sym (fold_end next links v at end h) ∙ b.same
+    pub bound_stop : end ≤ at → v ≡ fold next start (links_at counts links i)
+    bound_stop h = sym (fold_end next links v at end h) ∙ b.same
 
     -- the job that the next link names comes before job i
-    pub partner-before : at < end → partner (get_or links at 0) < i
-    partner-before t = g.back (get_or links at 0) (link-in counts links i at b.begun (omega (arith, b.stop)) (omega (arith, b.room)))
+    pub partner_before : at < end → partner (get_or links at 0) < i
+    partner_before t = g.back (get_or links at 0) (link_in counts links i at b.begun (omega (arith, b.stop)) (omega (arith, b.room)))
 
 -- the first entries have the links that all have
 module _ (counts links : List ℕ) (n i : ℕ) (more : i < n) (g : Linked (take n counts) (take (16 * n) links)) where
   few : get_or counts i 0 ≤ 16
   few = rw (get_or-take n counts i 0 more) at (g.few i)
 
-  pub same-links : linksAt (take n counts) (take (16 * n) links) i ≡ linksAt counts links i
-  same-links =
+  pub same_links : links_at (take n counts) (take (16 * n) links) i ≡ links_at counts links i
+  same_links =
       let c : ℕ = get_or counts i 0 in
       let from : ℕ = 16 * i in
       rw (get_or-take n counts i 0 more)
@@ -77,64 +77,64 @@ module _ (counts links : List ℕ) (n i : ℕ) (more : i < n) (g : Linked (take 
       (get_or-take (16 * n) links (from + j) 0 (omega (arith, few)))))
 
   -- so they name earlier jobs
-  pub links-back : n ≤ 128 → n ≤ length (take n counts) → LinksBack counts links i
-  links-back small long = record {
-    is-job = omega arith;
+  pub links_back : n ≤ 128 → n ≤ length (take n counts) → LinksBack counts links i
+  links_back small long = record {
+    is_job = omega arith;
     room = omega (arith, g.room, length-take (16 * n) links);
     few = few;
-    back = λ l m. g.back i l (omega arith) (subst (λ (ls : List ℕ). Memᴰ l ls) (sym same-links) m);
+    back = λ l m. g.back i l (omega arith) (subst (λ (ls : List ℕ). Memᴰ l ls) (sym same_links) m);
   }
 
   -- and leave the job the same frames, also after others were tried
-  pub same-bounds : (place place' : List ℕ) {low high : ℕ} → take i place' ≡ take i place
-      → low ≡ earliest (take i place) (linksAt counts links i) → high ≡ latest (take i place) (linksAt counts links i)
-      → (low ≡ earliest (take i place') (linksAt (take n counts) (take (16 * n) links) i)) × (high ≡ latest (take i place') (linksAt (take n counts) (take (16 * n) links) i))
-  same-bounds place place' kept a b = rw (kept, same-links) (a, b)
+  pub same_bounds : (place place' : List ℕ) {low high : ℕ} → take i place' ≡ take i place
+      → low ≡ earliest (take i place) (links_at counts links i) → high ≡ latest (take i place) (links_at counts links i)
+      → (low ≡ earliest (take i place') (links_at (take n counts) (take (16 * n) links) i)) × (high ≡ latest (take i place') (links_at (take n counts) (take (16 * n) links) i))
+  same_bounds place place' kept a b = rw (kept, same_links) (a, b)
 
 -- a job is left
-pub is-left : {x : Problem} {n : ℕ} {place load : List ℕ} {i : ℕ} → Placing x n place load i → (i ≡ n → ⊥) → i < n
-is-left g e = omega (arith, g.within)
+pub is_left : {x : Problem} {n : ℕ} {place load : List ℕ} {i : ℕ} → Placing x n place load i → (i ≡ n → ⊥) → i < n
+is_left g e = omega (arith, g.within)
 
-placed-before : {x : Problem} {n : ℕ} {place load : List ℕ} {i : ℕ} → Ready x n place load → i < n → length (take i place) ≡ i
-placed-before {x} {n} {place} {load} {i} r more = length-take-le i place (omega (arith, r.places))
+placed_before : {x : Problem} {n : ℕ} {place load : List ℕ} {i : ℕ} → Ready x n place load → i < n → length (take i place) ≡ i
+placed_before {x} {n} {place} {load} {i} r more = length-take-le i place (omega (arith, r.places))
 
 -- an answer 0 tells that the search has ended with none, within the tries
 module _ {x : Problem} {w : Walk} {n : ℕ} {place load : List ℕ} {i a r : ℕ} {place' load' : List ℕ} {a' : ℕ} (d : Tried x w n place load i a r place' load' a') where
-  none-of-zero : r ≡ 0 → (w.tries ≤ a) × (w.found ≡ none)
+  none_of_zero : r ≡ 0 → (w.tries ≤ a) × (w.found ≡ none)
   unfolding number
-  none-of-zero z = (reached, go w.found refl)
+  none_of_zero z = (reached, go w.found refl)
     where
       reached : w.tries ≤ a
-      reached = not-lt (λ t. zero-two (sym z ∙ (d.out t).0))
+      reached = not_lt (λ t. zero_two (sym z ∙ (d.out t).0))
         where
-          zero-two : ◌≡◌ {A = ℕ} 0 2 → ⊥
-          zero-two e = omega arith
+          zero_two : ◌≡◌ {A = ℕ} 0 2 → ⊥
+          zero_two e = omega arith
 
-          not-lt : (a < w.tries → ⊥) → w.tries ≤ a
-          not-lt h = omega arith
+          not_lt : (a < w.tries → ⊥) → w.tries ≤ a
+          not_lt h = omega arith
 
       go : (o : Found) → w.found ≡ o → w.found ≡ none
       go none e = e
-      go (at q) e = absurd (one-zero (sym (ap number e) ∙ sym (d.enough reached).0 ∙ z))
+      go (at q) e = absurd (one_zero (sym (ap number e) ∙ sym (d.enough reached).0 ∙ z))
         where
-          one-zero : ◌≡◌ {A = ℕ} 1 0 → ⊥
-          one-zero q = omega arith
+          one_zero : ◌≡◌ {A = ℕ} 1 0 → ⊥
+          one_zero q = omega arith
 
   -- any other answer, where it has none, that the tries ended first
-  out-of-none : (r ≡ 0 → ⊥) → w.found ≡ none → a < w.tries
+  out_of_none : (r ≡ 0 → ⊥) → w.found ≡ none → a < w.tries
   unfolding number
-  out-of-none some e = not-le (λ t. some ((d.enough t).0 ∙ ap number e))
+  out_of_none some e = not_le (λ t. some ((d.enough t).0 ∙ ap number e))
     where
-      not-le : (w.tries ≤ a → ⊥) → a < w.tries
-      not-le h = omega arith
+      not_le : (w.tries ≤ a → ⊥) → a < w.tries
+      not_le h = omega arith
 
 -- no job is left
 pub all_placed : {x : Problem} {n : ℕ} {place load : List ℕ} {i a : ℕ} → Placing x n place load i → i ≡ n → TriedJob x n place load i a 1 place load a
 unfolding number
 all_placed {x} {n} {place} {load} {i} {a} g h =
     let r = g.ready in
-    let d : planWalk x (take i place) ≡ record { found = at (take n place); tries = 0 } =
-    rw h (walk-all x (take n place) (length-take-le n place r.places ∙ sym r.jobs)) in
+    let d : plan_walk x (take i place) ≡ record { found = at (take n place); tries = 0 } =
+    rw h (walk_all x (take n place) (length-take-le n place r.places ∙ sym r.jobs)) in
     record {
       enough = rw d (λ _. (refl, omega arith));
       out = rw d (λ q. absurd (omega arith));
@@ -153,8 +153,8 @@ pub record Trying (x : Problem) (n : ℕ) (place₀ load₀ : List ℕ) (i a₀ 
   pub beyond : drop n place ≡ drop n place₀
   pub size : length place ≡ length place₀
   pub undone : load ≡ load₀
-  pub rest : (planWalk x (take i place₀)).found ≡ (fromWalk x (take i place₀) k).found
-  pub spent : a + (planWalk x (take i place₀)).tries ≡ a₀ + (fromWalk x (take i place₀) k).tries
+  pub rest : (plan_walk x (take i place₀)).found ≡ (from_walk x (take i place₀) k).found
+  pub spent : a + (plan_walk x (take i place₀)).tries ≡ a₀ + (from_walk x (take i place₀) k).tries
   pub at_row : row ≡ k % x.rows
 
 module _ {x : Problem} {n : ℕ} {place load : List ℕ} {i : ℕ} (more : i < n) (g : Placing x n place load i) where
@@ -165,12 +165,12 @@ module _ {x : Problem} {n : ℕ} {place load : List ℕ} {i : ℕ} (more : i < n
   p = take i place
 
   len : length p ≡ i
-  len = placed-before r more
+  len = placed_before r more
 
   -- the loop begins
   pub none_tried : {k a : ℕ} → k ≡ get_or x.first i 0 → Trying x n place load i a place load a k (k % x.rows)
   none_tried {k} {a} e =
-      let d : planWalk x p ≡ fromWalk x p k = rw e (rw len at (walk-next x p (omega (arith, len, r.jobs)))) in
+      let d : plan_walk x p ≡ from_walk x p k = rw e (rw len at (walk_next x p (omega (arith, len, r.jobs)))) in
       record {
         kept = refl;
         beyond = refl;
@@ -182,12 +182,12 @@ module _ {x : Problem} {n : ℕ} {place load : List ℕ} {i : ℕ} (more : i < n
       }
 
   module _ {k row a₀ a : ℕ} {place' load' : List ℕ} (v : Trying x n place load i a₀ place' load' a k row) where
-    ready-again : Ready x n place' load'
-    ready-again = record {
+    ready_again : Ready x n place' load'
+    ready_again = record {
       proper = r.proper;
       jobs = r.jobs;
       few = r.few;
-      few-rows = r.few-rows;
+      few_rows = r.few_rows;
       short = r.short;
       places = rw v.size r.places;
       row_room = rw v.undone r.row_room;
@@ -199,15 +199,15 @@ module _ {x : Problem} {n : ℕ} {place load : List ℕ} {i : ℕ} (more : i < n
 
     -- the job is tested in the next frame
     pub test : {low high : ℕ} → Bounds x (take i place') i low high → Testing x n place' load' i k row low high
-    test bounds = record { more = more; ready = ready-again; loads = kept_again; at_row = v.at_row; bounds = bounds }
+    test bounds = record { more = more; ready = ready_again; loads = kept_again; at_row = v.at_row; bounds = bounds }
 
     -- the loop ends
     pub none_left : {e : ℕ} → e ≡ get_or x.end i 0 → e ≤ k → TriedJob x n place load i a₀ 0 place' load' a
     unfolding number
     none_left is h =
-        let d : fromWalk x p k ≡ record { found = none; tries = 0 } = walk_end x p k (rw (len, ← is) h) in
-        let t : (fromWalk x p k).tries ≡ 0 = ap (λ (w : Walk). w.tries) d in
-        let f : (planWalk x p).found ≡ none = v.rest ∙ ap (λ (w : Walk). w.found) d in
+        let d : from_walk x p k ≡ record { found = none; tries = 0 } = walk_end x p k (rw (len, ← is) h) in
+        let t : (from_walk x p k).tries ≡ 0 = ap (λ (w : Walk). w.tries) d in
+        let f : (plan_walk x p).found ≡ none = v.rest ∙ ap (λ (w : Walk). w.found) d in
         record {
           enough = λ q. (rw f, omega (arith, v.spent));
           out = λ q. absurd (omega (arith, v.spent));
@@ -221,45 +221,45 @@ module _ {x : Problem} {n : ℕ} {place load : List ℕ} {i : ℕ} (more : i < n
 
     module _ {e : ℕ} (is : e ≡ get_or x.end i 0) (h : k < e) {b : ℕ} {place₂ load₂ : List ℕ} {a₂ : ℕ} (d : TriedFrame x n place' load' i k a b place₂ load₂ a₂) where
       abbrev here : Walk
-      here = attemptWalk x p k
+      here = attempt_walk x p k
 
       abbrev behind : Walk
-      behind = fromWalk x p (k + 1)
+      behind = from_walk x p (k + 1)
 
-      of-here : Tried x (attemptWalk x p k) n place' load' i a b place₂ load₂ a₂
-      of-here = rw v.kept at d
+      of_here : Tried x (attempt_walk x p k) n place' load' i a b place₂ load₂ a₂
+      of_here = rw v.kept at d
 
-      turn : fromWalk x p k ≡ goOn here.found here.tries behind
+      turn : from_walk x p k ≡ go_on here.found here.tries behind
       turn = walk_more x p k (rw (len, ← is) h)
 
       -- the frame has no placing, or one
-      goes_on : here.found ≡ none → fromWalk x p k ≡ record { found = behind.found; tries = here.tries + behind.tries }
+      goes_on : here.found ≡ none → from_walk x p k ≡ record { found = behind.found; tries = here.tries + behind.tries }
       goes_on e = turn ∙ on_none here.tries behind e
 
-      stops : {q : List ℕ} → here.found ≡ at q → fromWalk x p k ≡ record { found = at q; tries = here.tries }
-      stops e = turn ∙ on-found here.tries behind e
+      stops : {q : List ℕ} → here.found ≡ at q → from_walk x p k ≡ record { found = at q; tries = here.tries }
+      stops e = turn ∙ on_found here.tries behind e
 
       -- the loop goes on
       pub pass_on : b ≡ 0 → {row' : ℕ} → row' ≡ (row + 1) % x.rows → Trying x n place load i a₀ place₂ load₂ a₂ (k + 1) row'
       pass_on q w =
-          let (fit, e) = none-of-zero of-here q in
-          let u : (fromWalk x p k).tries ≡ here.tries + behind.tries = ap (λ (w : Walk). w.tries) (goes_on e) in
+          let (fit, e) = none_of_zero of_here q in
+          let u : (from_walk x p k).tries ≡ here.tries + behind.tries = ap (λ (w : Walk). w.tries) (goes_on e) in
           record {
             kept = d.kept ∙ v.kept;
             beyond = d.beyond ∙ v.beyond;
             size = d.size ∙ v.size;
             undone = d.undone q ∙ v.undone;
             rest = v.rest ∙ ap (λ (w : Walk). w.found) (goes_on e);
-            spent = omega (arith, v.spent, fit, (of-here.enough fit).1);
+            spent = omega (arith, v.spent, fit, (of_here.enough fit).1);
             at_row = w ∙ rw v.at_row (mod-add-mod k x.rows 1);
           }
 
       -- the job and those after it are placed, or the tries have ended
-      pub pass-answer : (b ≡ 0 → ⊥) → TriedJob x n place load i a₀ b place₂ load₂ a₂
-      pass-answer some = record {
+      pub pass_answer : (b ≡ 0 → ⊥) → TriedJob x n place load i a₀ b place₂ load₂ a₂
+      pass_answer some = record {
         enough = λ t. reached t here.found refl;
         out = λ t. exceeded t here.found refl;
-        found = λ q. v.rest ∙ ap (λ (w : Walk). w.found) (stops (of-here.found q));
+        found = λ q. v.rest ∙ ap (λ (w : Walk). w.found) (stops (of_here.found q));
         kept = d.kept ∙ v.kept;
         beyond = d.beyond ∙ v.beyond;
         size = d.size ∙ v.size;
@@ -267,20 +267,20 @@ module _ {x : Problem} {n : ℕ} {place load : List ℕ} {i : ℕ} (more : i < n
         loads = d.loads;
       }
         where
-          reached : (planWalk x p).tries ≤ a₀ → (o : Found) → here.found ≡ o → (b ≡ number (planWalk x p).found) × (a₂ ≡ a₀ - (planWalk x p).tries)
+          reached : (plan_walk x p).tries ≤ a₀ → (o : Found) → here.found ≡ o → (b ≡ number (plan_walk x p).found) × (a₂ ≡ a₀ - (plan_walk x p).tries)
           reached t none e =
-              let u : (fromWalk x p k).tries ≡ here.tries + behind.tries = ap (λ (w : Walk). w.tries) (goes_on e) in
-              absurd (omega (arith, v.spent, out-of-none of-here some e))
+              let u : (from_walk x p k).tries ≡ here.tries + behind.tries = ap (λ (w : Walk). w.tries) (goes_on e) in
+              absurd (omega (arith, v.spent, out_of_none of_here some e))
           reached t (at q) e =
-              let u : (fromWalk x p k).tries ≡ here.tries = ap (λ (w : Walk). w.tries) (stops e) in
+              let u : (from_walk x p k).tries ≡ here.tries = ap (λ (w : Walk). w.tries) (stops e) in
               let fit : here.tries ≤ a = omega (arith, v.spent) in
-              ((of-here.enough fit).0 ∙ ap number (e ∙ sym (v.rest ∙ ap (λ (w : Walk). w.found) (stops e))), omega (arith, v.spent, (of-here.enough fit).1))
+              ((of_here.enough fit).0 ∙ ap number (e ∙ sym (v.rest ∙ ap (λ (w : Walk). w.found) (stops e))), omega (arith, v.spent, (of_here.enough fit).1))
 
-          exceeded : a₀ < (planWalk x p).tries → (o : Found) → here.found ≡ o → (b ≡ 2) × (a₂ ≡ 0)
-          exceeded t none e = of-here.out (out-of-none of-here some e)
+          exceeded : a₀ < (plan_walk x p).tries → (o : Found) → here.found ≡ o → (b ≡ 2) × (a₂ ≡ 0)
+          exceeded t none e = of_here.out (out_of_none of_here some e)
           exceeded t (at q) e =
-              let u : (fromWalk x p k).tries ≡ here.tries = ap (λ (w : Walk). w.tries) (stops e) in
-              of-here.out (omega (arith, v.spent))
+              let u : (from_walk x p k).tries ≡ here.tries = ap (λ (w : Walk). w.tries) (stops e) in
+              of_here.out (omega (arith, v.spent))
 
 -- job i is tested in frame k
 module _ {x : Problem} {n : ℕ} {place load : List ℕ} {i k row low high : ℕ} (s : Testing x n place load i k row low high) where
@@ -288,50 +288,50 @@ module _ {x : Problem} {n : ℕ} {place load : List ℕ} {i k row low high : ℕ
   before = take i place
 
   size : length before ≡ i
-  size = placed-before s.ready s.more
+  size = placed_before s.ready s.more
 
   -- the test by the row's kept load and by the two bounds is the search's
-  pub tested : k ≤ 65535 → fits x before k ≡ (hasRoom (get_or load row 0) x.f (get_or x.cost i 0) && (leb low k && leb k high))
+  pub tested : k ≤ 65535 → fits x before k ≡ (has_room (get_or load row 0) x.f (get_or x.cost i 0) && (leb low k && leb k high))
   tested small =
-      tested-by-load x before k load s.ready.proper.some-row s.loads
-      ∙ rw (kept-between before k (linksOf x (length before)) small, size, s.at_row, s.bounds.0, s.bounds.1)
+      tested_by_load x before k load s.ready.proper.some_row s.loads
+      ∙ rw (kept_between before k (links_of x (length before)) small, size, s.at_row, s.bounds.0, s.bounds.1)
 
   -- with a job that passes it the row has at most f
   pub fits_in : fits x before k ≡ true → get_or load row 0 + get_or x.cost i 0 ≤ x.f
   fits_in may =
-      let r = leb-true _ x.f (fits-room x before k may) in
-      omega (arith, rw size at r, s.loads (k % x.rows) (mod-lt k s.ready.proper.some-row), ap (λ (q : ℕ). get_or load q 0) s.at_row)
+      let r = leb-true _ x.f (fits_room x before k may) in
+      omega (arith, rw size at r, s.loads (k % x.rows) (mod-lt k s.ready.proper.some_row), ap (λ (q : ℕ). get_or load q 0) s.at_row)
 
   snoc : take (i + 1) (set place i k) ≡ before ++ (k ∷ [])
   snoc = rw add-one (take-suc-set place i k (omega (arith, s.more, s.ready.places)))
 
-  module _ {v : ℕ} (v-is : v ≡ get_or load row 0 + get_or x.cost i 0) where
+  module _ {v : ℕ} (v_is : v ≡ get_or load row 0 + get_or x.cost i 0) where
     -- it is put there
-    put-ready : Ready x n (set place i k) (set load row v)
-    put-ready = let r = s.ready in record {
+    put_ready : Ready x n (set place i k) (set load row v)
+    put_ready = let r = s.ready in record {
       proper = r.proper;
       jobs = r.jobs;
       few = r.few;
-      few-rows = r.few-rows;
+      few_rows = r.few_rows;
       short = r.short;
       places = omega (arith, length-set place i k, r.places);
       row_room = omega (arith, length-set load row v, r.row_room);
     }
 
-    put-kept : LoadsKept x (take (i + 1) (set place i k)) (set load row v)
-    put-kept =
-        let w : v ≡ get_or load (k % x.rows) 0 + get_or x.cost (length before) 0 = v-is ∙ rw (s.at_row, size) refl in
-        rw (snoc, s.at_row) (put-loads x before load k v s.ready.proper.some-row s.ready.row_room s.loads w)
+    put_kept : LoadsKept x (take (i + 1) (set place i k)) (set load row v)
+    put_kept =
+        let w : v ≡ get_or load (k % x.rows) 0 + get_or x.cost (length before) 0 = v_is ∙ rw (s.at_row, size) refl in
+        rw (snoc, s.at_row) (put_loads x before load k v s.ready.proper.some_row s.ready.row_room s.loads w)
 
     pub put : Placing x n (set place i k) (set load row v) (i + 1)
-    put = record { within = omega (arith, s.more); ready = put-ready; loads = put-kept }
+    put = record { within = omega (arith, s.more); ready = put_ready; loads = put_kept }
 
   module _ {a : ℕ} where
     -- no try is left for the test
     pub none_allowed : a < 1 → TriedFrame x n place load i k a 2 place load a
-    unfolding attemptWalk
+    unfolding attempt_walk
     none_allowed z =
-        let t : 1 ≤ (attemptWalk x before k).tries = one_more (fits x before k) (planWalk x (before ++ (k ∷ []))) in
+        let t : 1 ≤ (attempt_walk x before k).tries = one_more (fits x before k) (plan_walk x (before ++ (k ∷ []))) in
         record {
           enough = λ q. absurd (omega arith);
           out = λ q. (refl, omega arith);
@@ -348,7 +348,7 @@ module _ {x : Problem} {n : ℕ} {place load : List ℕ} {i k row low high : ℕ
       pub refused : fits x before k ≡ false → TriedFrame x n place load i k a 0 place load (a - 1)
       unfolding number
       refused e =
-          let d : attemptWalk x before k ≡ record { found = none; tries = 1 } = walk-not x before k e in
+          let d : attempt_walk x before k ≡ record { found = none; tries = 1 } = walk_not x before k e in
           record {
             enough = rw d (λ _. (refl, refl));
             out = rw d (λ q. absurd (omega arith));
@@ -360,35 +360,35 @@ module _ {x : Problem} {n : ℕ} {place load : List ℕ} {i k row low high : ℕ
             loads = λ q. absurd (omega arith);
           }
 
-      module _ (may : fits x before k ≡ true) {v : ℕ} (v-is : v ≡ get_or load row 0 + get_or x.cost i 0) {b : ℕ} {place' load' : List ℕ} {a' : ℕ}
+      module _ (may : fits x before k ≡ true) {v : ℕ} (v_is : v ≡ get_or load row 0 + get_or x.cost i 0) {b : ℕ} {place' load' : List ℕ} {a' : ℕ}
           (d : TriedJob x n (set place i k) (set load row v) (i + 1) (a - 1) b place' load' a') where
         abbrev sub : Walk
-        sub = planWalk x (before ++ (k ∷ []))
+        sub = plan_walk x (before ++ (k ∷ []))
 
-        of-sub : Tried x sub n (set place i k) (set load row v) (i + 1) (a - 1) b place' load' a'
-        of-sub = subst (λ (l : List ℕ). Tried x (planWalk x l) n (set place i k) (set load row v) (i + 1) (a - 1) b place' load' a') snoc d
+        of_sub : Tried x sub n (set place i k) (set load row v) (i + 1) (a - 1) b place' load' a'
+        of_sub = subst (λ (l : List ℕ). Tried x (plan_walk x l) n (set place i k) (set load row v) (i + 1) (a - 1) b place' load' a') snoc d
 
-        walk_here : attemptWalk x before k ≡ record { found = sub.found; tries = 1 + sub.tries }
-        walk_here = walk-may x before k may
+        walk_here : attempt_walk x before k ≡ record { found = sub.found; tries = 1 + sub.tries }
+        walk_here = walk_may x before k may
 
         kept_here : take i place' ≡ take i place
         kept_here =
             sym (take-take i (i + 1) place' (omega arith)) ∙ ap (take i) d.kept
             ∙ take-take i (i + 1) (set place i k) (omega arith) ∙ take-set-le i place i k (omega arith)
 
-        enough-here : (attemptWalk x before k).tries ≤ a → (b ≡ number (attemptWalk x before k).found) × (a' ≡ a - (attemptWalk x before k).tries)
-        enough-here =
-            rw walk_here (λ t. let fit : sub.tries ≤ a - 1 = omega arith in ((of-sub.enough fit).0, omega (arith, (of-sub.enough fit).1)))
+        enough_here : (attempt_walk x before k).tries ≤ a → (b ≡ number (attempt_walk x before k).found) × (a' ≡ a - (attempt_walk x before k).tries)
+        enough_here =
+            rw walk_here (λ t. let fit : sub.tries ≤ a - 1 = omega arith in ((of_sub.enough fit).0, omega (arith, (of_sub.enough fit).1)))
 
-        out-here : a < (attemptWalk x before k).tries → (b ≡ 2) × (a' ≡ 0)
-        out-here = rw walk_here (λ t. of-sub.out (omega arith))
+        out_here : a < (attempt_walk x before k).tries → (b ≡ 2) × (a' ≡ 0)
+        out_here = rw walk_here (λ t. of_sub.out (omega arith))
 
         -- the jobs after it were placed too, or the tries have ended
         pub went : (b ≡ 0 → ⊥) → TriedFrame x n place load i k a b place' load' a'
         went q = record {
-          enough = enough-here;
-          out = out-here;
-          found = λ w. rw walk_here (of-sub.found w);
+          enough = enough_here;
+          out = out_here;
+          found = λ w. rw walk_here (of_sub.found w);
           kept = kept_here;
           beyond = d.beyond ∙ drop-set-lt n place i k s.more;
           size = d.size ∙ length-set place i k;
@@ -399,8 +399,8 @@ module _ {x : Problem} {n : ℕ} {place load : List ℕ} {i k row low high : ℕ
         -- they were not: it is taken back, and its row has the load that it had
         pub back : b ≡ 0 → TriedFrame x n place load i k a 0 place' (set load' row (get_or load row 0)) a'
         back q = record {
-          enough = λ t. (sym q ∙ (enough-here t).0, (enough-here t).1);
-          out = λ t. (sym q ∙ (out-here t).0, (out-here t).1);
+          enough = λ t. (sym q ∙ (enough_here t).0, (enough_here t).1);
+          out = λ t. (sym q ∙ (out_here t).0, (out_here t).1);
           found = λ w. absurd (omega arith);
           kept = kept_here;
           beyond = d.beyond ∙ drop-set-lt n place i k s.more;

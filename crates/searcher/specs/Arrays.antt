@@ -4,26 +4,26 @@ use Rattle.std.specs.Prelude.{◌≡◌, ℕ, ◌+◌, ◌-◌, ◌*◌, ◌≤�
 use mathlib.Core.List.{List, [], Memᴰ}
 use Rattle.cursor.specs.Padded.{padded}
 use Rattle.search.specs.Search.{Found, none, at, Walk}
-use Rattle.search.specs.Counting.{attemptWalk}
-use Rattle.search.specs.Placing.{planWalk, Problem, problem, linksAt, partner, Bounds, Proper, LoadsKept}
+use Rattle.search.specs.Counting.{attempt_walk}
+use Rattle.search.specs.Placing.{plan_walk, Problem, problem, links_at, partner, Bounds, Proper, LoadsKept}
 use Rattle.searcher.specs.declared.Given.{Given}
 use Rattle.searcher.specs.declared.Placed.{Placed}
 
 -- the problem of the first n entries of these arrays
-abbrev pub problemFrom : List ℕ → List ℕ → List ℕ → List ℕ → List ℕ → ℕ → ℕ → ℕ → Problem
-problemFrom cost first end counts links n rows f = problem (take n cost) (take n first) (take n end) (take n counts) (take (16 * n) links) rows f
+abbrev pub problem_from : List ℕ → List ℕ → List ℕ → List ℕ → List ℕ → ℕ → ℕ → ℕ → Problem
+problem_from cost first end counts links n rows f = problem (take n cost) (take n first) (take n end) (take n counts) (take (16 * n) links) rows f
 
 -- the problem of what is given
-abbrev pub problemOf : Given → Problem
-problemOf g = problemFrom g.cost g.first g.end g.counts g.links g.n g.rows g.f
+abbrev pub problem_of : Given → Problem
+problem_of g = problem_from g.cost g.first g.end g.counts g.links g.n g.rows g.f
 
 -- there are n entries, and the problem is one for the search
 pub record Placeable (g : Given) : Type 0 where
   pub few : g.n ≤ 128
   pub costs : g.n ≤ length g.cost
-  pub few-rows : g.rows ≤ 256
+  pub few_rows : g.rows ≤ 256
   pub short : g.f ≤ 65535
-  pub proper : Proper (problemOf g)
+  pub proper : Proper (problem_of g)
 
 -- n numbers that two bytes hold
 pub record Small (xs : List ℕ) (n : ℕ) : Type 0 where
@@ -32,45 +32,45 @@ pub record Small (xs : List ℕ) (n : ℕ) : Type 0 where
   pub small : (j : ℕ) → j < n → get_or xs j 0 ≤ 65535
 
 -- what is found, as it is answered, with what is left of the tries
-unfoldable pub placedAnswer : Found → ℕ → Placed
-placedAnswer (at frames) left = record { answer = 1; left = left; frames = padded 128 0 frames }
-placedAnswer none left = record { answer = 0; left = left; frames = replicate 128 0 }
+unfoldable pub placed_answer : Found → ℕ → Placed
+placed_answer (at frames) left = record { answer = 1; left = left; frames = padded 128 0 frames }
+placed_answer none left = record { answer = 0; left = left; frames = replicate 128 0 }
 
 -- what is answered where a tries are allowed: 2 "exactly when the full search needs more tries than allowed"
-unfoldable pub placedWithin : ℕ → Walk → Placed
-placedWithin a w = cond (ltb a w.tries) (record { answer = 2; left = 0; frames = replicate 128 0 }) (placedAnswer w.found (a - w.tries))
+unfoldable pub placed_within : ℕ → Walk → Placed
+placed_within a w = cond (ltb a w.tries) (record { answer = 2; left = 0; frames = replicate 128 0 }) (placed_answer w.found (a - w.tries))
 
 -- what is given in one array: its parts
-abbrev pub partIn : List (List ℕ) → ℕ → List ℕ
-partIn g j = get_or g j []
+abbrev pub part_in : List (List ℕ) → ℕ → List ℕ
+part_in g j = get_or g j []
 
-abbrev pub countsIn : List (List ℕ) → List ℕ
-countsIn g = partIn g 3
+abbrev pub counts_in : List (List ℕ) → List ℕ
+counts_in g = part_in g 3
 
 -- the number of rows, and the number of jobs
-abbrev pub rowsIn : List (List ℕ) → ℕ
-rowsIn g = get_or (partIn g 4) 0 0
+abbrev pub rows_in : List (List ℕ) → ℕ
+rows_in g = get_or (part_in g 4) 0 0
 
-abbrev pub jobsIn : List (List ℕ) → ℕ
-jobsIn g = get_or (partIn g 4) 2 0
+abbrev pub jobs_in : List (List ℕ) → ℕ
+jobs_in g = get_or (part_in g 4) 2 0
 
 -- the problem that it gives, with the links
-abbrev pub problemIn : List (List ℕ) → List ℕ → Problem
-problemIn g links = problemFrom (partIn g 0) (partIn g 1) (partIn g 2) (countsIn g) links (jobsIn g) (rowsIn g) (get_or (partIn g 4) 1 0)
+abbrev pub problem_in : List (List ℕ) → List ℕ → Problem
+problem_in g links = problem_from (part_in g 0) (part_in g 1) (part_in g 2) (counts_in g) links (jobs_in g) (rows_in g) (get_or (part_in g 4) 1 0)
 
 -- the links of job i have their places, and each names an earlier job
 pub record LinksBack (counts links : List ℕ) (i : ℕ) : Type 0 where
-  pub is-job : i < 128
+  pub is_job : i < 128
   pub room : 16 * i + 16 ≤ length links
   pub few : get_or counts i 0 ≤ 16
-  pub back : (l : ℕ) → Memᴰ l (linksAt counts links i) → partner l < i
+  pub back : (l : ℕ) → Memᴰ l (links_at counts links i) → partner l < i
 
 -- there are n jobs, and the arrays have room for their frames and for the loads of all rows
 pub record Ready (x : Problem) (n : ℕ) (place load : List ℕ) : Type 0 where
   pub proper : Proper x
   pub jobs : length x.cost ≡ n
   pub few : n ≤ 128
-  pub few-rows : x.rows ≤ 256
+  pub few_rows : x.rows ≤ 256
   pub short : x.f ≤ 65535
   pub places : n ≤ length place
   pub row_room : x.rows ≤ length load
@@ -110,8 +110,8 @@ pub record Tried (x : Problem) (w : Walk) (n : ℕ) (place load : List ℕ) (i a
 
 -- job i was tried in the frames of its window
 abbrev pub TriedJob : Problem → ℕ → List ℕ → List ℕ → ℕ → ℕ → ℕ → List ℕ → List ℕ → ℕ → Type 0
-TriedJob x n place load i a r place' load' a' = Tried x (planWalk x (take i place)) n place load i a r place' load' a'
+TriedJob x n place load i a r place' load' a' = Tried x (plan_walk x (take i place)) n place load i a r place' load' a'
 
 -- job i was tried in frame k
 abbrev pub TriedFrame : Problem → ℕ → List ℕ → List ℕ → ℕ → ℕ → ℕ → ℕ → List ℕ → List ℕ → ℕ → Type 0
-TriedFrame x n place load i k a r place' load' a' = Tried x (attemptWalk x (take i place) k) n place load i a r place' load' a'
+TriedFrame x n place load i k a r place' load' a' = Tried x (attempt_walk x (take i place) k) n place load i a r place' load' a'

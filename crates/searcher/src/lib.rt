@@ -10,8 +10,8 @@
 // the length of a frame and the number of jobs.
 ghost use Rattle.std.specs.Prelude.{◌≡◌, [], ◌+◌, ◌≤◌, ◌<◌, ◌%◌, take, get_or};
 ghost use Rattle.cursor.specs.Padded.{padded};
-ghost use Rattle.search.specs.Placing.{partner, raise, lower, linksAt, earliest, latest, hasRoom, fits, planWalk};
-ghost use Rattle.searcher.specs.Arrays.{Small, Placeable, problemOf, jobsIn, countsIn, problemIn, LinksBack, Placing, Testing, TriedJob, TriedFrame, placedWithin};
+ghost use Rattle.search.specs.Placing.{partner, raise, lower, links_at, earliest, latest, has_room, fits, plan_walk};
+ghost use Rattle.searcher.specs.Arrays.{Small, Placeable, problem_of, jobs_in, counts_in, problem_in, LinksBack, Placing, Testing, TriedJob, TriedFrame, placed_within};
 
 // What is given: for each of n jobs its cost, its window from `first` up to and without `end`, how many links it has, and 16 places for them; the number
 // of rows, and the length f of a frame.
@@ -53,7 +53,7 @@ fn narrow(xs: [u32; 128], n: usize) -> [u16; 128]
 // What is given, in one array: the problem is the same.
 pub fn pack(given: Given) -> [[u16; 128]; 5]
     requires { Placeable given }
-    ensures { (problemIn result given.links ≡ problemOf given) × (jobsIn result ≡ given.n) }
+    ensures { (problem_in result given.links ≡ problem_of given) × (jobs_in result ≡ given.n) }
 {
     let cost = given.cost;
     let costs = narrow(cost, given.n);
@@ -101,8 +101,8 @@ fn lowered(place: &[u16; 128], l: u8, high: u16) -> u16
 
 // The earliest frame that the links of job i leave it.
 pub fn lower_bound(given: &[[u16; 128]; 5], links: &[u8; 2048], place: &[u16; 128], i: usize) -> u16
-    requires { LinksBack (countsIn given.now) links.now i }
-    ensures { result ≡ earliest (take i place.now) (linksAt (countsIn given.now) links.now i) }
+    requires { LinksBack (counts_in given.now) links.now i }
+    ensures { result ≡ earliest (take i place.now) (links_at (counts_in given.now) links.now i) }
 {
     let mut at = 16 * i;
     let end = at + given[3][i] as usize;
@@ -116,8 +116,8 @@ pub fn lower_bound(given: &[[u16; 128]; 5], links: &[u8; 2048], place: &[u16; 12
 
 // The latest frame that the links of job i leave it.
 pub fn upper_bound(given: &[[u16; 128]; 5], links: &[u8; 2048], place: &[u16; 128], i: usize) -> u16
-    requires { LinksBack (countsIn given.now) links.now i }
-    ensures { result ≡ latest (take i place.now) (linksAt (countsIn given.now) links.now i) }
+    requires { LinksBack (counts_in given.now) links.now i }
+    ensures { result ≡ latest (take i place.now) (links_at (counts_in given.now) links.now i) }
 {
     let mut at = 16 * i;
     let end = at + given[3][i] as usize;
@@ -131,7 +131,7 @@ pub fn upper_bound(given: &[[u16; 128]; 5], links: &[u8; 2048], place: &[u16; 12
 
 // The capacity test: by the row's kept load, f, and the job's own cost.
 fn has_room(load: u16, f: u16, cost: u16) -> bool
-    ensures { result ≡ hasRoom load f cost }
+    ensures { result ≡ has_room load f cost }
 {
     (load as u32) + (cost as u32) <= (f as u32)
 }
@@ -148,8 +148,8 @@ pub fn may_stand(
     low: u16,
     high: u16,
 ) -> bool
-    requires { Testing (problemIn given.now links.now) (jobsIn given.now) place.now load.now i k row low high }
-    ensures { result ≡ fits (problemIn given.now links.now) (take i place.now) k }
+    requires { Testing (problem_in given.now links.now) (jobs_in given.now) place.now load.now i k row low high }
+    ensures { result ≡ fits (problem_in given.now links.now) (take i place.now) k }
 {
     if !has_room(load[row], given[4][1], given[0][i]) {
         return false;
@@ -181,8 +181,8 @@ fn place_job(
     left: &mut u64,
     i: usize,
 ) -> u8
-    requires { Placing (problemIn given.now links.now) (jobsIn given.now) place.old load.old i }
-    ensures { TriedJob (problemIn given.now links.now) (jobsIn given.now)
+    requires { Placing (problem_in given.now links.now) (jobs_in given.now) place.old load.old i }
+    ensures { TriedJob (problem_in given.now links.now) (jobs_in given.now)
         place.old load.old i left.old result place.new load.new left.new }
 {
     let n = given[4][2] as usize;
@@ -221,8 +221,8 @@ fn try_frame(
     low: u16,
     high: u16,
 ) -> u8
-    requires { Testing (problemIn given.now links.now) (jobsIn given.now) place.old load.old i k row low high }
-    ensures { TriedFrame (problemIn given.now links.now) (jobsIn given.now)
+    requires { Testing (problem_in given.now links.now) (jobs_in given.now) place.old load.old i k row low high }
+    ensures { TriedFrame (problem_in given.now links.now) (jobs_in given.now)
         place.old load.old i k left.old result place.new load.new left.new }
 {
     if *left < 1 {
@@ -247,7 +247,7 @@ fn try_frame(
 // The first placing of the jobs, if it is found within the tries allowed.
 pub fn place_all(given: Given, allowed: u64) -> Placed
     requires { Placeable given }
-    ensures { result ≡ placedWithin allowed (planWalk (problemOf given) []) }
+    ensures { result ≡ placed_within allowed (plan_walk (problem_of given) []) }
 {
     let packed = pack(given);
     let links = given.links;

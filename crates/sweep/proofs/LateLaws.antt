@@ -11,61 +11,61 @@ use lib.Seq.{get_or-set_same, get_or-set_other, set-set, set-get_or}
 use lib.Dec.{leb, eqb}
 use borrow.Author.Tests.{le-leb, lt-leb, leb-true, leb-false, eq-eqb, ne_eqb, eqb-true, eqb-false}
 use Rattle.exact.specs.Sweep.{Rules, sum, waiting, From}
-use Rattle.exact.specs.Intervals.{sum-snoc, due_at, waiting-more}
-use Rattle.exact.specs.SweepLaws.{row-late}
-use Rattle.searcher.specs.Arrays.{partIn}
-use Rattle.sweep.specs.Arrays.{rulesIn, dueShare, Due, addedAt, takenAt}
+use Rattle.exact.specs.Intervals.{sum_snoc, due_at, waiting_more}
+use Rattle.exact.specs.SweepLaws.{row_late}
+use Rattle.searcher.specs.Arrays.{part_in}
+use Rattle.sweep.specs.Arrays.{rules_in, due_share, Due, added_at, taken_at}
 
 -- one place more, or none
-pub not-added : (due : List ℕ) (e c : ℕ) → 256 < e → due ≡ addedAt due e c
-not-added due e c h = rw (lt-leb e 256 h)
+pub not_added : (due : List ℕ) (e c : ℕ) → 256 < e → due ≡ added_at due e c
+not_added due e c h = rw (lt-leb e 256 h)
 
-pub is-added : (due : List ℕ) (e c : ℕ) → e ≤ 256 → set due e (get_or due e 0 + c) ≡ addedAt due e c
-is-added due e c h = rw (le-leb e 256 h)
+pub is_added : (due : List ℕ) (e c : ℕ) → e ≤ 256 → set due e (get_or due e 0 + c) ≡ added_at due e c
+is_added due e c h = rw (le-leb e 256 h)
 
 -- the rules' ends and costs
 module _ (g : List (List ℕ)) (links : List ℕ) (s : List (List ℕ)) (i : ℕ) where
-  pub end_of : (rulesIn g links s).end i ≡ get_or (partIn s 1) i 0
-  unfolding rulesIn
+  pub end_of : (rules_in g links s).end i ≡ get_or (part_in s 1) i 0
+  unfolding rules_in
   end_of = refl
 
-  pub cost-of : (rulesIn g links s).cost i ≡ get_or (partIn g 0) i 0
-  unfolding rulesIn
-  cost-of = refl
+  pub cost_of_lem : (rules_in g links s).cost i ≡ get_or (part_in g 0) i 0
+  unfolding rules_in
+  cost_of_lem = refl
 
-  pub sided-of : (rulesIn g links s).sided i ≡ true
-  unfolding rulesIn
-  sided-of = refl
+  pub sided_of : (rules_in g links s).sided i ≡ true
+  unfolding rules_in
+  sided_of = refl
 
-zeros-at : (k e : ℕ) → get_or {A = ℕ} (replicate k 0) e 0 ≡ 0
-zeros-at zero e = refl
-zeros-at (suc k) zero = refl
-zeros-at (suc k) (suc e) = zeros-at k e
+zeros_at : (k e : ℕ) → get_or {A = ℕ} (replicate k 0) e 0 ≡ 0
+zeros_at zero e = refl
+zeros_at (suc k) zero = refl
+zeros_at (suc k) (suc e) = zeros_at k e
 
 pub no_flag : (k x : ℕ) → get_or (replicate k false) x false ≡ false
 no_flag zero x = refl
 no_flag (suc k) zero = refl
 no_flag (suc k) (suc x) = no_flag k x
 
-pub due-none : (u : Rules) (ps : List Bool) → Due u ps 0 (replicate 257 0)
+pub due_none : (u : Rules) (ps : List Bool) → Due u ps 0 (replicate 257 0)
 unfolding sum
-due-none u ps = record {
+due_none u ps = record {
   size = length-replicate {A = ℕ} 257 0;
-  each = λ e h. zeros-at 257 e;
-  small = λ e. omega (arith, zeros-at 257 e);
+  each = λ e h. zeros_at 257 e;
+  small = λ e. omega (arith, zeros_at 257 e);
 }
 
 module _ {u : Rules} {ps : List Bool} {i : ℕ} {due : List ℕ} (d : Due u ps i due) where
-  one_more : (e : ℕ) → sum (dueShare u ps e) (i + 1) 0 ≡ sum (dueShare u ps e) i 0 + dueShare u ps e i
-  one_more e = rw (add-one i) (sum-snoc (dueShare u ps e) i 0 ∙ rw (zero-add i))
+  one_more : (e : ℕ) → sum (due_share u ps e) (i + 1) 0 ≡ sum (due_share u ps e) i 0 + due_share u ps e i
+  one_more e = rw (add-one i) (sum_snoc (due_share u ps e) i 0 ∙ rw (zero-add i))
 
   -- a job that has none
-  module _ (f : get_or ps i false ≡ false) (sided : u.sided i ≡ true) {end c : ℕ} (end_is : end ≡ u.end i) (c-is : c ≡ u.cost i) (fits : c ≤ 65535) where
-    share : (e : ℕ) → dueShare u ps e i ≡ cond (eqb end e) c 0
-    share e = rw (sided, f, end_is, c-is)
+  module _ (f : get_or ps i false ≡ false) (sided : u.sided i ≡ true) {end c : ℕ} (end_is : end ≡ u.end i) (c_is : c ≡ u.cost i) (fits : c ≤ 65535) where
+    share : (e : ℕ) → due_share u ps e i ≡ cond (eqb end e) c 0
+    share e = rw (sided, f, end_is, c_is)
 
-    pub due-more : {due' : List ℕ} → due' ≡ addedAt due end c → Due u ps (i + 1) due'
-    due-more {due'} is = go (leb end 256) refl
+    pub due_more : {due' : List ℕ} → due' ≡ added_at due end c → Due u ps (i + 1) due'
+    due_more {due'} is = go (leb end 256) refl
       where
         go : (b : Bool) → leb end 256 ≡ b → Due u ps (i + 1) due'
         go false q =
@@ -74,7 +74,7 @@ module _ {u : Rules} {ps : List Bool} {i : ℕ} {due : List ℕ} (d : Due u ps i
             rw same (record {
               size = d.size;
               each = λ e h. let z : eqb end e ≡ false = ne_eqb end e (λ w. omega arith) in
-                  let w : dueShare u ps e i ≡ 0 = share e ∙ rw z in omega (arith, d.each e h, one_more e);
+                  let w : due_share u ps e i ≡ 0 = share e ∙ rw z in omega (arith, d.each e h, one_more e);
               small = λ e. omega (arith, d.small e);
             })
         go true q =
@@ -92,15 +92,15 @@ module _ {u : Rules} {ps : List Bool} {i : ℕ} {due : List ℕ} (d : Due u ps i
             there : (e : ℕ) → (end ≡ e → ⊥) → get_or (set due end (get_or due end 0 + c)) e 0 ≡ get_or due e 0
             there e ne = get_or-set_other due end e (get_or due end 0 + c) 0 (λ w. ne (sym w))
 
-            each : end ≤ 256 → (e : ℕ) → e ≤ 256 → (b : Bool) → eqb end e ≡ b → get_or (set due end (get_or due end 0 + c)) e 0 ≡ sum (dueShare u ps e) (i + 1) 0
+            each : end ≤ 256 → (e : ℕ) → e ≤ 256 → (b : Bool) → eqb end e ≡ b → get_or (set due end (get_or due end 0 + c)) e 0 ≡ sum (due_share u ps e) (i + 1) 0
             each t e h true w =
                 let z : end ≡ e = eqb-true end e w in
-                let v : dueShare u ps e i ≡ c = share e ∙ rw w in
+                let v : due_share u ps e i ≡ c = share e ∙ rw w in
                 let a : get_or (set due end (get_or due end 0 + c)) e 0 ≡ get_or due e 0 + c = sym
                 (ap (λ (k : ℕ). get_or (set due end (get_or due end 0 + c)) k 0) z) ∙ here t ∙ ap (λ (k : ℕ). get_or due k 0 + c) z in
                 omega (arith, d.each e h, one_more e)
             each t e h false w =
-                let v : dueShare u ps e i ≡ 0 = share e ∙ rw w in
+                let v : due_share u ps e i ≡ 0 = share e ∙ rw w in
                 omega (arith, d.each e h, one_more e, there e (eqb-false end e w))
 
             small : end ≤ 256 → (e : ℕ) (b : Bool) → eqb end e ≡ b → get_or (set due end (get_or due end 0 + c)) e 0 ≤ (i + 1) * 65535
@@ -112,10 +112,10 @@ module _ {u : Rules} {ps : List Bool} {i : ℕ} {due : List ℕ} (d : Due u ps i
             small t e false w = omega (arith, d.small e, there e (eqb-false end e w))
 
 -- sums that differ in one term
-sum-off : (g h : ℕ → ℕ) (i : ℕ) → ((x : ℕ) → (x ≡ i → ⊥) → g x ≡ h x) → (j a : ℕ) → i < a → sum g j a ≡ sum h j a
+sum_off : (g h : ℕ → ℕ) (i : ℕ) → ((x : ℕ) → (x ≡ i → ⊥) → g x ≡ h x) → (j a : ℕ) → i < a → sum g j a ≡ sum h j a
 unfolding sum
-sum-off g h i same zero a l = refl
-sum-off g h i same (suc j) a l = rw (same a (λ e. omega arith), sum-off g h i same j (a + 1) (omega arith))
+sum_off g h i same zero a l = refl
+sum_off g h i same (suc j) a l = rw (same a (λ e. omega arith), sum_off g h i same j (a + 1) (omega arith))
 
 sum_one : (g h : ℕ → ℕ) (i : ℕ) → ((x : ℕ) → (x ≡ i → ⊥) → g x ≡ h x) → (j a : ℕ) → a ≤ i → i < a + j → sum g j a + h i ≡ sum h j a + g i
 unfolding sum
@@ -128,32 +128,32 @@ sum_one g h i same (suc j) a l m = go (eqb a i) refl (sum_one g h i same j (a + 
         let w : a ≡ i = eqb-true a i q in
         let y : g a ≡ g i = ap g w in
         let z : h a ≡ h i = ap h w in
-        omega (arith, sum-off g h i same j (a + 1) (omega arith))
+        omega (arith, sum_off g h i same j (a + 1) (omega arith))
     go false q ih = let w : a ≡ i → ⊥ = eqb-false a i q in omega (arith, same a w, ih (omega arith) (omega arith))
 
 -- job i gets a row: its time is taken off
 module _ {u : Rules} {ps : List Bool} {due : List ℕ} (d : Due u ps u.n due) {i : ℕ} (job : i < u.n) (size : i < length ps) (unset : get_or ps i false ≡ false)
-    (sided : u.sided i ≡ true) {end c : ℕ} (end_is : end ≡ u.end i) (c-is : c ≡ u.cost i) where
-  mine : (e : ℕ) → dueShare u ps e i ≡ cond (eqb end e) c 0
-  mine e = rw (sided, unset, end_is, c-is)
+    (sided : u.sided i ≡ true) {end c : ℕ} (end_is : end ≡ u.end i) (c_is : c ≡ u.cost i) where
+  mine : (e : ℕ) → due_share u ps e i ≡ cond (eqb end e) c 0
+  mine e = rw (sided, unset, end_is, c_is)
 
-  gone : (e : ℕ) → dueShare u (set ps i true) e i ≡ 0
+  gone : (e : ℕ) → due_share u (set ps i true) e i ≡ 0
   gone e = rw (get_or-set_same ps i true false size, and-false (u.sided i))
 
-  others : (e x : ℕ) → (x ≡ i → ⊥) → dueShare u (set ps i true) e x ≡ dueShare u ps e x
+  others : (e x : ℕ) → (x ≡ i → ⊥) → due_share u (set ps i true) e x ≡ due_share u ps e x
   others e x ne = rw (get_or-set_other ps i x true false ne)
 
-  less : (e : ℕ) → sum (dueShare u (set ps i true) e) u.n 0 + cond (eqb end e) c 0 ≡ sum (dueShare u ps e) u.n 0
-  less e = omega (arith, mine e, gone e, sum_one (dueShare u (set ps i true) e) (dueShare u ps e) i (others e) u.n 0 (omega arith) (omega arith))
+  less : (e : ℕ) → sum (due_share u (set ps i true) e) u.n 0 + cond (eqb end e) c 0 ≡ sum (due_share u ps e) u.n 0
+  less e = omega (arith, mine e, gone e, sum_one (due_share u (set ps i true) e) (due_share u ps e) i (others e) u.n 0 (omega arith) (omega arith))
 
-  pub due-has : end ≤ 256 → c ≤ get_or due end 0
-  due-has h =
+  pub due_has : end ≤ 256 → c ≤ get_or due end 0
+  due_has h =
       let k : eqb end end ≡ true = eq-eqb end end refl in
-      let l : sum (dueShare u (set ps i true) end) u.n 0 + c ≡ sum (dueShare u ps end) u.n 0 = rw k at (less end) in
+      let l : sum (due_share u (set ps i true) end) u.n 0 + c ≡ sum (due_share u ps end) u.n 0 = rw k at (less end) in
       omega (arith, d.each end h)
 
-  pub due-taken : Due u (set ps i true) u.n (takenAt due end c)
-  due-taken = go (leb end 256) refl
+  pub due_taken : Due u (set ps i true) u.n (taken_at due end c)
+  due_taken = go (leb end 256) refl
     where
       go : (b : Bool) → leb end 256 ≡ b → Due u (set ps i true) u.n (cond b (set due end (get_or due end 0 - c)) due)
       go false q =
@@ -161,7 +161,7 @@ module _ {u : Rules} {ps : List Bool} {due : List ℕ} (d : Due u ps u.n due) {i
           record {
             size = d.size;
             each = λ e h. let z : eqb end e ≡ false = ne_eqb end e (λ w. omega arith) in
-                let l : sum (dueShare u (set ps i true) e) u.n 0 + 0 ≡ sum (dueShare u ps e) u.n 0 = rw z at (less e) in
+                let l : sum (due_share u (set ps i true) e) u.n 0 + 0 ≡ sum (due_share u ps e) u.n 0 = rw z at (less e) in
                 omega (arith, d.each e h);
             small = d.small;
           }
@@ -179,25 +179,25 @@ module _ {u : Rules} {ps : List Bool} {due : List ℕ} (d : Due u ps u.n due) {i
           there : (e : ℕ) → (end ≡ e → ⊥) → get_or (set due end (get_or due end 0 - c)) e 0 ≡ get_or due e 0
           there e ne = get_or-set_other due end e (get_or due end 0 - c) 0 (λ w. ne (sym w))
 
-          at-end : end ≤ 256 → (e : ℕ) → end ≡ e → get_or (set due end (get_or due end 0 - c)) e 0 ≡ get_or due e 0 - c
-          at-end t e z = sym (ap (λ (k : ℕ). get_or (set due end (get_or due end 0 - c)) k 0) z) ∙ here t ∙ ap (λ (k : ℕ). get_or due k 0 - c) z
+          at_end : end ≤ 256 → (e : ℕ) → end ≡ e → get_or (set due end (get_or due end 0 - c)) e 0 ≡ get_or due e 0 - c
+          at_end t e z = sym (ap (λ (k : ℕ). get_or (set due end (get_or due end 0 - c)) k 0) z) ∙ here t ∙ ap (λ (k : ℕ). get_or due k 0 - c) z
 
           each : end ≤ 256 → (e : ℕ) → e ≤ 256 → (b : Bool) → eqb end e ≡ b
-              → get_or (set due end (get_or due end 0 - c)) e 0 ≡ sum (dueShare u (set ps i true) e) u.n 0
+              → get_or (set due end (get_or due end 0 - c)) e 0 ≡ sum (due_share u (set ps i true) e) u.n 0
           each t e h true w =
-              let l : sum (dueShare u (set ps i true) e) u.n 0 + c ≡ sum (dueShare u ps e) u.n 0 = rw w at (less e) in
-              omega (arith, d.each e h, at-end t e (eqb-true end e w))
+              let l : sum (due_share u (set ps i true) e) u.n 0 + c ≡ sum (due_share u ps e) u.n 0 = rw w at (less e) in
+              omega (arith, d.each e h, at_end t e (eqb-true end e w))
           each t e h false w =
-              let l : sum (dueShare u (set ps i true) e) u.n 0 + 0 ≡ sum (dueShare u ps e) u.n 0 = rw w at (less e) in
+              let l : sum (due_share u (set ps i true) e) u.n 0 + 0 ≡ sum (due_share u ps e) u.n 0 = rw w at (less e) in
               omega (arith, d.each e h, there e (eqb-false end e w))
 
           small : end ≤ 256 → (e : ℕ) (b : Bool) → eqb end e ≡ b → get_or (set due end (get_or due end 0 - c)) e 0 ≤ u.n * 65535
-          small t e true w = omega (arith, d.small e, at-end t e (eqb-true end e w))
+          small t e true w = omega (arith, d.small e, at_end t e (eqb-true end e w))
           small t e false w = omega (arith, d.small e, there e (eqb-false end e w))
 
 -- and is added again
-pub due-restored : (due : List ℕ) (e c : ℕ) → (e ≤ 256 → c ≤ get_or due e 0) → length due ≡ 257 → addedAt (takenAt due e c) e c ≡ due
-due-restored due e c has size = go (leb e 256) refl
+pub due_restored : (due : List ℕ) (e c : ℕ) → (e ≤ 256 → c ≤ get_or due e 0) → length due ≡ 257 → added_at (taken_at due e c) e c ≡ due
+due_restored due e c has size = go (leb e 256) refl
   where
     back : (a : ℕ) → c ≤ a → a - c + c ≡ a
     back a h = omega arith
@@ -212,11 +212,11 @@ due-restored due e c has size = go (leb e 256) refl
         rw k (set-set due e (get_or due e 0 - c) (get_or due e 0) ∙ set-get_or due e 0)
 
 -- one place less, or none
-pub not_taken : (due : List ℕ) (e c : ℕ) → 256 < e → due ≡ takenAt due e c
+pub not_taken : (due : List ℕ) (e c : ℕ) → 256 < e → due ≡ taken_at due e c
 not_taken due e c h = rw (lt-leb e 256 h)
 
-pub is-taken : (due : List ℕ) (e c : ℕ) → e ≤ 256 → set due e (get_or due e 0 - c) ≡ takenAt due e c
-is-taken due e c h = rw (le-leb e 256 h)
+pub is_taken : (due : List ℕ) (e c : ℕ) → e ≤ 256 → set due e (get_or due e 0 - c) ≡ taken_at due e c
+is_taken due e c h = rw (le-leb e 256 h)
 
 -- the pass over the rows: `need` is no more than what waits for the rows from p to before e, `room` is what they have
 pub record Comparing (u : Rules) (rows p : ℕ) (ps : List Bool) (e need room : ℕ) : Type 0 where
@@ -224,44 +224,44 @@ pub record Comparing (u : Rules) (rows p : ℕ) (ps : List Bool) (e need room : 
   pub most : e ≤ rows
   pub waits : need ≤ waiting u p ps (e - p)
   pub has : room ≡ u.f * (e - p)
-  pub need-small : need ≤ (e - p) * 8388480
+  pub need_small : need ≤ (e - p) * 8388480
   pub room_small : room ≤ (e - p) * 65535
 
-pub comparing-start : (u : Rules) {rows p : ℕ} (ps : List Bool) → p ≤ rows → Comparing u rows p ps p 0 0
-comparing-start u {rows} {p} ps h = let z : p - p ≡ 0 = omega arith in
-    record { begun = omega arith; most = h; waits = omega arith; has = rw z (sym (mul-none u.f)); need-small = omega arith; room_small = omega arith }
+pub comparing_start : (u : Rules) {rows p : ℕ} (ps : List Bool) → p ≤ rows → Comparing u rows p ps p 0 0
+comparing_start u {rows} {p} ps h = let z : p - p ≡ 0 = omega arith in
+    record { begun = omega arith; most = h; waits = omega arith; has = rw z (sym (mul_none u.f)); need_small = omega arith; room_small = omega arith }
   where
-    mul-none : (k : ℕ) → k * 0 ≡ 0
-    mul-none k = omega arith
+    mul_none : (k : ℕ) → k * 0 ≡ 0
+    mul_none k = omega arith
 
 module _ {u : Rules} {rows p : ℕ} {ps : List Bool} {e need room : ℕ} (v : Comparing u rows p ps e need room) (more : e < rows) (few : rows ≤ 256)
-    {due : List ℕ} {n : ℕ} (n-is : u.n ≡ n) (jobs : n ≤ 128) (d : Due u ps n due) {f : ℕ} (f-is : f ≡ u.f) (fits : f ≤ 65535) where
-  pub due-small : get_or due (e + 1) 0 ≤ 8388480
-  due-small = omega (arith, d.small (e + 1))
+    {due : List ℕ} {n : ℕ} (n_is : u.n ≡ n) (jobs : n ≤ 128) (d : Due u ps n due) {f : ℕ} (f_is : f ≡ u.f) (fits : f ≤ 65535) where
+  pub due_small : get_or due (e + 1) 0 ≤ 8388480
+  due_small = omega (arith, d.small (e + 1))
 
-  pub comparing-more : Comparing u rows p ps (e + 1) (need + get_or due (e + 1) 0) (room + f)
+  pub comparing_more : Comparing u rows p ps (e + 1) (need + get_or due (e + 1) 0) (room + f)
   unfolding due_at
-  comparing-more =
+  comparing_more =
       let w : ℕ = e - p in
       let z : e + 1 - p ≡ w + 1 = omega (arith, v.begun) in
       let y : p + w + 1 ≡ e + 1 = omega (arith, v.begun) in
-      let due-is : get_or due (e + 1) 0 ≡ due_at u ps (p + w + 1) = d.each (e + 1) (omega arith) ∙ rw (y, n-is) refl in
+      let due_is : get_or due (e + 1) 0 ≡ due_at u ps (p + w + 1) = d.each (e + 1) (omega arith) ∙ rw (y, n_is) refl in
       let turn : u.f * (w + 1) ≡ u.f * w + u.f = times_more u.f w in
       record {
         begun = omega (arith, v.begun);
         most = omega arith;
-        waits = rw z (omega (arith, v.waits, due-is, waiting-more u p ps w));
+        waits = rw z (omega (arith, v.waits, due_is, waiting_more u p ps w));
         has = rw z (omega (arith, v.has, turn));
-        need-small = rw z (omega (arith, v.need-small, due-small));
+        need_small = rw z (omega (arith, v.need_small, due_small));
         room_small = rw z (omega (arith, v.room_small));
       }
     where
       times_more : (a b : ℕ) → a * (b + 1) ≡ a * b + a
-      times_more a b = mul-add a b 1 ∙ ap (λ (k : ℕ). a * b + k) (mul-one a)
+      times_more a b = mul-add a b 1 ∙ ap (λ (k : ℕ). a * b + k) (mul_one a)
         where
-          mul-one : (k : ℕ) → k * 1 ≡ k
-          mul-one k = omega arith
+          mul_one : (k : ℕ) → k * 1 ≡ k
+          mul_one k = omega arith
 
 -- more is needed than there is
-pub late-row : {u : Rules} {rows p : ℕ} {ps : List Bool} {e need room : ℕ} → Comparing u rows p ps e need room → p < rows → room < need → From u rows p ps
-late-row {u} {rows} {p} {ps} {e} v h t = row-late u rows p ps h (e - p) (omega (arith, v.most)) (omega (arith, v.waits, v.has))
+pub late_row : {u : Rules} {rows p : ℕ} {ps : List Bool} {e need room : ℕ} → Comparing u rows p ps e need room → p < rows → room < need → From u rows p ps
+late_row {u} {rows} {p} {ps} {e} v h t = row_late u rows p ps h (e - p) (omega (arith, v.most)) (omega (arith, v.waits, v.has))

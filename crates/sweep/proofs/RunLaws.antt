@@ -9,44 +9,44 @@ use native.Mathlib.Nat.{eq-or-lt_of_le}
 use native.Mathlib.Omega.{arith}
 use lib.ListN.{length, get_or, set, replicate, length-set, length-replicate}
 use lib.Seq.{set-set, set-get_or}
-use Rattle.searcher.specs.Arrays.{partIn, jobsIn}
+use Rattle.searcher.specs.Arrays.{part_in, jobs_in}
 use Rattle.exact.specs.Sweep.{Rules, any_below, more, skips, puts, leaves, From, Rest, Ordered, Fewer}
-use Rattle.exact.specs.WitnessLaws.{ordered-first, ordered-put, from-fewer}
-use Rattle.exact.specs.SweepLaws.{Putting, row-begun, rest-full, rest-next, rest-skip, rest-stuck, rest-left}
+use Rattle.exact.specs.WitnessLaws.{ordered_first, ordered_put, from_fewer}
+use Rattle.exact.specs.SweepLaws.{Putting, row_begun, rest_full, rest_next, rest_skip, rest_stuck, rest_left}
 use Rattle.exact.specs.Words.{word, word_at}
-use Rattle.sweep.specs.Memo.{Knows, Noted, sound-first, sound-noted}
-use Rattle.sweep.specs.Arrays.{rulesIn, Next, Due, addedAt, takenAt, Going, Failed, NotPut}
-use Rattle.sweep.proofs.LateLaws.{due-has, due-taken, due-restored}
+use Rattle.sweep.specs.Memo.{Knows, Noted, sound_first, sound_noted}
+use Rattle.sweep.specs.Arrays.{rules_in, Next, Due, added_at, taken_at, Going, Failed, NotPut}
+use Rattle.sweep.proofs.LateLaws.{due_has, due_taken, due_restored}
 
 -- the rules' numbers
 module _ (g : List (List ℕ)) (links : List ℕ) (s : List (List ℕ)) where
-  pub n-is : (rulesIn g links s).n ≡ jobsIn g
-  unfolding rulesIn
-  n-is = refl
+  pub n_is : (rules_in g links s).n ≡ jobs_in g
+  unfolding rules_in
+  n_is = refl
 
-  pub f-is : (rulesIn g links s).f ≡ get_or (partIn g 4) 1 0
-  unfolding rulesIn
-  f-is = refl
+  pub f_is : (rules_in g links s).f ≡ get_or (part_in g 4) 1 0
+  unfolding rules_in
+  f_is = refl
 
 -- the loop, at row `row` and job `job`, with this space left in the row
 pub record Running (u : Rules) (rows p i room : ℕ) (ps : List Bool) (due : List ℕ) (low high : ℕ) (kept : Bool)
     (ps' : List Bool) (due' marks' words' : List ℕ) (row job space : ℕ) : Type 0 where
   pub going : Going u rows ps' due' marks' words' low high kept
   pub same : ps' ≡ ps
-  pub same-due : due' ≡ due
+  pub same_due : due' ≡ due
   pub begun : p ≤ row
   pub inside : row < rows
   pub jobs : job ≤ u.n
   pub whole : Rest u rows row job ps space → Rest u rows p i ps room
   pub next : p < row → Rest u rows row job ps space → From u rows (p + 1) ps
 
-pub run-start : {u : Rules} {rows p i : ℕ} (room : ℕ) {ps : List Bool} {due marks words : List ℕ} {low high : ℕ} {kept : Bool}
+pub run_start : {u : Rules} {rows p i : ℕ} (room : ℕ) {ps : List Bool} {due marks words : List ℕ} {low high : ℕ} {kept : Bool}
     → Going u rows ps due marks words low high kept → p < rows → i ≤ u.n
     → Running u rows p i room ps due low high kept ps due marks words p i room
-run-start room g h l = record {
+run_start room g h l = record {
   going = g;
   same = refl;
-  same-due = refl;
+  same_due = refl;
   begun = omega arith;
   inside = h;
   jobs = l;
@@ -57,28 +57,28 @@ run-start room g h l = record {
 -- the row is at its end
 module _ {u : Rules} {rows p i room : ℕ} {ps : List Bool} {due : List ℕ} {low high : ℕ} {kept : Bool} {ps' : List Bool} {due' marks' words' : List ℕ}
     {row space : ℕ} (v : Running u rows p i room ps due low high kept ps' due' marks' words' row u.n space) where
-  pub run-full : {n : ℕ} → u.n ≡ n → any_below (more u row ps' space) n ≡ true → Failed u rows p i room ps due row ps' due' marks' words'
-  run-full {n} is e =
-      let f : Rest u rows row u.n ps space = rest-full u rows row ps u.n space (omega arith) (rw (v.same, ← is) at e) in
-      record { fails = v.whole f; next = λ t. v.next t f; same = v.same; same-due = v.same-due; memory = v.going.memory }
+  pub run_full : {n : ℕ} → u.n ≡ n → any_below (more u row ps' space) n ≡ true → Failed u rows p i room ps due row ps' due' marks' words'
+  run_full {n} is e =
+      let f : Rest u rows row u.n ps space = rest_full u rows row ps u.n space (omega arith) (rw (v.same, ← is) at e) in
+      record { fails = v.whole f; next = λ t. v.next t f; same = v.same; same_due = v.same_due; memory = v.going.memory }
 
   -- where the next row fails, so does all
   module _ (f : From u rows (row + 1) ps) where
     before : Rest u rows row u.n ps space
-    before = rest-next u rows row ps u.n space (omega arith) f
+    before = rest_next u rows row ps u.n space (omega arith) f
 
-    next-fails : From u rows (p + 1) ps
-    next-fails = ⊎_elim (λ e. rw e f) (λ t. v.next t before) (eq-or-lt_of_le v.begun)
+    next_fails : From u rows (p + 1) ps
+    next_fails = ⊎_elim (λ e. rw e f) (λ t. v.next t before) (eq-or-lt_of_le v.begun)
 
-  pub run-late : From u rows (row + 1) ps' → Failed u rows p i room ps due (row + 1) ps' due' marks' words'
-  run-late e =
+  pub run_late : From u rows (row + 1) ps' → Failed u rows p i room ps due (row + 1) ps' due' marks' words'
+  run_late e =
       let f : From u rows (row + 1) ps = subst (λ (qs : List Bool). From u rows (row + 1) qs) v.same e in
-      record { fails = v.whole (before f); next = λ t. next-fails f; same = v.same; same-due = v.same-due; memory = v.going.memory }
+      record { fails = v.whole (before f); next = λ t. next_fails f; same = v.same; same_due = v.same_due; memory = v.going.memory }
 
-  pub run-known : Knows (marks' ++ words') (row + 1) low high → Failed u rows p i room ps due (row + 1) ps' due' marks' words'
-  run-known k =
+  pub run_known : Knows (marks' ++ words') (row + 1) low high → Failed u rows p i room ps due (row + 1) ps' due' marks' words'
+  run_known k =
       let g = v.going in
-      run-late (g.memory.sound.fails (row + 1) ps' g.flags (rw (g.lows, g.highs) at k))
+      run_late (g.memory.sound.fails (row + 1) ps' g.flags (rw (g.lows, g.highs) at k))
 
   pub run_row : row + 1 < rows → {f : ℕ} → f ≡ u.f → {kept' : Bool} → (kept' ≡ true → Ordered u ps')
       → Running u rows p i room ps due low high kept' ps' due' marks' words' (row + 1) 0 f
@@ -87,27 +87,27 @@ module _ {u : Rules} {rows p i room : ℕ} {ps : List Bool} {due : List ℕ} {lo
         let g = v.going in
         record { flags = g.flags; lows = g.lows; highs = g.highs; order = o; times = g.times; memory = g.memory };
     same = v.same;
-    same-due = v.same-due;
+    same_due = v.same_due;
     begun = omega (arith, v.begun);
     inside = h;
     jobs = omega arith;
     whole = λ r. v.whole (before (begins r));
-    next = λ t r. next-fails (begins r);
+    next = λ t r. next_fails (begins r);
   }
     where
       begins : Rest u rows (row + 1) 0 ps f → From u rows (row + 1) ps
-      begins r = row-begun u rows (row + 1) ps h (rw e at r)
+      begins r = row_begun u rows (row + 1) ps h (rw e at r)
 
 -- a job is left in the row
 module _ {u : Rules} {rows p i room : ℕ} {ps : List Bool} {due : List ℕ} {low high : ℕ} {kept : Bool} {ps' : List Bool} {due' marks' words' : List ℕ}
     {row job space : ℕ} (v : Running u rows p i room ps due low high kept ps' due' marks' words' row job space) (more : job < u.n) where
-  pub run-skip : skips u row ps' job ≡ true → Running u rows p i room ps due low high kept ps' due' marks' words' row (job + 1) space
-  run-skip e =
-      let back : Rest u rows row (job + 1) ps space → Rest u rows row job ps space = rest-skip u rows row ps job space more (rw v.same at e) in
+  pub run_skip : skips u row ps' job ≡ true → Running u rows p i room ps due low high kept ps' due' marks' words' row (job + 1) space
+  run_skip e =
+      let back : Rest u rows row (job + 1) ps space → Rest u rows row job ps space = rest_skip u rows row ps job space more (rw v.same at e) in
       record {
         going = v.going;
         same = v.same;
-        same-due = v.same-due;
+        same_due = v.same_due;
         begun = v.begun;
         inside = v.inside;
         jobs = omega arith;
@@ -117,11 +117,11 @@ module _ {u : Rules} {rows p i room : ℕ} {ps : List Bool} {due : List ℕ} {lo
 
   -- the job was not put
   module _ (e : skips u row ps' job ≡ false) {ps'' : List Bool} {due'' marks'' words'' : List ℕ} (d : NotPut u rows row job space ps' due' ps'' due'' marks'' words'') where
-    not-skipped : skips u row ps job ≡ false
-    not-skipped = rw v.same at e
+    not_skipped : skips u row ps job ≡ false
+    not_skipped = rw v.same at e
 
-    not-put : Putting u rows row job ps space
-    not-put = rw v.same at d.fails
+    not_put : Putting u rows row job ps space
+    not_put = rw v.same at d.fails
 
     same_flags : ps'' ≡ ps
     same_flags = d.same ∙ v.same
@@ -129,50 +129,50 @@ module _ {u : Rules} {rows p i room : ℕ} {ps : List Bool} {due : List ℕ} {lo
     goes_on : Going u rows ps'' due'' marks'' words'' low high kept
     goes_on =
         let g = v.going in
-        rw (d.same, d.same-due) (record { flags = g.flags; lows = g.lows; highs = g.highs; order = g.order; times = g.times; memory = d.memory })
+        rw (d.same, d.same_due) (record { flags = g.flags; lows = g.lows; highs = g.highs; order = g.order; times = g.times; memory = d.memory })
 
-    pub run-stuck : leaves u row ps'' job ≡ false → Failed u rows p i room ps due row ps'' due'' marks'' words''
-    run-stuck l =
-        let f : Rest u rows row job ps space = rest-stuck u rows row ps job space more not-skipped not-put (rw same_flags at l) in
-        record { fails = v.whole f; next = λ t. v.next t f; same = same_flags; same-due = d.same-due ∙ v.same-due; memory = d.memory }
+    pub run_stuck : leaves u row ps'' job ≡ false → Failed u rows p i room ps due row ps'' due'' marks'' words''
+    run_stuck l =
+        let f : Rest u rows row job ps space = rest_stuck u rows row ps job space more not_skipped not_put (rw same_flags at l) in
+        record { fails = v.whole f; next = λ t. v.next t f; same = same_flags; same_due = d.same_due ∙ v.same_due; memory = d.memory }
 
-    pub run-left : Running u rows p i room ps due low high kept ps'' due'' marks'' words'' row (job + 1) space
-    run-left = record {
+    pub run_left : Running u rows p i room ps due low high kept ps'' due'' marks'' words'' row (job + 1) space
+    run_left = record {
       going = goes_on;
       same = same_flags;
-      same-due = d.same-due ∙ v.same-due;
+      same_due = d.same_due ∙ v.same_due;
       begun = v.begun;
       inside = v.inside;
       jobs = omega arith;
-      whole = λ r. v.whole (rest-left u rows row ps job space more not-skipped not-put r);
-      next = λ t r. v.next t (rest-left u rows row ps job space more not-skipped not-put r);
+      whole = λ r. v.whole (rest_left u rows row ps job space more not_skipped not_put r);
+      next = λ t r. v.next t (rest_left u rows row ps job space more not_skipped not_put r);
     }
 
 -- the jobs up to the next one are passed over
 module _ {u : Rules} {rows p i room : ℕ} {ps : List Bool} {due : List ℕ} {low high : ℕ} {kept : Bool} {ps' : List Bool} {due' marks' words' : List ℕ}
     {row job space : ℕ} (v : Running u rows p i room ps due low high kept ps' due' marks' words' row job space) where
-  run-passed : (k : ℕ) → job + k ≤ u.n → ((y : ℕ) → job ≤ y → y < job + k → skips u row ps' y ≡ true)
+  run_passed : (k : ℕ) → job + k ≤ u.n → ((y : ℕ) → job ≤ y → y < job + k → skips u row ps' y ≡ true)
       → Running u rows p i room ps due low high kept ps' due' marks' words' row (job + k) space
-  run-passed zero le all =
+  run_passed zero le all =
       let e : job ≡ job + 0 = omega arith in
       subst (λ (j : ℕ). Running u rows p i room ps due low high kept ps' due' marks' words' row j space) e v
-  run-passed (suc k) le all =
+  run_passed (suc k) le all =
       let e : job + k + 1 ≡ job + suc k = omega arith in
       subst (λ (j : ℕ). Running u rows p i room ps due low high kept ps' due' marks' words' row j space) e
-      (run-skip (run-passed k (omega arith) (λ y a b. all y a (omega arith))) (omega arith) (all (job + k) (omega arith) (omega arith)))
+      (run_skip (run_passed k (omega arith) (λ y a b. all y a (omega arith))) (omega arith) (all (job + k) (omega arith) (omega arith)))
 
-  pub run-next : {n j : ℕ} → u.n ≡ n → Next u row ps' job n j → Running u rows p i room ps due low high kept ps' due' marks' words' row j space
-  run-next {n} {j} is next =
+  pub run_next : {n j : ℕ} → u.n ≡ n → Next u row ps' job n j → Running u rows p i room ps due low high kept ps' due' marks' words' row j space
+  run_next {n} {j} is next =
       let most : j ≤ u.n = next.most u.n v.jobs (omega arith) in
       let e : job + (j - job) ≡ j = omega (arith, next.begun) in
       subst (λ (k : ℕ). Running u rows p i room ps due low high kept ps' due' marks' words' row k space) e
-      (run-passed (j - job) (omega arith) (λ y a b. next.passed y a (omega arith)))
+      (run_passed (j - job) (omega arith) (λ y a b. next.passed y a (omega arith)))
 
   -- no job of the row is left
   pub run_end : {n j : ℕ} → u.n ≡ n → Next u row ps' job n j → n ≤ j
       → Running u rows p i room ps due low high kept ps' due' marks' words' row u.n space
   run_end is next h =
-      let at = run-next is next in
+      let at = run_next is next in
       subst (λ (k : ℕ). Running u rows p i room ps due low high kept ps' due' marks' words' row k space) (omega (arith, at.jobs)) at
 
 -- job i has no row; c is its cost, and `end` one past its last row
@@ -182,71 +182,71 @@ pub record Chosen (u : Rules) (ps : List Bool) (i end c : ℕ) : Type 0 where
   pub unset : get_or ps i false ≡ false
   pub sided : u.sided i ≡ true
   pub end_is : end ≡ u.end i
-  pub cost-is : c ≡ u.cost i
+  pub cost_is : c ≡ u.cost i
 
 -- one job is put
 module _ {u : Rules} {rows : ℕ} (p i room : ℕ) {ps : List Bool} {due marks words : List ℕ} {low high : ℕ} {kept : Bool}
     (g : Going u rows ps due marks words low high kept) where
-  pub may-not : puts u ps room i ≡ false → NotPut u rows p i room ps due ps due marks words
-  may-not e = record { fails = λ t. absurd (false≢true (sym e ∙ t)); same = refl; same-due = refl; memory = g.memory }
+  pub may_not : puts u ps room i ≡ false → NotPut u rows p i room ps due ps due marks words
+  may_not e = record { fails = λ t. absurd (false≢true (sym e ∙ t)); same = refl; same_due = refl; memory = g.memory }
 
   module _ {end c : ℕ} (x : Chosen u ps i end c) where
-    in-flags : i < length ps
-    in-flags = omega (arith, g.flags, x.job, x.few)
+    in_flags : i < length ps
+    in_flags = omega (arith, g.flags, x.job, x.few)
 
-    less-due : Due u (set ps i true) u.n (takenAt due end c)
-    less-due = due-taken g.times x.job in-flags x.unset x.sided x.end_is x.cost-is
+    less_due : Due u (set ps i true) u.n (taken_at due end c)
+    less_due = due_taken g.times x.job in_flags x.unset x.sided x.end_is x.cost_is
 
-    pub time-there : end ≤ 256 → c ≤ get_or due end 0
-    time-there = due-has g.times x.job in-flags x.unset x.sided x.end_is x.cost-is
+    pub time_there : end ≤ 256 → c ≤ get_or due end 0
+    time_there = due_has g.times x.job in_flags x.unset x.sided x.end_is x.cost_is
 
-    pub time-room : {due' : List ℕ} → due' ≡ takenAt due end c → c ≤ 65535 → get_or due' end 0 + c ≤ 4294967295
-    time-room e f = omega (arith, ap (λ (l : List ℕ). get_or l end 0) e, less-due.small end, x.few)
+    pub time_room : {due' : List ℕ} → due' ≡ taken_at due end c → c ≤ 65535 → get_or due' end 0 + c ≤ 4294967295
+    time_room e f = omega (arith, ap (λ (l : List ℕ). get_or l end 0) e, less_due.small end, x.few)
 
-    pub put-ordered : {kept' : Bool} → (kept' ≡ true → (kept ≡ true) × (u.free ps i ≡ true)) → kept' ≡ true → Ordered u (set ps i true)
-    put-ordered k e = ordered-put (g.order (k e).0) i in-flags x.job (k e).1
+    pub put_ordered : {kept' : Bool} → (kept' ≡ true → (kept ≡ true) × (u.free ps i ≡ true)) → kept' ≡ true → Ordered u (set ps i true)
+    put_ordered k e = ordered_put (g.order (k e).0) i in_flags x.job (k e).1
 
     pub put_going : {low' high' : ℕ} {kept' : Bool} → low' ≡ word_at (set ps i true) 0 → high' ≡ word_at (set ps i true) 64
-        → (kept' ≡ true → (kept ≡ true) × (u.free ps i ≡ true)) → {due' : List ℕ} → due' ≡ takenAt due end c
+        → (kept' ≡ true → (kept ≡ true) × (u.free ps i ≡ true)) → {due' : List ℕ} → due' ≡ taken_at due end c
         → Going u rows (set ps i true) due' marks words low' high' kept'
     put_going l h k d = record {
       flags = length-set ps i true ∙ g.flags;
       lows = l;
       highs = h;
-      order = put-ordered k;
-      times = rw d less-due;
+      order = put_ordered k;
+      times = rw d less_due;
       memory = g.memory;
     }
 
-    module _ {due₁ : List ℕ} (taken : due₁ ≡ takenAt due end c) {e : ℕ} {ps' : List Bool} {due' marks' words' : List ℕ}
-        (d : Failed u rows p (i + 1) (room - c) (set ps i true) due₁ e ps' due' marks' words') {due'' : List ℕ} (added : due'' ≡ addedAt due' end c) where
-      put-fails : Putting u rows p i ps room
-      put-fails t = rw x.cost-is at d.fails
+    module _ {due₁ : List ℕ} (taken : due₁ ≡ taken_at due end c) {e : ℕ} {ps' : List Bool} {due' marks' words' : List ℕ}
+        (d : Failed u rows p (i + 1) (room - c) (set ps i true) due₁ e ps' due' marks' words') {due'' : List ℕ} (added : due'' ≡ added_at due' end c) where
+      put_fails : Putting u rows p i ps room
+      put_fails t = rw x.cost_is at d.fails
 
       restored : set ps' i false ≡ ps
       restored =
           ap (λ (l : List Bool). set l i false) d.same ∙ set-set ps i true false
           ∙ ap (λ (b : Bool). set ps i b) (sym x.unset) ∙ set-get_or ps i false
 
-      times-restored : due'' ≡ due
-      times-restored =
-          added ∙ ap (λ (l : List ℕ). addedAt l end c) (d.same-due ∙ taken) ∙ due-restored due end c time-there g.times.size
+      times_restored : due'' ≡ due
+      times_restored =
+          added ∙ ap (λ (l : List ℕ). added_at l end c) (d.same_due ∙ taken) ∙ due_restored due end c time_there g.times.size
 
-      pub put-failed : NotPut u rows p i room ps due (set ps' i false) due'' marks' words'
-      put-failed = record { fails = put-fails; same = restored; same-due = times-restored; memory = d.memory }
+      pub put_failed : NotPut u rows p i room ps due (set ps' i false) due'' marks' words'
+      put_failed = record { fails = put_fails; same = restored; same_due = times_restored; memory = d.memory }
 
       -- the state of the next row was begun, the order is kept there, and it is noted
-      pub put-noted : {marks'' words'' : List ℕ} {low' high' : ℕ} → low' ≡ word_at (set ps i true) 0 → high' ≡ word_at (set ps i true) 64 → p < e → Ordered u ps'
+      pub put_noted : {marks'' words'' : List ℕ} {low' high' : ℕ} → low' ≡ word_at (set ps i true) 0 → high' ≡ word_at (set ps i true) 64 → p < e → Ordered u ps'
           → Noted (marks' ++ words') (marks'' ++ words'') (p + 1) low' high' → length marks'' ≡ 5120 → length words'' ≡ 10240
           → NotPut u rows p i room ps due (set ps' i false) due'' marks'' words''
-      put-noted {marks''} {words''} l h t all w m n = record {
-        fails = put-fails;
+      put_noted {marks''} {words''} l h t all w m n = record {
+        fails = put_fails;
         same = restored;
-        same-due = times-restored;
+        same_due = times_restored;
         memory = record {
-          marks-size = m;
+          marks_size = m;
           words_size = n;
-          sound = sound-noted (set ps i true) (length-set ps i true ∙ g.flags) d.memory.sound (rw (l, h) at w) fewer;
+          sound = sound_noted (set ps i true) (length-set ps i true ∙ g.flags) d.memory.sound (rw (l, h) at w) fewer;
         };
       }
         where
@@ -254,39 +254,39 @@ module _ {u : Rules} {rows : ℕ} (p i room : ℕ) {ps : List Bool} {due marks w
           size = omega (arith, length-set ps i true, g.flags, x.few)
 
           fewer : (qs : List Bool) → Fewer qs (set ps i true) → From u rows (p + 1) qs
-          fewer qs f = from-fewer u rows (p + 1) (set ps i true) qs (omega arith) size (d.next t) (rw d.same at all) f
+          fewer qs f = from_fewer u rows (p + 1) (set ps i true) qs (omega arith) size (d.next t) (rw d.same at all) f
 
-pub times-for : {u : Rules} {rows : ℕ} {ps : List Bool} {due marks words : List ℕ} {low high : ℕ} {kept : Bool} → Going u rows ps due marks words low high kept
+pub times_for : {u : Rules} {rows : ℕ} {ps : List Bool} {due marks words : List ℕ} {low high : ℕ} {kept : Bool} → Going u rows ps due marks words low high kept
     → {n : ℕ} → u.n ≡ n → Due u ps n due
-times-for {u} {ps = ps} {due = due} g e = subst (λ (k : ℕ). Due u ps k due) e g.times
+times_for {u} {ps = ps} {due = due} g e = subst (λ (k : ℕ). Due u ps k due) e g.times
 
 -- the whole sweep
-pub going-first : (u : Rules) (rows : ℕ) {n : ℕ} → u.n ≡ n → {due words : List ℕ} → Due u (replicate 128 false) n due → length words ≡ 10240
+pub going_first : (u : Rules) (rows : ℕ) {n : ℕ} → u.n ≡ n → {due words : List ℕ} → Due u (replicate 128 false) n due → length words ≡ 10240
     → Going u rows (replicate 128 false) due (replicate 5120 0) words 0 0 true
 unfolding word
-going-first u rows e {due} {words} d n = record {
+going_first u rows e {due} {words} d n = record {
   flags = length-replicate 128 false;
   lows = refl;
   highs = refl;
-  order = λ e. ordered-first u 128;
+  order = λ e. ordered_first u 128;
   times = subst (λ (k : ℕ). Due u (replicate 128 false) k due) (sym e) d;
-  memory = record { marks-size = length-replicate {A = ℕ} 5120 0; words_size = n; sound = sound-first u rows words };
+  memory = record { marks_size = length-replicate {A = ℕ} 5120 0; words_size = n; sound = sound_first u rows words };
 }
 
-pub swept-false : {u : Rules} {rows : ℕ} → 0 < rows → {room e : ℕ} {due : List ℕ} {ps' : List Bool} {due' marks' words' : List ℕ} → room ≡ u.f
+pub swept_false : {u : Rules} {rows : ℕ} → 0 < rows → {room e : ℕ} {due : List ℕ} {ps' : List Bool} {due' marks' words' : List ℕ} → room ≡ u.f
     → Failed u rows 0 0 room (replicate 128 false) due e ps' due' marks' words' → From u rows 0 (replicate 128 false)
-swept-false {u} {rows} h e d = row-begun u rows 0 (replicate 128 false) h (rw e at d.fails)
+swept_false {u} {rows} h e d = row_begun u rows 0 (replicate 128 false) h (rw e at d.fails)
 
 -- a test that holds of all from i on below j, and of j
-pub all-from-more : (t : ℕ → Bool) {i j : ℕ} → ((y : ℕ) → i ≤ y → y < j → t y ≡ true) → t j ≡ true → (y : ℕ) → i ≤ y → y < j + 1 → t y ≡ true
-all-from-more t {i} {j} h e y a l = ⊎_elim (λ q. rw q e) (h y a) (eq-or-lt_of_le (le-here l))
+pub all_from_more : (t : ℕ → Bool) {i j : ℕ} → ((y : ℕ) → i ≤ y → y < j → t y ≡ true) → t j ≡ true → (y : ℕ) → i ≤ y → y < j + 1 → t y ≡ true
+all_from_more t {i} {j} h e y a l = ⊎_elim (λ q. rw q e) (h y a) (eq-or-lt_of_le (le_here l))
   where
-    le-here : {y j : ℕ} → y < j + 1 → y ≤ j
-    le-here l = omega arith
+    le_here : {y j : ℕ} → y < j + 1 → y ≤ j
+    le_here l = omega arith
 
 -- a test that holds of all below i, and of i
-pub all-below-more : (t : ℕ → Bool) {i : ℕ} → ((j : ℕ) → j < i → t j ≡ true) → t i ≡ true → (j : ℕ) → j < i + 1 → t j ≡ true
-all-below-more t {i} h e j l = ⊎_elim (λ q. rw q e) (h j) (eq-or-lt_of_le (le-here l))
+pub all_below_more : (t : ℕ → Bool) {i : ℕ} → ((j : ℕ) → j < i → t j ≡ true) → t i ≡ true → (j : ℕ) → j < i + 1 → t j ≡ true
+all_below_more t {i} h e j l = ⊎_elim (λ q. rw q e) (h j) (eq-or-lt_of_le (le_here l))
   where
-    le-here : {j i : ℕ} → j < i + 1 → j ≤ i
-    le-here l = omega arith
+    le_here : {j i : ℕ} → j < i + 1 → j ≤ i
+    le_here l = omega arith

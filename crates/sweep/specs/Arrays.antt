@@ -1,51 +1,51 @@
 -- What the sweep is given in arrays: the rules that they stand for, and what its functions require and ensure. Assumes nothing.
 use Rattle.std.specs.Prelude.{◌≡◌, Bool, true, false, not, cond, ◌&&◌, List, ◌++◌, ℕ, ◌+◌, ◌-◌, ◌*◌, ◌/◌, ◌%◌, ◌^◌, ◌≤◌, ◌<◌, length, get_or, set, leb, eqb}
 use Rattle.std.specs.Int.Bits.{bit_or}
-use Rattle.search.specs.Placing.{linksAt}
-use Rattle.searcher.specs.Arrays.{partIn, countsIn, rowsIn, jobsIn, LinksBack}
+use Rattle.search.specs.Placing.{links_at}
+use Rattle.searcher.specs.Arrays.{part_in, counts_in, rows_in, jobs_in, LinksBack}
 use Rattle.exact.specs.Sweep.{Rules, sum, skips, From, Rest, Ordered}
-use Rattle.exact.specs.Sided.{Jobs, rulesOf}
+use Rattle.exact.specs.Sided.{Jobs, rules_of}
 use Rattle.exact.specs.SweepLaws.{Putting}
 use Rattle.exact.specs.Words.{word_at}
 use Rattle.sweep.specs.Memo.{Sound}
 
 -- the side of each job
-abbrev pub sidesIn : List (List ℕ) → ℕ → ℕ
-sidesIn s i = get_or (partIn s 2) i 0
+abbrev pub sides_in : List (List ℕ) → ℕ → ℕ
+sides_in s i = get_or (part_in s 2) i 0
 
 -- whether a job with a higher number must not be later
-abbrev pub tiedIn : List (List ℕ) → ℕ → Bool
-tiedIn s i = not (eqb (get_or (partIn s 3) i 0) 0)
+abbrev pub tied_in : List (List ℕ) → ℕ → Bool
+tied_in s i = not (eqb (get_or (part_in s 3) i 0) 0)
 
 -- the jobs: their costs and links, their rows and sides, and which are tied to one with a higher number
-abbrev pub jobsOf : List (List ℕ) → List ℕ → List (List ℕ) → Jobs
-jobsOf g links s = record {
-  n = jobsIn g;
-  f = get_or (partIn g 4) 1 0;
-  cost = λ i. get_or (partIn g 0) i 0;
-  first = λ i. get_or (partIn s 0) i 0;
-  end = λ i. get_or (partIn s 1) i 0;
-  side = sidesIn s;
-  links = λ i. linksAt (countsIn g) links i;
-  tied = tiedIn s;
+abbrev pub jobs_of : List (List ℕ) → List ℕ → List (List ℕ) → Jobs
+jobs_of g links s = record {
+  n = jobs_in g;
+  f = get_or (part_in g 4) 1 0;
+  cost = λ i. get_or (part_in g 0) i 0;
+  first = λ i. get_or (part_in s 0) i 0;
+  end = λ i. get_or (part_in s 1) i 0;
+  side = sides_in s;
+  links = λ i. links_at (counts_in g) links i;
+  tied = tied_in s;
 }
 
-unfoldable pub rulesIn : List (List ℕ) → List ℕ → List (List ℕ) → Rules
-rulesIn g links s = rulesOf (jobsOf g links s)
+unfoldable pub rules_in : List (List ℕ) → List ℕ → List (List ℕ) → Rules
+rules_in g links s = rules_of (jobs_of g links s)
 
 -- there are as many jobs and rows as the arrays have room for, and each link has its place and names an earlier job
 pub record Sweepable (g : List (List ℕ)) (links : List ℕ) : Type 0 where
-  pub few : jobsIn g ≤ 128
-  pub few-rows : rowsIn g ≤ 256
-  pub back : (i : ℕ) → i < jobsIn g → LinksBack (countsIn g) links i
+  pub few : jobs_in g ≤ 128
+  pub few_rows : rows_in g ≤ 256
+  pub back : (i : ℕ) → i < jobs_in g → LinksBack (counts_in g) links i
 
 -- bit j of a number
 abbrev pub bit : ℕ → ℕ → ℕ
 bit w j = w / 2 ^ j % 2
 
 -- bit j of word k is set
-abbrev pub withBit : List ℕ → ℕ → ℕ → List ℕ
-withBit ws k j = set ws k (bit_or (get_or ws k 0) (2 ^ j))
+abbrev pub with_bit : List ℕ → ℕ → ℕ → List ℕ
+with_bit ws k j = set ws k (bit_or (get_or ws k 0) (2 ^ j))
 
 -- the jobs that have begun in a row have a bit in one of its two words
 pub record Begun (u : Rules) (rows : ℕ) (ws : List ℕ) : Type 0 where
@@ -62,22 +62,22 @@ abbrev pub Unfree : ℕ → ℕ → ℕ → ℕ → Type 0
 Unfree a b i j = (y : ℕ) → i ≤ y → y < j → bit a y ≡ 1 → bit b y ≡ 1
 
 -- what job x, if it has no row, takes of the rows that end before row e
-abbrev pub dueShare : Rules → List Bool → ℕ → ℕ → ℕ
-dueShare u ps e x = cond (u.sided x && (not (get_or ps x false) && eqb (u.end x) e)) (u.cost x) 0
+abbrev pub due_share : Rules → List Bool → ℕ → ℕ → ℕ
+due_share u ps e x = cond (u.sided x && (not (get_or ps x false) && eqb (u.end x) e)) (u.cost x) 0
 
 -- the sums of these over the first i jobs, at place e
 pub record Due (u : Rules) (ps : List Bool) (i : ℕ) (due : List ℕ) : Type 0 where
   pub size : length due ≡ 257
-  pub each : (e : ℕ) → e ≤ 256 → get_or due e 0 ≡ sum (dueShare u ps e) i 0
+  pub each : (e : ℕ) → e ≤ 256 → get_or due e 0 ≡ sum (due_share u ps e) i 0
   pub small : (e : ℕ) → get_or due e 0 ≤ i * 65535
 
 -- c more at place e, if there is one
-abbrev pub addedAt : List ℕ → ℕ → ℕ → List ℕ
-addedAt due e c = cond (leb e 256) (set due e (get_or due e 0 + c)) due
+abbrev pub added_at : List ℕ → ℕ → ℕ → List ℕ
+added_at due e c = cond (leb e 256) (set due e (get_or due e 0 + c)) due
 
 -- c less at place e, if there is one
-abbrev pub takenAt : List ℕ → ℕ → ℕ → List ℕ
-takenAt due e c = cond (leb e 256) (set due e (get_or due e 0 - c)) due
+abbrev pub taken_at : List ℕ → ℕ → ℕ → List ℕ
+taken_at due e c = cond (leb e 256) (set due e (get_or due e 0 - c)) due
 
 -- j is the first job from job i on that is not passed over in row p, or `end`, or i if that is behind it
 pub record Next (u : Rules) (p : ℕ) (ps : List Bool) (i end j : ℕ) : Type 0 where
@@ -88,7 +88,7 @@ pub record Next (u : Rules) (p : ℕ) (ps : List Bool) (i end j : ℕ) : Type 0 
 
 -- the memory of failed states
 pub record Memory (u : Rules) (rows : ℕ) (marks words : List ℕ) : Type 0 where
-  pub marks-size : length marks ≡ 5120
+  pub marks_size : length marks ≡ 5120
   pub words_size : length words ≡ 10240
   pub sound : Sound u rows (marks ++ words)
 
@@ -106,12 +106,12 @@ pub record Failed (u : Rules) (rows p i room : ℕ) (ps : List Bool) (due : List
   pub fails : Rest u rows p i ps room
   pub next : p < e → From u rows (p + 1) ps
   pub same : ps' ≡ ps
-  pub same-due : due' ≡ due
+  pub same_due : due' ≡ due
   pub memory : Memory u rows marks' words'
 
 -- what the answer no of `put` says: putting job i into row p fails
 pub record NotPut (u : Rules) (rows p i room : ℕ) (ps : List Bool) (due : List ℕ) (ps' : List Bool) (due' marks' words' : List ℕ) : Type 0 where
   pub fails : Putting u rows p i ps room
   pub same : ps' ≡ ps
-  pub same-due : due' ≡ due
+  pub same_due : due' ≡ due
   pub memory : Memory u rows marks' words'

@@ -1,15 +1,15 @@
 // The jobs that have begun in a row, as bits: two words for each row, first of the jobs before job 64, then of the others. Jobs that have a row are
 // two words as well, so that the next job of a row is found by counting zeros.
 ghost use Rattle.std.specs.Prelude.{◌≡◌, true, ℕ, ◌*◌, ◌≤◌, ◌<◌, length};
-ghost use Rattle.searcher.specs.Arrays.{rowsIn, jobsIn};
+ghost use Rattle.searcher.specs.Arrays.{rows_in, jobs_in};
 ghost use Rattle.exact.specs.Sweep.{skips};
 ghost use Rattle.exact.specs.Words.{word_at};
-ghost use Rattle.sweep.specs.Arrays.{rulesIn, Sweepable, Begun, Beginning, Unfree, withBit};
+ghost use Rattle.sweep.specs.Arrays.{rules_in, Sweepable, Begun, Beginning, Unfree, with_bit};
 
 // Sets bit j of word k.
 fn add_bit(begun: &mut [u64; 512], k: usize, j: usize)
     requires { (k < 512) × (j < 64) }
-    ensures { begun.new ≡ withBit begun.old k j }
+    ensures { begun.new ≡ with_bit begun.old k j }
 {
     begun[k] = begun[k] | (1u64 << (j as u32));
 }
@@ -23,8 +23,8 @@ fn in_first_rows(
 )
     requires sweepable { Sweepable given.now links.now }
     requires begun_len { length begun.old ≡ 512 }
-    ensures { Beginning (rulesIn given.now links.now swept.now) (rowsIn given.now)
-        (jobsIn given.now) 0 begun.new }
+    ensures { Beginning (rules_in given.now links.now swept.now) (rows_in given.now)
+        (jobs_in given.now) 0 begun.new }
 {
     let rows = given[4][0];
     let n = given[4][2] as usize;
@@ -45,7 +45,7 @@ pub(super) fn begun_of(
     swept: &[[u16; 128]; 4],
 ) -> [u64; 512]
     requires { Sweepable given.now links.now }
-    ensures { Begun (rulesIn given.now links.now swept.now) (rowsIn given.now) result }
+    ensures { Begun (rules_in given.now links.now swept.now) (rows_in given.now) result }
 {
     let mut begun = [0u64; 512];
     in_first_rows(given, links, swept, &mut begun);
@@ -79,10 +79,10 @@ pub(super) fn first_free(
     i: usize,
 ) -> usize
     requires sweepable { Sweepable given.now links.now }
-    requires begun { Begun (rulesIn given.now links.now swept.now) (rowsIn given.now) begun.now }
-    requires p_bound { (p < rowsIn given.now) × (i < 128) × (low ≡ word_at flags.now 0) × (high ≡ word_at flags.now 64) }
-    ensures { (i ≤ result) × ((y : ℕ) → i ≤ y → y < result → y < jobsIn given.now
-        → skips (rulesIn given.now links.now swept.now) p flags.now y ≡ true) }
+    requires begun { Begun (rules_in given.now links.now swept.now) (rows_in given.now) begun.now }
+    requires p_bound { (p < rows_in given.now) × (i < 128) × (low ≡ word_at flags.now 0) × (high ≡ word_at flags.now 64) }
+    ensures { (i ≤ result) × ((y : ℕ) → i ≤ y → y < result → y < jobs_in given.now
+        → skips (rules_in given.now links.now swept.now) p flags.now y ≡ true) }
 {
     let k = 2 * (p as usize);
     if i >= 64 {

@@ -1,14 +1,14 @@
 // The test of lateness: the jobs without a row need too much of the rows that are left. `due` has at place e what the jobs without a row take whose
 // rows end before row e.
 ghost use Rattle.std.specs.Prelude.{◌≡◌, true, false, ◌+◌, ◌≤◌, ◌<◌, get_or, replicate};
-ghost use Rattle.searcher.specs.Arrays.{rowsIn, jobsIn};
+ghost use Rattle.searcher.specs.Arrays.{rows_in, jobs_in};
 ghost use Rattle.exact.specs.Sweep.{From};
-ghost use Rattle.sweep.specs.Arrays.{rulesIn, Sweepable, Due, addedAt, takenAt};
+ghost use Rattle.sweep.specs.Arrays.{rules_in, Sweepable, Due, added_at, taken_at};
 
 // Adds c at place e, if there is one.
 pub(super) fn add_at(due: &mut [u32; 257], e: u16, c: u16)
     requires { get_or due.old e 0 + c ≤ 4294967295 }
-    ensures { due.new ≡ addedAt due.old e c }
+    ensures { due.new ≡ added_at due.old e c }
 {
     if e > 256 {
         return;
@@ -26,7 +26,7 @@ fn later(a: u16, b: u16) -> u16 {
 // Takes c off at place e, if there is one. Answers the later of e and `reach`.
 pub(super) fn take_at(due: &mut [u32; 257], e: u16, c: u16, reach: u16) -> u16
     requires { e ≤ 256 → c ≤ get_or due.old e 0 }
-    ensures { due.new ≡ takenAt due.old e c }
+    ensures { due.new ≡ taken_at due.old e c }
 {
     if e > 256 {
         return e;
@@ -42,7 +42,7 @@ pub(super) fn due_times(
     swept: &[[u16; 128]; 4],
 ) -> [u32; 257]
     requires { Sweepable given.now links.now }
-    ensures { Due (rulesIn given.now links.now swept.now) (replicate 128 false) (jobsIn given.now) result }
+    ensures { Due (rules_in given.now links.now swept.now) (replicate 128 false) (jobs_in given.now) result }
 {
     let n = given[4][2] as usize;
     let mut due = [0u32; 257];
@@ -85,10 +85,10 @@ pub(super) fn is_late(
     reach: u16,
 ) -> bool
     requires sweepable { Sweepable given.now links.now }
-    requires p_bound { p < rowsIn given.now }
-    requires due { Due (rulesIn given.now links.now swept.now) flags.now (jobsIn given.now) due.now }
-    ensures { result ≡ true → From (rulesIn given.now links.now swept.now)
-        (rowsIn given.now) p flags.now }
+    requires p_bound { p < rows_in given.now }
+    requires due { Due (rules_in given.now links.now swept.now) flags.now (jobs_in given.now) due.now }
+    ensures { result ≡ true → From (rules_in given.now links.now swept.now)
+        (rows_in given.now) p flags.now }
 {
     let rows = given[4][0];
     let stop = stop_row(rows, p, space, reach);

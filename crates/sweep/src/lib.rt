@@ -14,10 +14,10 @@ mod memory;
 mod order;
 
 ghost use Rattle.std.specs.Prelude.{◌≡◌, true, false, ◌≤◌, ◌<◌, replicate};
-ghost use Rattle.searcher.specs.Arrays.{countsIn, rowsIn, jobsIn, LinksBack};
+ghost use Rattle.searcher.specs.Arrays.{counts_in, rows_in, jobs_in, LinksBack};
 ghost use Rattle.exact.specs.Words.{word_at};
 ghost use Rattle.exact.specs.Sweep.{any_below, more, skips, puts, leaves, From, Ordered};
-ghost use Rattle.sweep.specs.Arrays.{rulesIn, Sweepable, Begun, Next, Going, Failed, NotPut, tiedIn};
+ghost use Rattle.sweep.specs.Arrays.{rules_in, Sweepable, Begun, Next, Going, Failed, NotPut, tied_in};
 
 // Job i is passed over in row p: it has a row, or its rows are later.
 fn is_skipped(
@@ -29,7 +29,7 @@ fn is_skipped(
     i: usize,
 ) -> bool
     requires { i < 128 }
-    ensures { result ≡ skips (rulesIn given.now links.now swept.now) p flags.now i }
+    ensures { result ≡ skips (rules_in given.now links.now swept.now) p flags.now i }
 {
     if flags[i] {
         return true;
@@ -46,8 +46,8 @@ fn may_put(
     room: u16,
     i: usize,
 ) -> bool
-    requires { LinksBack (countsIn given.now) links.now i }
-    ensures { result ≡ puts (rulesIn given.now links.now swept.now) flags.now room i }
+    requires { LinksBack (counts_in given.now) links.now i }
+    ensures { result ≡ puts (rules_in given.now links.now swept.now) flags.now room i }
 {
     if given[0][i] > room {
         return false;
@@ -64,8 +64,8 @@ fn may_leave(
     p: u16,
     i: usize,
 ) -> bool
-    requires { (p < 65535) × LinksBack (countsIn given.now) links.now i }
-    ensures { result ≡ leaves (rulesIn given.now links.now swept.now) p flags.now i }
+    requires { (p < 65535) × LinksBack (counts_in given.now) links.now i }
+    ensures { result ≡ leaves (rules_in given.now links.now swept.now) p flags.now i }
 {
     if p + 1 >= swept[1][i] {
         return false;
@@ -83,8 +83,8 @@ fn could_put(
     room: u16,
     i: usize,
 ) -> bool
-    requires { LinksBack (countsIn given.now) links.now i }
-    ensures { result ≡ true → more (rulesIn given.now links.now swept.now) p flags.now room i ≡ true }
+    requires { LinksBack (counts_in given.now) links.now i }
+    ensures { result ≡ true → more (rules_in given.now links.now swept.now) p flags.now room i ≡ true }
 {
     if given[0][i] > room {
         return false;
@@ -112,10 +112,10 @@ fn one_more(
     room: u16,
 ) -> bool
     requires sweepable { Sweepable given.now links.now }
-    requires p_bound { (p < rowsIn given.now) × (low ≡ word_at flags.now 0) × (high ≡ word_at flags.now 64)
-        × Begun (rulesIn given.now links.now swept.now) (rowsIn given.now) begun.now }
-    ensures { result ≡ true → any_below (more (rulesIn given.now links.now swept.now) p flags.now room)
-        (jobsIn given.now) ≡ true }
+    requires p_bound { (p < rows_in given.now) × (low ≡ word_at flags.now 0) × (high ≡ word_at flags.now 64)
+        × Begun (rules_in given.now links.now swept.now) (rows_in given.now) begun.now }
+    ensures { result ≡ true → any_below (more (rules_in given.now links.now swept.now) p flags.now room)
+        (jobs_in given.now) ≡ true }
 {
     if room < least[p as usize] {
         return false;
@@ -138,7 +138,7 @@ fn one_more(
 // The order is still kept where job i is put: it was, and no job with a higher number must be put before.
 fn still_kept(swept: &[[u16; 128]; 4], i: usize, kept: bool) -> bool
     requires { i < 128 }
-    ensures { result ≡ true → (kept ≡ true) × (tiedIn swept.now i ≡ false) }
+    ensures { result ≡ true → (kept ≡ true) × (tied_in swept.now i ≡ false) }
 {
     if swept[3][i] != 0 {
         return false;
@@ -155,8 +155,8 @@ fn is_kept(
     kept: bool,
 ) -> bool
     requires sweepable { Sweepable given.now links.now }
-    requires ordered { kept ≡ true → Ordered (rulesIn given.now links.now swept.now) flags.now }
-    ensures { result ≡ true → Ordered (rulesIn given.now links.now swept.now) flags.now }
+    requires ordered { kept ≡ true → Ordered (rules_in given.now links.now swept.now) flags.now }
+    ensures { result ≡ true → Ordered (rules_in given.now links.now swept.now) flags.now }
 {
     if kept {
         return true;
@@ -175,8 +175,8 @@ fn is_worth_noting(
     e: u16,
 ) -> bool
     requires sweepable { Sweepable given.now links.now }
-    requires ordered { kept ≡ true → Ordered (rulesIn given.now links.now swept.now) flags.now }
-    ensures { result ≡ true → (p < e) × Ordered (rulesIn given.now links.now swept.now) flags.now }
+    requires ordered { kept ≡ true → Ordered (rules_in given.now links.now swept.now) flags.now }
+    ensures { result ≡ true → (p < e) × Ordered (rules_in given.now links.now swept.now) flags.now }
 {
     if p >= e {
         return false;
@@ -198,9 +198,9 @@ fn next_job(
     end: usize,
 ) -> usize
     requires sweepable { Sweepable given.now links.now }
-    requires begun { Begun (rulesIn given.now links.now swept.now) (rowsIn given.now) begun.now }
-    requires p_bound { (p < rowsIn given.now) × (end ≤ jobsIn given.now) × (low ≡ word_at flags.now 0) × (high ≡ word_at flags.now 64) }
-    ensures { Next (rulesIn given.now links.now swept.now) p flags.now i end result }
+    requires begun { Begun (rules_in given.now links.now swept.now) (rows_in given.now) begun.now }
+    requires p_bound { (p < rows_in given.now) × (end ≤ jobs_in given.now) × (low ≡ word_at flags.now 0) × (high ≡ word_at flags.now 64) }
+    ensures { Next (rules_in given.now links.now swept.now) p flags.now i end result }
 {
     let mut j = i;
     while j < end {
@@ -241,11 +241,11 @@ fn run(
     reach: u16,
 ) -> u16
     requires sweepable { Sweepable given.now links.now }
-    requires p_bound { (p < rowsIn given.now) × (i ≤ jobsIn given.now)
-        × Begun (rulesIn given.now links.now swept.now) (rowsIn given.now) begun.now }
-    requires going { Going (rulesIn given.now links.now swept.now) (rowsIn given.now) flags.old due.old marks.old words.old low high kept }
-    ensures { result < rowsIn given.now → Failed (rulesIn given.now links.now swept.now)
-        (rowsIn given.now) p i room flags.old due.old result flags.new due.new marks.new words.new }
+    requires p_bound { (p < rows_in given.now) × (i ≤ jobs_in given.now)
+        × Begun (rules_in given.now links.now swept.now) (rows_in given.now) begun.now }
+    requires going { Going (rules_in given.now links.now swept.now) (rows_in given.now) flags.old due.old marks.old words.old low high kept }
+    ensures { result < rows_in given.now → Failed (rules_in given.now links.now swept.now)
+        (rows_in given.now) p i room flags.old due.old result flags.new due.new marks.new words.new }
 {
     let n = given[4][2] as usize;
     let rows = given[4][0];
@@ -315,12 +315,12 @@ fn put(
     reach: u16,
 ) -> bool
     requires sweepable { Sweepable given.now links.now }
-    requires p_bound { (p < rowsIn given.now) × (i < jobsIn given.now)
-        × Begun (rulesIn given.now links.now swept.now) (rowsIn given.now) begun.now }
-    requires going { Going (rulesIn given.now links.now swept.now) (rowsIn given.now) flags.old due.old marks.old words.old low high kept }
-    requires i_value { skips (rulesIn given.now links.now swept.now) p flags.old i ≡ false }
-    ensures { result ≡ false → NotPut (rulesIn given.now links.now swept.now)
-        (rowsIn given.now) p i room flags.old due.old flags.new due.new marks.new words.new }
+    requires p_bound { (p < rows_in given.now) × (i < jobs_in given.now)
+        × Begun (rules_in given.now links.now swept.now) (rows_in given.now) begun.now }
+    requires going { Going (rules_in given.now links.now swept.now) (rows_in given.now) flags.old due.old marks.old words.old low high kept }
+    requires i_value { skips (rules_in given.now links.now swept.now) p flags.old i ≡ false }
+    ensures { result ≡ false → NotPut (rules_in given.now links.now swept.now)
+        (rows_in given.now) p i room flags.old due.old flags.new due.new marks.new words.new }
 {
     if left == 0 {
         return true;
@@ -381,8 +381,8 @@ pub fn sweep(
     words: &mut [u64],
 ) -> bool
     requires { Sweepable given.now links.now }
-    ensures { result ≡ false → From (rulesIn given.now links.now swept.now)
-        (rowsIn given.now) 0 (replicate 128 false) }
+    ensures { result ≡ false → From (rules_in given.now links.now swept.now)
+        (rows_in given.now) 0 (replicate 128 false) }
 {
     let rows = given[4][0];
     if rows == 0 {

@@ -1,15 +1,15 @@
 // The tests of the order: by the links of a job and by the flags.
 ghost use Rattle.std.specs.Prelude.{◌≡◌, true, ◌<◌};
-ghost use Rattle.search.specs.Placing.{linksAt};
-ghost use Rattle.searcher.specs.Arrays.{countsIn, LinksBack};
-ghost use Rattle.exact.specs.Sweep.{inOrder, AllInOrder};
-ghost use Rattle.exact.specs.Sided.{all_in, put-by, leave-by};
-ghost use Rattle.sweep.specs.Arrays.{sidesIn, rulesIn, Sweepable};
+ghost use Rattle.search.specs.Placing.{links_at};
+ghost use Rattle.searcher.specs.Arrays.{counts_in, LinksBack};
+ghost use Rattle.exact.specs.Sweep.{in_order, AllInOrder};
+ghost use Rattle.exact.specs.Sided.{all_in, put_by, leave_by};
+ghost use Rattle.sweep.specs.Arrays.{sides_in, rules_in, Sweepable};
 
 // Link l of job i lets it be put into the row: the partner that must not be later has a row.
 fn lets_put(swept: &[[u16; 128]; 4], flags: &[bool; 128], i: usize, l: u8) -> bool
     requires { i < 128 }
-    ensures { result ≡ put-by (sidesIn swept.now) flags.now i l }
+    ensures { result ≡ put_by (sides_in swept.now) flags.now i l }
 {
     if l >= 128 {
         return true;
@@ -23,7 +23,7 @@ fn lets_put(swept: &[[u16; 128]; 4], flags: &[bool; 128], i: usize, l: u8) -> bo
 // Link l of job i lets it be left out of the row: the partner that must not be earlier has no row.
 fn lets_leave(swept: &[[u16; 128]; 4], flags: &[bool; 128], i: usize, l: u8) -> bool
     requires { i < 128 }
-    ensures { result ≡ leave-by (sidesIn swept.now) flags.now i l }
+    ensures { result ≡ leave_by (sides_in swept.now) flags.now i l }
 {
     if l < 128 {
         return true;
@@ -43,8 +43,8 @@ pub(super) fn all_let_put(
     flags: &[bool; 128],
     i: usize,
 ) -> bool
-    requires { LinksBack (countsIn given.now) links.now i }
-    ensures { result ≡ all_in (put-by (sidesIn swept.now) flags.now i) (linksAt (countsIn given.now) links.now i) }
+    requires { LinksBack (counts_in given.now) links.now i }
+    ensures { result ≡ all_in (put_by (sides_in swept.now) flags.now i) (links_at (counts_in given.now) links.now i) }
 {
     let mut at = 16 * i;
     let end = at + given[3][i] as usize;
@@ -65,8 +65,8 @@ pub(super) fn all_let_leave(
     flags: &[bool; 128],
     i: usize,
 ) -> bool
-    requires { LinksBack (countsIn given.now) links.now i }
-    ensures { result ≡ all_in (leave-by (sidesIn swept.now) flags.now i) (linksAt (countsIn given.now) links.now i) }
+    requires { LinksBack (counts_in given.now) links.now i }
+    ensures { result ≡ all_in (leave_by (sides_in swept.now) flags.now i) (links_at (counts_in given.now) links.now i) }
 {
     let mut at = 16 * i;
     let end = at + given[3][i] as usize;
@@ -87,8 +87,8 @@ fn is_in_order(
     flags: &[bool; 128],
     i: usize,
 ) -> bool
-    requires { LinksBack (countsIn given.now) links.now i }
-    ensures { result ≡ inOrder (rulesIn given.now links.now swept.now) flags.now i }
+    requires { LinksBack (counts_in given.now) links.now i }
+    ensures { result ≡ in_order (rules_in given.now links.now swept.now) flags.now i }
 {
     if flags[i] {
         return all_let_put(given, links, swept, flags, i);
@@ -104,7 +104,7 @@ pub(super) fn all_in_order(
     flags: &[bool; 128],
 ) -> bool
     requires { Sweepable given.now links.now }
-    ensures { result ≡ true → AllInOrder (rulesIn given.now links.now swept.now) flags.now }
+    ensures { result ≡ true → AllInOrder (rules_in given.now links.now swept.now) flags.now }
 {
     let n = given[4][2] as usize;
     let mut i = 0;

@@ -8,49 +8,49 @@ use native.Mathlib.Omega.{arith}
 use Rattle.std.proofs.Math.ListN.{get_or, length-map}
 use borrow.Author.Tests.{leb-true, leb-false, eqb-true, eqb-false, le-leb, lt-leb, lt-ltb, le-ltb}
 use Rattle.cursor.specs.Choice.{bit, keep}
-use Rattle.cursor.specs.WordBytesLaws.{word-parts}
+use Rattle.cursor.specs.WordBytesLaws.{word_parts}
 use Rattle.table.specs.Left.{less_one, none_left}
-use Rattle.table.specs.Table.{Entry, Table, entriesBytes, rowBytes, rowsBytes, headBytes, encode}
-use Rattle.table.specs.Layout.{indicesIn, entry_at, row_in, rowsIn, entryTotal, table_of}
+use Rattle.table.specs.Table.{Entry, Table, entries_bytes, row_bytes, rows_bytes, head_bytes, encode}
+use Rattle.table.specs.Layout.{indices_in, entry_at, row_in, rows_in, entry_total, table_of}
 use Rattle.table.specs.Promises.{between}
 use Rattle.table.specs.declared.Layout.{Layout}
 
 -- the entries in all rows
-unfoldable pub entryCount : List (List Entry) → ℕ
-entryCount [] = 0
-entryCount (es ∷ rows) = length es + entryCount rows
+unfoldable pub entry_count : List (List Entry) → ℕ
+entry_count [] = 0
+entry_count (es ∷ rows) = length es + entry_count rows
 
-pub entries-length : (es : List Entry) → length (entriesBytes es) ≡ 2 * length es
-unfolding entriesBytes
-entries-length [] = refl
-entries-length (e ∷ es) = omega (arith, entries-length es)
+pub entries_length : (es : List Entry) → length (entries_bytes es) ≡ 2 * length es
+unfolding entries_bytes
+entries_length [] = refl
+entries_length (e ∷ es) = omega (arith, entries_length es)
 
-pub rows-length : (rows : List (List Entry)) → length (rowsBytes rows) ≡ length rows + 2 * entryCount rows
-unfolding flat_map rowBytes entryCount
-rows-length [] = refl
-rows-length (es ∷ rows) = omega (arith, length-append (rowBytes es) (rowsBytes rows), entries-length es, rows-length rows)
+pub rows_length : (rows : List (List Entry)) → length (rows_bytes rows) ≡ length rows + 2 * entry_count rows
+unfolding flat_map row_bytes entry_count
+rows_length [] = refl
+rows_length (es ∷ rows) = omega (arith, length-append (row_bytes es) (rows_bytes rows), entries_length es, rows_length rows)
 
-pub head-length : (f h height : ℕ) → length (headBytes f h height) ≡ 7
-unfolding headBytes
-head-length f h height = rw (word-parts f, word-parts h, word-parts height)
+pub head_length : (f h height : ℕ) → length (head_bytes f h height) ≡ 7
+unfolding head_bytes
+head_length f h height = rw (word_parts f, word_parts h, word_parts height)
 
 -- the rows stand behind the sizes and F
-pub rows_behind : (t : Table) → drop 7 (encode t) ≡ rowsBytes t.rows
+pub rows_behind : (t : Table) → drop 7 (encode t) ≡ rows_bytes t.rows
 unfolding encode
 rows_behind t =
     let height = length t.rows in
-    drop_at (headBytes t.f t.h height) (rowsBytes t.rows) 7 (head-length t.f t.h height)
+    drop_at (head_bytes t.f t.h height) (rows_bytes t.rows) 7 (head_length t.f t.h height)
 
 -- "7 + F + 2·(number of jobs) bytes"
-pub encode-length : (t : Table) → length (encode t) ≡ 7 + length t.rows + 2 * entryCount t.rows
+pub encode_length : (t : Table) → length (encode t) ≡ 7 + length t.rows + 2 * entry_count t.rows
 unfolding encode
-encode-length t =
+encode_length t =
     let height = length t.rows in
-    omega (arith, length-append (headBytes t.f t.h height) (rowsBytes t.rows), head-length t.f t.h height, rows-length t.rows)
+    omega (arith, length-append (head_bytes t.f t.h height) (rows_bytes t.rows), head_length t.f t.h height, rows_length t.rows)
 
 -- an entry's row is `low`, or later
-one-row : (r low high : ℕ) → low < high → bit (leb low r && ltb r high) ≡ bit (eqb r low) + bit (leb (low + 1) r && ltb r high)
-one-row r low high h = go (eqb r low) refl (leb low r) refl
+one_row_lem : (r low high : ℕ) → low < high → bit (leb low r && ltb r high) ≡ bit (eqb r low) + bit (leb (low + 1) r && ltb r high)
+one_row_lem r low high h = go (eqb r low) refl (leb low r) refl
   where
     go : (t : Bool) → eqb r low ≡ t → (s : Bool) → leb low r ≡ s
         → bit (leb low r && ltb r high) ≡ bit (eqb r low) + bit (leb (low + 1) r && ltb r high)
@@ -70,65 +70,65 @@ no_row r low = go (leb low r) refl
     go true q = rw (le-ltb r low (leb-true low r q))
     go false q = refl
 
-kept-length : (t : Bool) (i : ℕ) (is : List ℕ) → length (keep t i is) ≡ bit t + length is
-kept-length true i is = omega arith
-kept-length false i is = omega arith
+kept_length : (t : Bool) (i : ℕ) (is : List ℕ) → length (keep t i is) ≡ bit t + length is
+kept_length true i is = omega arith
+kept_length false i is = omega arith
 
 module _ (rows : List ℕ) where
   -- the entries of row `low`, and those of the rows behind it
-  between_first : (low high : ℕ) → low < high → (m i : ℕ) → between rows low high m i ≡ length (indicesIn rows low m i) + between rows (low + 1) high m i
-  unfolding between indicesIn
+  between_first : (low high : ℕ) → low < high → (m i : ℕ) → between rows low high m i ≡ length (indices_in rows low m i) + between rows (low + 1) high m i
+  unfolding between indices_in
   between_first low high h zero i = refl
   between_first low high h (suc m) i =
       let r = get_or rows i 0 in
-      omega (arith, one-row r low high h, kept-length (eqb r low) i (indicesIn rows low m (i + 1)), between_first low high h m (i + 1))
+      omega (arith, one_row_lem r low high h, kept_length (eqb r low) i (indices_in rows low m (i + 1)), between_first low high h m (i + 1))
 
   between_none : (low m i : ℕ) → between rows low low m i ≡ 0
   unfolding between
   between_none low zero i = refl
   between_none low (suc m) i = omega (arith, no_row (get_or rows i 0) low, between_none low m (i + 1))
 
-  rows-hold : (tasks jobs : List ℕ) (n m k : ℕ) → entryCount (rowsIn rows tasks jobs n m k) ≡ between rows k (k + m) n 0
-  unfolding entryCount rowsIn row_in
-  rows-hold tasks jobs n zero k = rw (add-zero, between_none k n 0)
-  rows-hold tasks jobs n (suc m) k =
+  rows_hold : (tasks jobs : List ℕ) (n m k : ℕ) → entry_count (rows_in rows tasks jobs n m k) ≡ between rows k (k + m) n 0
+  unfolding entry_count rows_in row_in
+  rows_hold tasks jobs n zero k = rw (add-zero, between_none k n 0)
+  rows_hold tasks jobs n (suc m) k =
       let next : k + 1 + m ≡ k + suc m = omega arith in
       omega (
         arith,
-        length-map (indicesIn rows k n 0) (entry_at tasks jobs),
-        rw next at (rows-hold tasks jobs n m (k + 1)),
+        length-map (indices_in rows k n 0) (entry_at tasks jobs),
+        rw next at (rows_hold tasks jobs n m (k + 1)),
         between_first k (k + suc m) (omega arith) n 0,
       )
 
-  pub table-holds : (tasks jobs : List ℕ) (n height : ℕ) → entryCount (rowsIn rows tasks jobs n height 0) ≡ between rows 0 height n 0
-  table-holds tasks jobs n height = rw zero-add at (rows-hold tasks jobs n height 0)
+  pub table_holds : (tasks jobs : List ℕ) (n height : ℕ) → entry_count (rows_in rows tasks jobs n height 0) ≡ between rows 0 height n 0
+  table_holds tasks jobs n height = rw zero-add at (rows_hold tasks jobs n height 0)
 
   -- One turn of the loop that counts them, and its end
   module _ (n height i : ℕ) where
-    pub entry-counted : i < n → get_or rows i 0 < height → between rows 0 height (n - i) i ≡ 1 + between rows 0 height (n - (i + 1)) (i + 1)
+    pub entry_counted : i < n → get_or rows i 0 < height → between rows 0 height (n - i) i ≡ 1 + between rows 0 height (n - (i + 1)) (i + 1)
     unfolding between
-    entry-counted h l = rw (less_one n i h, le-leb 0 (get_or rows i 0) (omega arith), lt-ltb _ _ l)
+    entry_counted h l = rw (less_one n i h, le-leb 0 (get_or rows i 0) (omega arith), lt-ltb _ _ l)
 
-    pub entry-passed : i < n → height ≤ get_or rows i 0 → between rows 0 height (n - i) i ≡ between rows 0 height (n - (i + 1)) (i + 1)
+    pub entry_passed : i < n → height ≤ get_or rows i 0 → between rows 0 height (n - i) i ≡ between rows 0 height (n - (i + 1)) (i + 1)
     unfolding between
-    entry-passed h l = rw (less_one n i h, le-leb 0 (get_or rows i 0) (omega arith), le-ltb _ _ l) (omega arith)
+    entry_passed h l = rw (less_one n i h, le-leb 0 (get_or rows i 0) (omega arith), le-ltb _ _ l) (omega arith)
 
-    pub all-counted : n ≤ i → between rows 0 height (n - i) i ≡ 0
+    pub all_counted : n ≤ i → between rows 0 height (n - i) i ≡ 0
     unfolding between
-    all-counted h = rw (none_left n i h)
+    all_counted h = rw (none_left n i h)
 
-pub rows-count : (rows tasks jobs : List ℕ) (n m k : ℕ) → length (rowsIn rows tasks jobs n m k) ≡ m
-unfolding rowsIn
-rows-count rows tasks jobs n zero k = refl
-rows-count rows tasks jobs n (suc m) k = ap suc (rows-count rows tasks jobs n m (k + 1))
+pub rows_count : (rows tasks jobs : List ℕ) (n m k : ℕ) → length (rows_in rows tasks jobs n m k) ≡ m
+unfolding rows_in
+rows_count rows tasks jobs n zero k = refl
+rows_count rows tasks jobs n (suc m) k = ap suc (rows_count rows tasks jobs n m (k + 1))
 
-pub layout-length : (l : Layout) → length (encode (table_of l)) ≡ 7 + l.height + 2 * between l.rows 0 l.height (entryTotal l) 0
+pub layout_length : (l : Layout) → length (encode (table_of l)) ≡ 7 + l.height + 2 * between l.rows 0 l.height (entry_total l) 0
 unfolding table_of
-layout-length l =
-    let n = entryTotal l in
+layout_length l =
+    let n = entry_total l in
     omega (
       arith,
-      encode-length (table_of l),
-      rows-count l.rows l.tasks l.jobs n l.height 0,
-      table-holds l.rows l.tasks l.jobs n l.height,
+      encode_length (table_of l),
+      rows_count l.rows l.tasks l.jobs n l.height 0,
+      table_holds l.rows l.tasks l.jobs n l.height,
     )

@@ -16,39 +16,39 @@ unfolding RisingFrom
 rising_none low = tt
 
 module _ (low : ℕ) (e : Entry) (es : List Entry) where
-  pub rising-first : RisingFrom low (e ∷ es) → Rises low e es
+  pub rising_first : RisingFrom low (e ∷ es) → Rises low e es
   unfolding RisingFrom
-  rising-first h = record { above = h.0; below = h.1; small = h.2; rest = h.3 }
+  rising_first h = record { above = h.0; below = h.1; small = h.2; rest = h.3 }
 
-  pub rising-cons : Rises low e es → RisingFrom low (e ∷ es)
+  pub rising_cons : Rises low e es → RisingFrom low (e ∷ es)
   unfolding RisingFrom
-  rising-cons r = (r.above, r.below, r.small, r.rest)
+  rising_cons r = (r.above, r.below, r.small, r.rest)
 
-pub rising-less : (es : List Entry) (low high : ℕ) → low ≤ high → RisingFrom high es → RisingFrom low es
-rising-less [] low high l h = rising_none low
-rising-less (e ∷ es) low high l h =
-    let r = rising-first high e es h in
-    rising-cons low e es (record { above = omega (arith, r.above); below = r.below; small = r.small; rest = r.rest })
+pub rising_less : (es : List Entry) (low high : ℕ) → low ≤ high → RisingFrom high es → RisingFrom low es
+rising_less [] low high l h = rising_none low
+rising_less (e ∷ es) low high l h =
+    let r = rising_first high e es h in
+    rising_cons low e es (record { above = omega (arith, r.above); below = r.below; small = r.small; rest = r.rest })
 
-pub rising-few : (es : List Entry) (low : ℕ) → low ≤ 16 → RisingFrom low es → length es + low ≤ 16
-rising-few [] low l h = omega arith
-rising-few (e ∷ es) low l h =
-    let r = rising-first low e es h in
-    omega (arith, r.above, rising-few es (e.task + 1) (omega (arith, r.below)) r.rest)
+pub rising_few : (es : List Entry) (low : ℕ) → low ≤ 16 → RisingFrom low es → length es + low ≤ 16
+rising_few [] low l h = omega arith
+rising_few (e ∷ es) low l h =
+    let r = rising_first low e es h in
+    omega (arith, r.above, rising_few es (e.task + 1) (omega (arith, r.below)) r.rest)
 
-pub rising-at : (rows : List (List Entry)) → AllRising rows → (k : ℕ) → RisingFrom 0 (get_or rows k [])
+pub rising_at : (rows : List (List Entry)) → AllRising rows → (k : ℕ) → RisingFrom 0 (get_or rows k [])
 unfolding AllRising
-rising-at [] h k = rising_none 0
-rising-at (es ∷ rows) h zero = h.0
-rising-at (es ∷ rows) h (suc k) = rising-at rows h.1 k
+rising_at [] h k = rising_none 0
+rising_at (es ∷ rows) h zero = h.0
+rising_at (es ∷ rows) h (suc k) = rising_at rows h.1 k
 
-pub all-rising : (rows : List (List Entry)) → ((k : ℕ) → k < length rows → RisingFrom 0 (get_or rows k [])) → AllRising rows
+pub all_rising : (rows : List (List Entry)) → ((k : ℕ) → k < length rows → RisingFrom 0 (get_or rows k [])) → AllRising rows
 unfolding AllRising
-all-rising [] each = tt
-all-rising (es ∷ rows) each = (each 0 (omega arith), all-rising rows (λ k h. each (suc k) (omega arith)))
+all_rising [] each = tt
+all_rising (es ∷ rows) each = (each 0 (omega arith), all_rising rows (λ k h. each (suc k) (omega arith)))
 
-pub row-rises : (t : Table) (k : ℕ) → WellFormed t → RisingFrom 0 (row_of t k)
-row-rises t k w = rising-at t.rows w.rising k
+pub row_rises : (t : Table) (k : ℕ) → WellFormed t → RisingFrom 0 (row_of t k)
+row_rises t k w = rising_at t.rows w.rising k
 
-pub row-few : (t : Table) (k : ℕ) → WellFormed t → length (row_of t k) ≤ 16
-row-few t k w = omega (arith, rising-few (row_of t k) 0 (omega arith) (row-rises t k w))
+pub row_few : (t : Table) (k : ℕ) → WellFormed t → length (row_of t k) ≤ 16
+row_few t k w = omega (arith, rising_few (row_of t k) 0 (omega arith) (row_rises t k w))

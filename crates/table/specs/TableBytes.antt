@@ -6,4 +6,4 @@ use Rattle.table.specs.WellFormed.{WellFormed}
 -- the bytes have the form under 01's "Table file", and say the table t
 pub record SaysTable (bytes : List ℕ) (t : Table) : Type 0 where
   pub form : WellFormed t
-  pub bytes-are : encode t ≡ bytes
+  pub bytes_are : encode t ≡ bytes

@@ -13,9 +13,9 @@ AllRising (es ∷ rows) = RisingFrom 0 es × AllRising rows
 
 -- "1 ≤ H ≤ 10,000, 1 ≤ F ≤ 256, F·f = H"; a row that rises has at most 16 entries
 pub record WellFormed (t : Table) : Type 0 where
-  pub some-ticks : 1 ≤ t.h
-  pub few-ticks : t.h ≤ 10000
-  pub some-rows : 1 ≤ length t.rows
-  pub few-rows : length t.rows ≤ 256
+  pub some_ticks : 1 ≤ t.h
+  pub few_ticks : t.h ≤ 10000
+  pub some_rows : 1 ≤ length t.rows
+  pub few_rows : length t.rows ≤ 256
   pub whole : length t.rows * t.f ≡ t.h
   pub rising : AllRising t.rows

@@ -1,7 +1,7 @@
 // Reading a table: each part by a cursor, the rows from the part of the bytes behind the sizes.
 ghost use Rattle.std.specs.Prelude.{◌≡◌, replicate};
-ghost use Rattle.table.specs.Table.{decode, wholeTable, rows_from, heightFits};
-ghost use Rattle.table.specs.Answers.{sizesOf, rowAnswer, rowRefused, tableRead, tableRefused, firstRow, row_at};
+ghost use Rattle.table.specs.Table.{decode, whole_table, rows_from, height_fits};
+ghost use Rattle.table.specs.Answers.{sizes_of, row_answer, row_refused, table_read, table_refused, first_row, row_at};
 ghost use Rattle.table.specs.Promises.{EntryAt, RowAt, SizesAt};
 
 use crate::{Row, Sizes, TableRead, TakenRow};
@@ -48,7 +48,7 @@ fn read_entry(s: &[u8], first: Cursor, low: u8) -> EntryRead
 }
 
 fn refused_row(number: u8) -> Row
-    ensures { result ≡ rowRefused number }
+    ensures { result ≡ row_refused number }
 {
     Row {
         refusal: number,
@@ -113,7 +113,7 @@ fn read_sizes(s: &[u8]) -> SizesRead
 
 // 1 ≤ F ≤ 256 and F·f = H, in whole numbers.
 fn height_fits(height: u16, f: u16, h: u16) -> bool
-    ensures { result ≡ heightFits height (record { f = f; h = h }) }
+    ensures { result ≡ height_fits height (record { f = f; h = h }) }
 {
     if height < 1 {
         return false;
@@ -125,7 +125,7 @@ fn height_fits(height: u16, f: u16, h: u16) -> bool
 }
 
 fn no_table() -> TableRead
-    ensures { result ≡ tableRefused }
+    ensures { result ≡ table_refused }
 {
     let sizes = Sizes {
         refusal: 12,
@@ -139,7 +139,7 @@ fn no_table() -> TableRead
 
 // The section of the rows, from the front of s; the row k is kept.
 fn read_rows(s: &[u8], f: u16, h: u16, k: u16) -> TableRead
-    ensures { result ≡ tableRead k (wholeTable (rows_from (record { f = f; h = h }) s.now)) }
+    ensures { result ≡ table_read k (whole_table (rows_from (record { f = f; h = h }) s.now)) }
 {
     let first = Cursor { at: 0 };
     let WordRead::Word(height, start) = first.word(s) else {
@@ -182,7 +182,7 @@ fn read_rows(s: &[u8], f: u16, h: u16, k: u16) -> TableRead
 
 // The sizes and the row k: the rows are read from the part of the bytes behind the sizes.
 pub fn row_and_sizes(table: &[u8], k: u16) -> TableRead
-    ensures { (result.sizes ≡ sizesOf (decode table.now)) × (result.row ≡ rowAnswer k (decode table.now)) }
+    ensures { (result.sizes ≡ sizes_of (decode table.now)) × (result.row ≡ row_answer k (decode table.now)) }
 {
     let SizesRead::TwoSizes(f, h, next) = read_sizes(table) else {
         return no_table();
@@ -193,7 +193,7 @@ pub fn row_and_sizes(table: &[u8], k: u16) -> TableRead
 
 // f, H and F: 12 where the bytes do not have the form.
 pub fn sizes(table: &[u8]) -> Sizes
-    ensures { result ≡ sizesOf (decode table.now) }
+    ensures { result ≡ sizes_of (decode table.now) }
 {
     let r = row_and_sizes(table, 0);
     r.sizes
@@ -201,7 +201,7 @@ pub fn sizes(table: &[u8]) -> Sizes
 
 // Where the first row begins: behind the sizes and F.
 pub fn first_row() -> Cursor
-    ensures { result ≡ firstRow }
+    ensures { result ≡ first_row }
 {
     Cursor { at: 7 }
 }

@@ -9,29 +9,29 @@ ascii empty = []
 ascii (before c s) = code c ∷ ascii s
 
 -- k bounds the number of digits before the last
-unfoldable pub decimalSteps : ℕ → ℕ → List ℕ
-decimalSteps zero n = (48 + n) ∷ []
-decimalSteps (suc k) n = cond (ltb n 10) ((48 + n) ∷ []) (decimalSteps k (n / 10) ++ ((48 + n % 10) ∷ []))
+unfoldable pub decimal_steps : ℕ → ℕ → List ℕ
+decimal_steps zero n = (48 + n) ∷ []
+decimal_steps (suc k) n = cond (ltb n 10) ((48 + n) ∷ []) (decimal_steps k (n / 10) ++ ((48 + n % 10) ∷ []))
 
 -- the decimal digits of n in ASCII, the most significant first
-unfoldable pub decimalOf : ℕ → List ℕ
-decimalOf n = decimalSteps n n
+unfoldable pub decimal_of : ℕ → List ℕ
+decimal_of n = decimal_steps n n
 
 -- the buffer's bytes and the place where the next one goes
 pub record Filled : Type 0 where
   pub end : ℕ
   pub bytes : List ℕ
 
-abbrev pub filledTo : ℕ → List ℕ → Filled
-filledTo end bytes = record { end = end; bytes = bytes }
+abbrev pub filled_to : ℕ → List ℕ → Filled
+filled_to end bytes = record { end = end; bytes = bytes }
 
 -- a full buffer stays as it is
 unfoldable pub put_of : Filled → ℕ → Filled
-put_of x b = cond (ltb x.end (length x.bytes)) (filledTo (x.end + 1) (set x.bytes x.end b)) x
+put_of x b = cond (ltb x.end (length x.bytes)) (filled_to (x.end + 1) (set x.bytes x.end b)) x
 
-unfoldable pub putAllOf : Filled → List ℕ → Filled
-putAllOf x [] = x
-putAllOf x (b ∷ bs) = putAllOf (put_of x b) bs
+unfoldable pub put_all_of : Filled → List ℕ → Filled
+put_all_of x [] = x
+put_all_of x (b ∷ bs) = put_all_of (put_of x b) bs
 
 -- what a buffer holds once a text was put into it from the front: as much of the text as there is room for, and behind it the old bytes
 unfoldable pub laid : List ℕ → List ℕ → List ℕ

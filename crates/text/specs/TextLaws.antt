@@ -3,95 +3,95 @@
 use Rattle.std.specs.Prelude.{ℕ, zero, suc, ◌+◌, ◌-◌, ◌/◌, ◌%◌, ◌≤◌, ◌<◌, ◌^◌, min, ◌≡◌, refl, List, [], ◌∷◌, ◌++◌, Bool, true, false, ltb, length, drop, get_or}
 use Rattle.std.proofs.Common.{sym, ap, ◌∙◌, arith, le_refl, zero-add, pow-suc, add-one, lt-ltb, le-ltb, ltb-true, ltb-false, length-append, length-take, length-drop, drop_of_length-le, drop-cons, take_all, length-take-le}
 use Rattle.std.proofs.Math.Seq.{drop-nil, take-nil, set-append_seam, append_snoc}
-use Rattle.text.specs.Text.{Filled, filledTo, put_of, putAllOf, laid, PutIn, decimalSteps, decimalOf}
+use Rattle.text.specs.Text.{Filled, filled_to, put_of, put_all_of, laid, PutIn, decimal_steps, decimal_of}
 
-pub put-none : (x : Filled) → putAllOf x [] ≡ x
-unfolding putAllOf
-put-none x = refl
+pub put_none : (x : Filled) → put_all_of x [] ≡ x
+unfolding put_all_of
+put_none x = refl
 
-pub put-more : (x : Filled) (b : ℕ) (bs : List ℕ) → putAllOf x (b ∷ bs) ≡ putAllOf (put_of x b) bs
-unfolding putAllOf
-put-more x b bs = refl
+pub put_more : (x : Filled) (b : ℕ) (bs : List ℕ) → put_all_of x (b ∷ bs) ≡ put_all_of (put_of x b) bs
+unfolding put_all_of
+put_more x b bs = refl
 
-pub put_one : (x : Filled) (b : ℕ) → putAllOf x (b ∷ []) ≡ put_of x b
-unfolding putAllOf
+pub put_one : (x : Filled) (b : ℕ) → put_all_of x (b ∷ []) ≡ put_of x b
+unfolding put_all_of
 put_one x b = refl
 
-pub put-append : (x : Filled) (bs cs : List ℕ) → putAllOf x (bs ++ cs) ≡ putAllOf (putAllOf x bs) cs
-unfolding putAllOf
-put-append x [] cs = refl
-put-append x (b ∷ bs) cs = put-append (put_of x b) bs cs
+pub put_append : (x : Filled) (bs cs : List ℕ) → put_all_of x (bs ++ cs) ≡ put_all_of (put_all_of x bs) cs
+unfolding put_all_of
+put_append x [] cs = refl
+put_append x (b ∷ bs) cs = put_append (put_of x b) bs cs
 
 -- a turn of a loop over the text
-pub put-turn : (x : Filled) (text : List ℕ) (i : ℕ) → i < length text → putAllOf (put_of x (get_or text i 0)) (drop (i + 1) text) ≡ putAllOf x (drop i text)
-put-turn x text i h = rw (add-one i, drop-cons text i 0 h) (sym (put-more x _ _))
+pub put_turn : (x : Filled) (text : List ℕ) (i : ℕ) → i < length text → put_all_of (put_of x (get_or text i 0)) (drop (i + 1) text) ≡ put_all_of x (drop i text)
+put_turn x text i h = rw (add-one i, drop-cons text i 0 h) (sym (put_more x _ _))
 
-pub put_ended : (x : Filled) (text : List ℕ) (i : ℕ) → length text ≤ i → putAllOf x (drop i text) ≡ x
-put_ended x text i h = rw (drop_of_length-le text h) (put-none x)
+pub put_ended : (x : Filled) (text : List ℕ) (i : ℕ) → length text ≤ i → put_all_of x (drop i text) ≡ x
+put_ended x text i h = rw (drop_of_length-le text h) (put_none x)
 
 tenth : (k n : ℕ) → 10 ≤ n → n ≤ suc k → n / 10 ≤ k
 tenth k n h i = omega arith
 
 -- steps beyond n change nothing
-steps : (k j n : ℕ) → n ≤ k → n ≤ j → decimalSteps k n ≡ decimalSteps j n
-unfolding decimalSteps
+steps : (k j n : ℕ) → n ≤ k → n ≤ j → decimal_steps k n ≡ decimal_steps j n
+unfolding decimal_steps
 steps zero zero n h i = refl
 steps zero (suc j) n h i = let short : n < 10 = omega arith in simp (lt-ltb _ _ short)
 steps (suc k) zero n h i = let short : n < 10 = omega arith in simp (lt-ltb _ _ short)
 steps (suc k) (suc j) n h i =
     go (ltb n 10) refl (λ long. steps k j (n / 10) (tenth k n long h) (tenth j n long i))
   where
-    go : (t : Bool) → ltb n 10 ≡ t → (10 ≤ n → decimalSteps k (n / 10) ≡ decimalSteps j (n / 10)) → decimalSteps (suc k) n ≡ decimalSteps (suc j) n
+    go : (t : Bool) → ltb n 10 ≡ t → (10 ≤ n → decimal_steps k (n / 10) ≡ decimal_steps j (n / 10)) → decimal_steps (suc k) n ≡ decimal_steps (suc j) n
     go true e same = simp e
     go false e same = rw e (ap (λ l. l ++ ((48 + n % 10) ∷ [])) (same (ltb-false n 10 e)))
 
-pub decimal-short : (n : ℕ) → n < 10 → decimalOf n ≡ (48 + n) ∷ []
-unfolding decimalOf decimalSteps
-decimal-short zero h = refl
-decimal-short (suc n) h = simp (lt-ltb _ _ h)
+pub decimal_short : (n : ℕ) → n < 10 → decimal_of n ≡ (48 + n) ∷ []
+unfolding decimal_of decimal_steps
+decimal_short zero h = refl
+decimal_short (suc n) h = simp (lt-ltb _ _ h)
 
-pub decimal-long : (n : ℕ) → 10 ≤ n → decimalOf n ≡ decimalOf (n / 10) ++ ((48 + n % 10) ∷ [])
-unfolding decimalOf decimalSteps
-decimal-long zero h = absurd (omega arith)
-decimal-long (suc n) h =
+pub decimal_long : (n : ℕ) → 10 ≤ n → decimal_of n ≡ decimal_of (n / 10) ++ ((48 + n % 10) ∷ [])
+unfolding decimal_of decimal_steps
+decimal_long zero h = absurd (omega arith)
+decimal_long (suc n) h =
     rw (le-ltb _ _ h) (ap (λ l. l ++ ((48 + suc n % 10) ∷ [])) (steps n (suc n / 10) (suc n / 10) (tenth n (suc n) h (le_refl (suc n))) (le_refl (suc n / 10))))
 
-pub put-short : (x : Filled) (n : ℕ) → n < 10 → put_of x (48 + n) ≡ putAllOf x (decimalOf n)
-put-short x n h = rw (decimal-short n h) (sym (put_one x (48 + n)))
+pub put_short : (x : Filled) (n : ℕ) → n < 10 → put_of x (48 + n) ≡ put_all_of x (decimal_of n)
+put_short x n h = rw (decimal_short n h) (sym (put_one x (48 + n)))
 
-pub put-long : (x : Filled) (n : ℕ) → 10 ≤ n → put_of (putAllOf x (decimalOf (n / 10))) (48 + n % 10) ≡ putAllOf x (decimalOf n)
-put-long x n h = rw (decimal-long n h, put-append x) (sym (put_one _ _))
+pub put_long : (x : Filled) (n : ℕ) → 10 ≤ n → put_of (put_all_of x (decimal_of (n / 10))) (48 + n % 10) ≡ put_all_of x (decimal_of n)
+put_long x n h = rw (decimal_long n h, put_append x) (sym (put_one _ _))
 
 -- a text put behind the bytes p of a buffer
-put-behind : (text p rest : List ℕ) → putAllOf (filledTo (length p) (p ++ rest)) text ≡ filledTo (length p + min (length text) (length rest)) (p ++ laid text rest)
-unfolding putAllOf put_of laid
-put-behind [] p rest =
+put_behind : (text p rest : List ℕ) → put_all_of (filled_to (length p) (p ++ rest)) text ≡ filled_to (length p + min (length text) (length rest)) (p ++ laid text rest)
+unfolding put_all_of put_of laid
+put_behind [] p rest =
     let end : length p + min 0 (length rest) ≡ length p = omega arith in
     rw (end, take-nil)
-put-behind (b ∷ text) p [] =
+put_behind (b ∷ text) p [] =
     let end : length p + min (length (b ∷ text)) 0 ≡ length p + min (length text) 0 = omega arith in
     let full : ltb (length p) (length (p ++ [])) ≡ false = le-ltb (length p) (length (p ++ [])) (omega (arith, length-append p [])) in
-    rw (full, end) (put-behind text p [] ∙ rw (drop-nil (length text)))
-put-behind (b ∷ text) p (r ∷ rest) =
+    rw (full, end) (put_behind text p [] ∙ rw (drop-nil (length text)))
+put_behind (b ∷ text) p (r ∷ rest) =
     let room : ltb (length p) (length (p ++ r ∷ rest)) ≡ true = lt-ltb (length p) (length (p ++ r ∷ rest)) (omega (arith, length-append p (r ∷ rest))) in
     let one : length (p ++ (b ∷ [])) ≡ length p + 1 = length-append p (b ∷ []) in
     let end : length p + 1 + min (length text) (length rest) ≡ length p + min (length (b ∷ text)) (length (r ∷ rest)) = omega arith in
-    rw (room, set-append_seam p r rest b, ← append_snoc p b rest, ← one) (put-behind text (p ++ (b ∷ [])) rest ∙ rw (one, end, append_snoc p b (laid text rest)))
+    rw (room, set-append_seam p r rest b, ← append_snoc p b rest, ← one) (put_behind text (p ++ (b ∷ [])) rest ∙ rw (one, end, append_snoc p b (laid text rest)))
 
 -- a text put into a buffer from the front
-pub put-laid : (out text : List ℕ) → putAllOf (filledTo 0 out) text ≡ filledTo (min (length text) (length out)) (laid text out)
-put-laid out text = put-behind text [] out ∙ rw (zero-add (min (length text) (length out)))
+pub put_laid : (out text : List ℕ) → put_all_of (filled_to 0 out) text ≡ filled_to (min (length text) (length out)) (laid text out)
+put_laid out text = put_behind text [] out ∙ rw (zero-add (min (length text) (length out)))
 
-pub laid-length : (text out : List ℕ) → length (laid text out) ≡ length out
+pub laid_length : (text out : List ℕ) → length (laid text out) ≡ length out
 unfolding laid
-laid-length text out = simp (length-append, length-take, length-drop) (omega arith)
+laid_length text out = simp (length-append, length-take, length-drop) (omega arith)
 
-pub put_front : (text old new : List ℕ) (end : ℕ) → filledTo end new ≡ putAllOf (filledTo 0 old) text → PutIn text old end new
+pub put_front : (text old new : List ℕ) (end : ℕ) → filled_to end new ≡ put_all_of (filled_to 0 old) text → PutIn text old end new
 put_front text old new end e =
-    let whole = e ∙ put-laid old text in
+    let whole = e ∙ put_laid old text in
     let ends : end ≡ min (length text) (length old) = ap (λ (x : Filled). x.end) whole in
     let holds : new ≡ laid text old = ap (λ (x : Filled). x.bytes) whole in
-    let long : length new ≡ length old = ap length holds ∙ laid-length text old in
+    let long : length new ≡ length old = ap length holds ∙ laid_length text old in
     (ends, holds, sym (length-take-le end new (omega arith)))
 
 -- where the buffer is long enough, the text stands in it whole, with the old bytes behind it
@@ -100,10 +100,10 @@ unfolding laid
 put_whole text old new end h put = (omega (arith, put.0), put.1 ∙ rw (take_all (length old) text h))
 
 -- a number below 10 ^ k has at most k digits
-pub decimal-length : (k n : ℕ) → n < 10 ^ suc k → length (decimalOf n) ≤ suc k
-decimal-length zero n h = rw (decimal-short n h) (omega arith)
-decimal-length (suc k) n h = go (ltb n 10) refl (decimal-length k (n / 10))
+pub decimal_length : (k n : ℕ) → n < 10 ^ suc k → length (decimal_of n) ≤ suc k
+decimal_length zero n h = rw (decimal_short n h) (omega arith)
+decimal_length (suc k) n h = go (ltb n 10) refl (decimal_length k (n / 10))
   where
-    go : (t : Bool) → ltb n 10 ≡ t → (n / 10 < 10 ^ suc k → length (decimalOf (n / 10)) ≤ suc k) → length (decimalOf n) ≤ suc (suc k)
-    go true e more = rw (decimal-short n (ltb-true n 10 e)) (omega arith)
-    go false e more = rw (decimal-long n (ltb-false n 10 e), length-append) (omega (arith, more (omega (arith, pow-suc 10 (suc k)))))
+    go : (t : Bool) → ltb n 10 ≡ t → (n / 10 < 10 ^ suc k → length (decimal_of (n / 10)) ≤ suc k) → length (decimal_of n) ≤ suc (suc k)
+    go true e more = rw (decimal_short n (ltb-true n 10 e)) (omega arith)
+    go false e more = rw (decimal_long n (ltb-false n 10 e), length-append) (omega (arith, more (omega (arith, pow-suc 10 (suc k)))))

@@ -1,10 +1,10 @@
 // Text put into a lent buffer, byte by byte: each call answers the place behind what it put. Where the buffer is full, the rest is left out.
 ghost use Rattle.std.specs.Prelude.{◌+◌, ◌<◌, ◌≡◌};
-ghost use Rattle.text.specs.Text.{filledTo, put_of, putAllOf, decimalOf};
+ghost use Rattle.text.specs.Text.{filled_to, put_of, put_all_of, decimal_of};
 
 // One byte.
 pub fn put(out: &mut [u8], at: usize, b: u8) -> usize
-    ensures { filledTo result out.new ≡ put_of (filledTo at out.old) b }
+    ensures { filled_to result out.new ≡ put_of (filled_to at out.old) b }
 {
     if at < out.len() {
         out[at] = b;
@@ -15,7 +15,7 @@ pub fn put(out: &mut [u8], at: usize, b: u8) -> usize
 
 // The bytes of `text`, in their order.
 pub fn put_all(out: &mut [u8], at: usize, text: &[u8]) -> usize
-    ensures { filledTo result out.new ≡ putAllOf (filledTo at out.old) text.now }
+    ensures { filled_to result out.new ≡ put_all_of (filled_to at out.old) text.now }
 {
     let mut end = at;
     let mut i: usize = 0;
@@ -36,7 +36,7 @@ fn digit(n: u32) -> u8
 
 // The decimal digits of n, the most significant first.
 pub fn put_number(out: &mut [u8], at: usize, n: u32) -> usize
-    ensures { filledTo result out.new ≡ putAllOf (filledTo at out.old) (decimalOf n) }
+    ensures { filled_to result out.new ≡ put_all_of (filled_to at out.old) (decimal_of n) }
 {
     if n < 10 {
         return put(out, at, digit(n));

@@ -2,50 +2,50 @@
 use Rattle.std.specs.Prelude.{ℕ, ◌+◌, ◌-◌, ◌≤◌, ◌<◌, ◌≡◌, refl, List, [], ◌∷◌, ◌++◌, get_or}
 use Rattle.std.proofs.Common.{sym}
 use Rattle.cursor.specs.Padded.{padded}
-use Rattle.cursor.specs.PaddedLaws.{getD-padded-any}
-use Rattle.request.specs.Request.{reading, noTask}
-use Rattle.request.specs.Answers.{requestAnswered}
+use Rattle.cursor.specs.PaddedLaws.{get_or_padded_any}
+use Rattle.request.specs.Request.{reading, no_task}
+use Rattle.request.specs.Answers.{request_answered}
 use Rattle.request.specs.declared.Task.{Task}
 use Rattle.request.specs.declared.Request.{Request}
-use Rattle.text.specs.Text.{Filled, putAllOf}
-use Rattle.text.specs.TextLaws.{put-none, put-append}
-use Rattle.plan_listing.specs.Listing.{tasksIn}
-use Rattle.plan_listing.specs.ListingLaws.{tasks-are}
-use Rattle.job_records.specs.Timeline.{Timeline, recordsIn, busyOf}
-use Rattle.job_records.specs.Known.{recordHere, recordsFrom, recordsKnown}
-use Rattle.job_records.specs.KnownLaws.{KnownFor, records-more, records-none, known-are}
+use Rattle.text.specs.Text.{Filled, put_all_of}
+use Rattle.text.specs.TextLaws.{put_none, put_append}
+use Rattle.plan_listing.specs.Listing.{tasks_in}
+use Rattle.plan_listing.specs.ListingLaws.{tasks_are}
+use Rattle.job_records.specs.Timeline.{Timeline, records_in, busy_of}
+use Rattle.job_records.specs.Known.{record_here, records_from, records_known}
+use Rattle.job_records.specs.KnownLaws.{KnownFor, records_more, records_none, known_are}
 use Rattle.job_records.specs.declared.JobRecord.{JobRecord}
 use Rattle.job_records.specs.declared.JobsKnown.{JobsKnown}
-use Rattle.timeline_listing.specs.Printed.{recordLine, recordLines, busyLine, timelineLines}
+use Rattle.timeline_listing.specs.Printed.{record_line, record_lines, busy_line, timeline_lines}
 
 -- n places in all, the next is y
 module _ (k : JobsKnown) (n y : ℕ) where
-  pub lines-turn : (x : Filled) → y < n
-      → putAllOf (putAllOf x (recordLine (recordHere k y))) (recordLines (recordsFrom k (n - (y + 1)) (y + 1))) ≡ putAllOf x (recordLines (recordsFrom k (n - y) y))
-  unfolding recordLines
-  lines-turn x h = rw (records-more k n y h) (sym (put-append x _ _))
+  pub lines_turn : (x : Filled) → y < n
+      → put_all_of (put_all_of x (record_line (record_here k y))) (record_lines (records_from k (n - (y + 1)) (y + 1))) ≡ put_all_of x (record_lines (records_from k (n - y) y))
+  unfolding record_lines
+  lines_turn x h = rw (records_more k n y h) (sym (put_append x _ _))
 
-  pub lines_end : (x : Filled) → n ≤ y → putAllOf x (recordLines (recordsFrom k (n - y) y)) ≡ x
-  unfolding recordLines
-  lines_end x h = rw (records-none k n y h) (put-none x)
+  pub lines_end : (x : Filled) → n ≤ y → put_all_of x (record_lines (records_from k (n - y) y)) ≡ x
+  unfolding record_lines
+  lines_end x h = rw (records_none k n y h) (put_none x)
 
-  pub busy-turn : (tasks : List Task) → y < n
-      → (get_or tasks (recordHere k y).task noTask).c + busyOf tasks (recordsFrom k (n - (y + 1)) (y + 1)) ≡ busyOf tasks (recordsFrom k (n - y) y)
-  unfolding busyOf
-  busy-turn tasks h = rw (records-more k n y h)
+  pub busy_turn : (tasks : List Task) → y < n
+      → (get_or tasks (record_here k y).task no_task).c + busy_of tasks (records_from k (n - (y + 1)) (y + 1)) ≡ busy_of tasks (records_from k (n - y) y)
+  unfolding busy_of
+  busy_turn tasks h = rw (records_more k n y h)
 
-  pub busy-end : (tasks : List Task) → n ≤ y → busyOf tasks (recordsFrom k (n - y) y) ≡ 0
-  unfolding busyOf
-  busy-end tasks h = rw (records-none k n y h)
+  pub busy_end : (tasks : List Task) → n ≤ y → busy_of tasks (records_from k (n - y) y) ≡ 0
+  unfolding busy_of
+  busy_end tasks h = rw (records_none k n y h)
 
 -- an array that holds the request's tasks gives the same sum
-busy-padded : (size : ℕ) (tasks : List Task) (rs : List JobRecord) → busyOf (padded size noTask tasks) rs ≡ busyOf tasks rs
-unfolding busyOf
-busy-padded size tasks [] = refl
-busy-padded size tasks (r ∷ rs) = rw (getD-padded-any size noTask tasks r.task, busy-padded size tasks rs)
+busy_padded : (size : ℕ) (tasks : List Task) (rs : List JobRecord) → busy_of (padded size no_task tasks) rs ≡ busy_of tasks rs
+unfolding busy_of
+busy_padded size tasks [] = refl
+busy_padded size tasks (r ∷ rs) = rw (get_or_padded_any size no_task tasks r.task, busy_padded size tasks rs)
 
-module _ (bytes : List ℕ) (r : Request) (e : r ≡ requestAnswered (reading bytes)) where
+module _ (bytes : List ℕ) (r : Request) (e : r ≡ request_answered (reading bytes)) where
   -- the lines that are put are those of the timeline
   pub lines_are : (tl : Timeline) (k : JobsKnown) → KnownFor tl k
-      → recordLines (recordsKnown k) ++ busyLine (busyOf r.tasks (recordsKnown k)) ≡ timelineLines (tasksIn (reading bytes)) (recordsIn tl)
-  lines_are tl k known = rw (known-are tl k known, tasks-are bytes r e, busy-padded 16 (tasksIn (reading bytes)) (recordsIn tl))
+      → record_lines (records_known k) ++ busy_line (busy_of r.tasks (records_known k)) ≡ timeline_lines (tasks_in (reading bytes)) (records_in tl)
+  lines_are tl k known = rw (known_are tl k known, tasks_are bytes r e, busy_padded 16 (tasks_in (reading bytes)) (records_in tl))

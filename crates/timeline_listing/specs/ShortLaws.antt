@@ -1,30 +1,30 @@
 -- Every timeline has at most 4,096 bytes: at most 25 for the line of each of at most 128 jobs, and 13 for the line of the busy ticks. So `timeline` never cuts one.
 use Rattle.std.specs.Prelude.{ℕ, suc, ◌+◌, ◌*◌, ◌≤◌, ◌<◌, ◌≡◌, refl, List, [], ◌∷◌, ◌++◌, length, drop, get_or}
 use Rattle.std.proofs.Common.{sym, ap, subst, mul-le-mul_left, arith, length-append}
-use Rattle.request.specs.Request.{reading, noTask}
+use Rattle.request.specs.Request.{reading, no_task}
 use Rattle.request.specs.declared.Task.{Task}
-use Rattle.cycle.specs.Cycle.{cycleOf, job_of}
+use Rattle.cycle.specs.Cycle.{cycle_of, job_of}
 use Rattle.cycle.specs.LimitLaws.{WithinLimits}
 use Rattle.cycle.specs.declared.Job.{Job}
 use Rattle.table.specs.Table.{Table}
-use Rattle.model.specs.Plan.{jobAt, frame_at}
-use Rattle.model.specs.PlanLaws.{length-pos}
+use Rattle.model.specs.Plan.{job_at, frame_at}
+use Rattle.model.specs.PlanLaws.{length_pos}
 use Rattle.model.specs.Good.{Good}
-use Rattle.model.specs.GoodLaws.{job-facts}
+use Rattle.model.specs.GoodLaws.{job_facts}
 use Rattle.model.specs.Places.{number_small}
-use Rattle.model.specs.WithinLaws.{within-limits, within-good}
+use Rattle.model.specs.WithinLaws.{within_limits, within_good}
 use Rattle.plan_writer.specs.Outcome.{Outcome, handed, refusal}
-use Rattle.planner.specs.Outcome.{programTries, programOutcome}
-use Rattle.planner.specs.TableLaws.{GoodOutcome, outcome-within-good}
+use Rattle.planner.specs.Outcome.{program_tries, program_outcome}
+use Rattle.planner.specs.TableLaws.{GoodOutcome, outcome_within_good}
 use Rattle.text.specs.Text.{PutIn}
-use Rattle.text.specs.TextLaws.{decimal-length, put_whole}
-use Rattle.plan_listing.specs.Listing.{tasksIn}
-use Rattle.plan_listing.specs.ShortLaws.{refused-length}
-use Rattle.job_records.specs.Timeline.{recordOf, noRecord, busyOf}
-use Rattle.job_records.specs.KnownLaws.{records-count, record-at}
+use Rattle.text.specs.TextLaws.{decimal_length, put_whole}
+use Rattle.plan_listing.specs.Listing.{tasks_in}
+use Rattle.plan_listing.specs.ShortLaws.{refused_length}
+use Rattle.job_records.specs.Timeline.{record_of, no_record, busy_of}
+use Rattle.job_records.specs.KnownLaws.{records_count, record_at}
 use Rattle.job_records.specs.declared.JobRecord.{JobRecord}
-use Rattle.timeline_listing.specs.Printed.{recordLine, recordLines, busyLine, timelineLines, printedTimeline, timelinePlanned, timelineText}
-use Rattle.timeline_listing.specs.PrintedLaws.{Planned, handed-planned, records, timeline-planned, tasks-planned}
+use Rattle.timeline_listing.specs.Printed.{record_line, record_lines, busy_line, timeline_lines, printed_timeline, timeline_planned, timeline_text}
+use Rattle.timeline_listing.specs.PrintedLaws.{Planned, handed_planned, records, timeline_planned_lem, tasks_planned}
 
 -- the fields of a record have few digits
 record Small (r : JobRecord) : Type 0 where
@@ -34,90 +34,90 @@ record Small (r : JobRecord) : Type 0 where
   due : r.due < 100000
   frame : r.frame < 100000
 
-line-length : (r : JobRecord) → Small r → length (recordLine r) ≤ 25
-unfolding recordLine
-line-length r s =
+line_length : (r : JobRecord) → Small r → length (record_line r) ≤ 25
+unfolding record_line
+line_length r s =
     simp length-append
     (omega (
       arith,
-      decimal-length 1 r.task s.task,
-      decimal-length 2 r.job s.job,
-      decimal-length 4 r.release s.release,
-      decimal-length 4 r.due s.due,
-      decimal-length 4 r.frame s.frame,
+      decimal_length 1 r.task s.task,
+      decimal_length 2 r.job s.job,
+      decimal_length 4 r.release s.release,
+      decimal_length 4 r.due s.due,
+      decimal_length 4 r.frame s.frame,
     ))
 
-lines-length : (rs : List JobRecord) → ((y : ℕ) → y < length rs → Small (get_or rs y noRecord)) → length (recordLines rs) ≤ 25 * length rs
-unfolding recordLines
-lines-length [] small = omega arith
-lines-length (r ∷ rs) small =
-    simp length-append (omega (arith, line-length r (small 0 (omega arith)), lines-length rs (λ y h. small (suc y) (omega arith))))
+lines_length : (rs : List JobRecord) → ((y : ℕ) → y < length rs → Small (get_or rs y no_record)) → length (record_lines rs) ≤ 25 * length rs
+unfolding record_lines
+lines_length [] small = omega arith
+lines_length (r ∷ rs) small =
+    simp length-append (omega (arith, line_length r (small 0 (omega arith)), lines_length rs (λ y h. small (suc y) (omega arith))))
 
-busy-few : (tasks : List Task) (rs : List JobRecord) → ((y : ℕ) → y < length rs → (get_or tasks (get_or rs y noRecord).task noTask).c ≤ 10000)
-    → busyOf tasks rs ≤ 10000 * length rs
-unfolding busyOf
-busy-few tasks [] small = omega arith
-busy-few tasks (r ∷ rs) small = omega (arith, small 0 (omega arith), busy-few tasks rs (λ y h. small (suc y) (omega arith)))
+busy_few : (tasks : List Task) (rs : List JobRecord) → ((y : ℕ) → y < length rs → (get_or tasks (get_or rs y no_record).task no_task).c ≤ 10000)
+    → busy_of tasks rs ≤ 10000 * length rs
+unfolding busy_of
+busy_few tasks [] small = omega arith
+busy_few tasks (r ∷ rs) small = omega (arith, small 0 (omega arith), busy_few tasks rs (λ y h. small (suc y) (omega arith)))
 
-busy-length : (b : ℕ) → b < 10000000 → length (busyLine b) ≤ 13
-unfolding busyLine
-busy-length b h = simp length-append (omega (arith, decimal-length 6 b h))
+busy_length : (b : ℕ) → b < 10000000 → length (busy_line b) ≤ 13
+unfolding busy_line
+busy_length b h = simp length-append (omega (arith, decimal_length 6 b h))
 
 module _ (request : List ℕ) (t : Table) (p : Planned request t) where
   abbrev w : WithinLimits p.x.tasks p.x.pairs p.x.h p.x.jobs
-  w = within-limits request p.x p.within
+  w = within_limits request p.x p.within
 
   abbrev good : Good p.x
-  good = within-good request p.x p.within
+  good = within_good request p.x p.within
 
   many : length (records request t p) ≡ length p.x.jobs
-  many = records-count p.x.jobs p.frames p.is-plan.all
+  many = records_count p.x.jobs p.frames p.is_plan.all
 
   module _ (y : ℕ) (h : y < length p.x.jobs) where
-    record_is : get_or (records request t p) y noRecord ≡ recordOf (jobAt p.x y) (frame_at p.frames y)
-    record_is = record-at p.x.jobs p.frames y p.is-plan.all h
+    record_is : get_or (records request t p) y no_record ≡ record_of (job_at p.x y) (frame_at p.frames y)
+    record_is = record_at p.x.jobs p.frames y p.is_plan.all h
 
     -- released before H, due before 2H, and in a frame that ends by then
-    job-small : Small (recordOf (jobAt p.x y) (frame_at p.frames y))
-    job-small =
+    job_small : Small (record_of (job_at p.x y) (frame_at p.frames y))
+    job_small =
         let (i, j, is, stands) = good.in_order.each y h in
-        let here : jobAt p.x y ≡ job_of p.x.tasks i j = stands.here in
-        let release : (jobAt p.x y).release ≡ (job_of p.x.tasks i j).release = ap (λ (b : Job). b.release) here in
-        let due : (jobAt p.x y).due ≡ (job_of p.x.tasks i j).due = ap (λ (b : Job). b.due) here in
+        let here : job_at p.x y ≡ job_of p.x.tasks i j = stands.here in
+        let release : (job_at p.x y).release ≡ (job_of p.x.tasks i j).release = ap (λ (b : Job). b.release) here in
+        let due : (job_at p.x y).due ≡ (job_of p.x.tasks i j).due = ap (λ (b : Job). b.due) here in
         let ends : (frame_at p.frames y + 1) * 1 ≤ (frame_at p.frames y + 1) * p.f =
-        mul-le-mul_left (frame_at p.frames y + 1) (length-pos p.x good p.f p.frames p.is-plan) in
+        mul-le-mul_left (frame_at p.frames y + 1) (length_pos p.x good p.f p.frames p.is_plan) in
         record {
-          task = omega (arith, (job-facts p.x good y h).known, w.readable.few-tasks);
+          task = omega (arith, (job_facts p.x good y h).known, w.readable.few_tasks);
           job = omega (arith, number_small p.x good y h);
-          release = omega (arith, release, w.release-below i j is, w.h-few);
-          due = omega (arith, due, w.due_below i j is, w.h-few);
-          frame = omega (arith, ends, (p.is-plan.window y h).not_late, due, w.due_below i j is, w.h-few);
+          release = omega (arith, release, w.release_below i j is, w.h_few);
+          due = omega (arith, due, w.due_below i j is, w.h_few);
+          frame = omega (arith, ends, (p.is_plan.window y h).not_late, due, w.due_below i j is, w.h_few);
         }
 
     -- C is at most D, T and H
-    ticks-small : (get_or p.x.tasks (jobAt p.x y).task noTask).c ≤ 10000
-    ticks-small =
-        let known = (job-facts p.x good y h).known in
-        let kept = w.readable.task (jobAt p.x y).task known in
-        omega (arith, kept.room, kept.due, w.period-le (jobAt p.x y).task known, w.h-few)
+    ticks_small : (get_or p.x.tasks (job_at p.x y).task no_task).c ≤ 10000
+    ticks_small =
+        let known = (job_facts p.x good y h).known in
+        let kept = w.readable.task (job_at p.x y).task known in
+        omega (arith, kept.room, kept.due, w.period_le (job_at p.x y).task known, w.h_few)
 
-  lines-few : length (timelineLines (tasksIn (reading request)) (records request t p)) ≤ 4096
-  lines-few =
+  lines_few : length (timeline_lines (tasks_in (reading request)) (records request t p)) ≤ 4096
+  lines_few =
       let rs = records request t p in
-      let lines = lines-length rs (λ y h. subst Small (sym (record_is y (omega (arith, many)))) (job-small y (omega (arith, many)))) in
-      let busy = busy-few p.x.tasks rs (λ y h. rw (record_is y (omega (arith, many))) (ticks-small y (omega (arith, many)))) in
-      rw (tasks-planned request t p, length-append)
-      (omega (arith, lines, busy-length (busyOf p.x.tasks rs) (omega (arith, busy, many, w.jobs-few)), many, w.jobs-few))
+      let lines = lines_length rs (λ y h. subst Small (sym (record_is y (omega (arith, many)))) (job_small y (omega (arith, many)))) in
+      let busy = busy_few p.x.tasks rs (λ y h. rw (record_is y (omega (arith, many))) (ticks_small y (omega (arith, many)))) in
+      rw (tasks_planned request t p, length-append)
+      (omega (arith, lines, busy_length (busy_of p.x.tasks rs) (omega (arith, busy, many, w.jobs_few)), many, w.jobs_few))
 
-pub timeline-short : (request : List ℕ) → length (timelineText request) ≤ 4096
-unfolding timelineText
-timeline-short request = go (programOutcome request) refl (outcome-within-good programTries request)
+pub timeline_short : (request : List ℕ) → length (timeline_text request) ≤ 4096
+unfolding timeline_text
+timeline_short request = go (program_outcome request) refl (outcome_within_good program_tries request)
   where
-    go : (o : Outcome) → programOutcome request ≡ o → GoodOutcome o → length (printedTimeline (tasksIn (reading request)) (timelinePlanned (cycleOf request) o)) ≤ 4096
-    go (handed t) is good = let p = handed-planned request t is in rw (timeline-planned request t p) (lines-few request t p)
-    go (refusal number) is good = omega (arith, refused-length number (omega (arith, good.1)))
+    go : (o : Outcome) → program_outcome request ≡ o → GoodOutcome o → length (printed_timeline (tasks_in (reading request)) (timeline_planned (cycle_of request) o)) ≤ 4096
+    go (handed t) is good = let p = handed_planned request t is in rw (timeline_planned_lem request t p) (lines_few request t p)
+    go (refusal number) is good = omega (arith, refused_length number (omega (arith, good.1)))
 
 -- so a buffer of 4,096 bytes or more holds it whole, with the old bytes behind it
-pub timeline-whole : (request out new : List ℕ) (end : ℕ) → 4096 ≤ length out → PutIn (timelineText request) out end new
-    → (end ≡ length (timelineText request)) × (new ≡ timelineText request ++ drop (length (timelineText request)) out)
-timeline-whole request out new end room put = put_whole (timelineText request) out new end (omega (arith, timeline-short request)) put
+pub timeline_whole : (request out new : List ℕ) (end : ℕ) → 4096 ≤ length out → PutIn (timeline_text request) out end new
+    → (end ≡ length (timeline_text request)) × (new ≡ timeline_text request ++ drop (length (timeline_text request)) out)
+timeline_whole request out new end room put = put_whole (timeline_text request) out new end (omega (arith, timeline_short request)) put

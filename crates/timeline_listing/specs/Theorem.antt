@@ -4,45 +4,45 @@ use Rattle.std.proofs.Common.{sym, ap, ◌∙◌}
 use Rattle.std.proofs.Math.Seq.{take-append_seam}
 use Rattle.request.specs.Request.{reading}
 use Rattle.table.specs.Table.{Table, encode}
-use Rattle.model.specs.WithinLaws.{within-good}
+use Rattle.model.specs.WithinLaws.{within_good}
 use Rattle.plan_writer.specs.Outcome.{handed}
-use Rattle.planner.specs.Outcome.{programOutcome}
-use Rattle.plan_listing.specs.Listing.{tasksIn}
-use Rattle.job_records.specs.Timeline.{Timeline, timeline, noRecord, filling, filledAnswer, filledRecords, busyOf, rowsBusy}
-use Rattle.job_records.specs.BusyLaws.{busy-same}
+use Rattle.planner.specs.Outcome.{program_outcome}
+use Rattle.plan_listing.specs.Listing.{tasks_in}
+use Rattle.job_records.specs.Timeline.{Timeline, timeline, no_record, filling, filled_answer, filled_records, busy_of, rows_busy}
+use Rattle.job_records.specs.BusyLaws.{busy_same}
 use Rattle.job_records.specs.declared.JobRecord.{JobRecord}
-use Rattle.timeline_listing.specs.Printed.{timelineLines, timelineText, recordsFilled, TimelinePrinted}
-use Rattle.timeline_listing.specs.PrintedLaws.{Planned, handed-planned, records, own-bytes, filling-planned, tasks-planned, timeline-refused, text-handed}
-use Rattle.timeline_listing.specs.ShortLaws.{timeline-short}
+use Rattle.timeline_listing.specs.Printed.{timeline_lines, timeline_text, records_filled, TimelinePrinted}
+use Rattle.timeline_listing.specs.PrintedLaws.{Planned, handed_planned, records, own_bytes, filling_planned, tasks_planned, timeline_refused, text_handed}
+use Rattle.timeline_listing.specs.ShortLaws.{timeline_short}
 
-module _ (request : List ℕ) (t : Table) (e : programOutcome request ≡ handed t) where
+module _ (request : List ℕ) (t : Table) (e : program_outcome request ≡ handed t) where
   abbrev p : Planned request t
-  p = handed-planned request t e
+  p = handed_planned request t e
 
   abbrev rs : List JobRecord
   rs = records request t p
 
   filled : filling request (encode t) 128 ≡ timeline rs
-  filled = filling-planned request t p (encode t) (own-bytes request t p)
+  filled = filling_planned request t p (encode t) (own_bytes request t p)
 
-  records-are : recordsFilled request t ≡ rs
-  unfolding filledRecords
-  records-are = rw filled (take-append_seam rs (drop (length rs) (replicate 128 noRecord)))
+  records_are : records_filled request t ≡ rs
+  unfolding filled_records
+  records_are = rw filled (take-append_seam rs (drop (length rs) (replicate 128 no_record)))
 
-  lines : timelineText request ≡ timelineLines (tasksIn (reading request)) (recordsFilled request t)
-  lines = sym (text-handed request (encode t) t e (own-bytes request t p)) ∙ rw (records-are, filled)
+  lines : timeline_text request ≡ timeline_lines (tasks_in (reading request)) (records_filled request t)
+  lines = sym (text_handed request (encode t) t e (own_bytes request t p)) ∙ rw (records_are, filled)
 
-  busy : busyOf (tasksIn (reading request)) (recordsFilled request t) ≡ rowsBusy (tasksIn (reading request)) t.rows
+  busy : busy_of (tasks_in (reading request)) (records_filled request t) ≡ rows_busy (tasks_in (reading request)) t.rows
   busy =
-      rw (records-are, tasks-planned request t p)
-      (busy-same p.x (within-good request p.x p.within) p.f p.frames p.is-plan t p.describes p.is-plan.all)
+      rw (records_are, tasks_planned request t p)
+      (busy_same p.x (within_good request p.x p.within) p.f p.frames p.is_plan t p.describes p.is_plan.all)
 
 -- THE THEOREM
-pub timeline-printed : TimelinePrinted
-timeline-printed request = record {
-  refused-line = λ number e. sym (timeline-refused request number e);
-  never-refused = λ t e. ap (λ (tl : Timeline). (filledAnswer tl).refusal) (filled request t e);
+pub timeline_printed : TimelinePrinted
+timeline_printed request = record {
+  refused_line = λ number e. sym (timeline_refused request number e);
+  never_refused = λ t e. ap (λ (tl : Timeline). (filled_answer tl).refusal) (filled request t e);
   lines_are = lines request;
-  busy-is = busy request;
-  short = timeline-short request;
+  busy_is = busy request;
+  short = timeline_short request;
 }

@@ -2,25 +2,25 @@
 // answer is where it ends.
 ghost use Rattle.std.specs.Prelude.{◌≤◌, ◌≡◌, ◌++◌, length};
 ghost use Rattle.request.specs.Request.{reading};
-ghost use Rattle.text.specs.Text.{ascii, decimalOf, filledTo, putAllOf, PutIn};
-ghost use Rattle.plan_listing.specs.Listing.{tasksIn};
-ghost use Rattle.job_records.specs.Timeline.{filling, recordsIn, busyOf};
-ghost use Rattle.job_records.specs.Known.{recordsKnown};
-ghost use Rattle.timeline_listing.specs.Printed.{recordLine, recordLines, busyLine, timelineLines, timelineText};
+ghost use Rattle.text.specs.Text.{ascii, decimal_of, filled_to, put_all_of, PutIn};
+ghost use Rattle.plan_listing.specs.Listing.{tasks_in};
+ghost use Rattle.job_records.specs.Timeline.{filling, records_in, busy_of};
+ghost use Rattle.job_records.specs.Known.{records_known};
+ghost use Rattle.timeline_listing.specs.Printed.{record_line, record_lines, busy_line, timeline_lines, timeline_text};
 
 use job_records::{JobRecord, JobsKnown};
 use request::Task;
 
 // A number and a space.
 fn put_field(out: &mut [u8], at: usize, n: u32) -> usize
-    ensures { filledTo result out.new ≡ putAllOf (filledTo at out.old) (decimalOf n ++ ascii " ") }
+    ensures { filled_to result out.new ≡ put_all_of (filled_to at out.old) (decimal_of n ++ ascii " ") }
 {
     let number = text::put_number(out, at, n);
     text::put(out, number, b' ')
 }
 
 fn put_record(out: &mut [u8], at: usize, job: JobRecord) -> usize
-    ensures { filledTo result out.new ≡ putAllOf (filledTo at out.old) (recordLine job) }
+    ensures { filled_to result out.new ≡ put_all_of (filled_to at out.old) (record_line job) }
 {
     let task = put_field(out, at, job.task as u32);
     let number = put_field(out, task, job.job as u32);
@@ -32,7 +32,7 @@ fn put_record(out: &mut [u8], at: usize, job: JobRecord) -> usize
 
 fn put_records(out: &mut [u8], at: usize, known: JobsKnown) -> usize
     requires { known.count ≤ 128 }
-    ensures { filledTo result out.new ≡ putAllOf (filledTo at out.old) (recordLines (recordsKnown known)) }
+    ensures { filled_to result out.new ≡ put_all_of (filled_to at out.old) (record_lines (records_known known)) }
 {
     let n = known.count;
     let mut end = at;
@@ -47,7 +47,7 @@ fn put_records(out: &mut [u8], at: usize, known: JobsKnown) -> usize
 // The sum of C over the records.
 fn busy(known: JobsKnown, tasks: [Task; 16]) -> u32
     requires { (known.count ≤ 128) × (length tasks ≡ 16) }
-    ensures { result ≡ busyOf tasks (recordsKnown known) }
+    ensures { result ≡ busy_of tasks (records_known known) }
 {
     let n = known.count;
     let mut sum: u32 = 0;
@@ -61,7 +61,7 @@ fn busy(known: JobsKnown, tasks: [Task; 16]) -> u32
 }
 
 fn put_busy(out: &mut [u8], at: usize, ticks: u32) -> usize
-    ensures { filledTo result out.new ≡ putAllOf (filledTo at out.old) (busyLine ticks) }
+    ensures { filled_to result out.new ≡ put_all_of (filled_to at out.old) (busy_line ticks) }
 {
     let name = text::put_all(out, at, b"busy ");
     let number = text::put_number(out, name, ticks);
@@ -70,8 +70,8 @@ fn put_busy(out: &mut [u8], at: usize, ticks: u32) -> usize
 
 // The records of a table that the check accepts, and the sum of C over them. A list of 128 places holds the jobs of every cycle.
 fn put_timeline(out: &mut [u8], request: &[u8], table: &[u8]) -> usize
-    ensures { filledTo result out.new ≡ putAllOf (filledTo 0 out.old)
-        (timelineLines (tasksIn (reading request.now)) (recordsIn (filling request.now table.now 128))) }
+    ensures { filled_to result out.new ≡ put_all_of (filled_to 0 out.old)
+        (timeline_lines (tasks_in (reading request.now)) (records_in (filling request.now table.now 128))) }
 {
     let known = job_records::known(request, table, 128);
     let read = request::read(request);
@@ -82,7 +82,7 @@ fn put_timeline(out: &mut [u8], request: &[u8], table: &[u8]) -> usize
 
 // The timeline of the request's plan, or the line of its refusal, within the tries that a program allows.
 pub fn list(request: &[u8], out: &mut [u8]) -> usize
-    ensures { PutIn (timelineText request.now) out.old result out.new }
+    ensures { PutIn (timeline_text request.now) out.old result out.new }
 {
     let mut table = [0u8; 519];
     let planned = planner::plan(request, planner::PROGRAM_TRIES, &mut table);

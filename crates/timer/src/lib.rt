@@ -2,9 +2,9 @@
 ghost use Rattle.std.specs.Prelude.{◌≡◌, ◌≤◌, ◌<◌, ◌||◌, not, ◌&&◌};
 ghost use Rattle.request.specs.Request.{reading};
 ghost use Rattle.table.specs.Table.{decode};
-ghost use Rattle.timer.specs.Registers.{isSet, freshTimer, controlByte, statusByte, sum_of, sumShown, registerRead};
-ghost use Rattle.timer.specs.Registers.{controlOf, statusOf, clearedBy, withControl, withStatus, afterWrite, dueOrMissed, afterEvent};
-ghost use Rattle.timer.specs.Registers.{servedOnce, noneServed, serving, marked, reporting, lineOn};
+ghost use Rattle.timer.specs.Registers.{is_set, fresh_timer, control_byte, status_byte, sum_of, sum_shown, register_read};
+ghost use Rattle.timer.specs.Registers.{control_of, status_of, cleared_by, with_control, with_status, after_write, due_or_missed, after_event};
+ghost use Rattle.timer.specs.Registers.{served_once, none_served, serving, marked, reporting, line_on};
 
 use dispatcher::{Frame, State};
 
@@ -56,7 +56,7 @@ pub struct FrameServed {
 
 // The dispatcher is fresh, and no bit is set.
 pub fn fresh() -> Timer
-    ensures { result ≡ freshTimer }
+    ensures { result ≡ fresh_timer }
 {
     Timer {
         state: dispatcher::fresh(),
@@ -67,14 +67,14 @@ pub fn fresh() -> Timer
 
 // Control as register 0 shows it.
 pub fn control_byte(control: Control) -> u8
-    ensures { result ≡ controlByte control }
+    ensures { result ≡ control_byte control }
 {
     (control.run as u8) + 2 * (control.enable as u8)
 }
 
 // Status as register 1 shows it.
 pub fn status_byte(status: Status) -> u8
-    ensures { result ≡ statusByte status }
+    ensures { result ≡ status_byte status }
 {
     (status.due as u8) + 2 * (status.overrun as u8) + 4 * (status.missed as u8)
 }
@@ -100,7 +100,7 @@ fn sum_of(counts: [u16; 16]) -> u32
 
 // The smaller of 65,535 and the sum of all counts.
 fn sum_shown(counts: [u16; 16]) -> u16
-    ensures { result ≡ sumShown counts }
+    ensures { result ≡ sum_shown counts }
 {
     let sum = sum_of(counts);
     if sum < 65535 { sum as u16 } else { 65535 }
@@ -108,7 +108,7 @@ fn sum_shown(counts: [u16; 16]) -> u16
 
 // The byte at an address: 29 where it is above 7.
 pub fn read(address: u8, timer: Timer) -> RegisterRead
-    ensures { result ≡ registerRead address timer }
+    ensures { result ≡ register_read address timer }
 {
     if 7 < address {
         return RegisterRead {
@@ -133,7 +133,7 @@ pub fn read(address: u8, timer: Timer) -> RegisterRead
 // Whether a bit of a byte is set: weight 1 is bit 0, weight 2 bit 1, weight 4 bit 2.
 fn is_set(weight: u8, byte: u8) -> bool
     requires { 0 < weight }
-    ensures { result ≡ isSet weight byte }
+    ensures { result ≡ is_set weight byte }
 {
     byte / weight % 2 == 1
 }
@@ -153,7 +153,7 @@ fn kept(set: bool, cleared: bool) -> bool
 
 // The bits of a byte as control; unnamed bits are dropped.
 pub fn control_of(value: u8) -> Control
-    ensures { result ≡ controlOf value }
+    ensures { result ≡ control_of value }
 {
     Control {
         run: is_set(1, value),
@@ -163,7 +163,7 @@ pub fn control_of(value: u8) -> Control
 
 // The bits of a byte as status, where it is kept in bytes. No register is written so.
 pub fn status_of(value: u8) -> Status
-    ensures { result ≡ statusOf value }
+    ensures { result ≡ status_of value }
 {
     Status {
         due: is_set(1, value),
@@ -174,7 +174,7 @@ pub fn status_of(value: u8) -> Status
 
 // A 1 clears bit 1 or 2; bit 0 stays as it is.
 fn cleared_by(value: u8, status: Status) -> Status
-    ensures { result ≡ clearedBy value status }
+    ensures { result ≡ cleared_by value status }
 {
     Status {
         due: status.due,
@@ -184,7 +184,7 @@ fn cleared_by(value: u8, status: Status) -> Status
 }
 
 fn with_control(control: Control, timer: Timer) -> Timer
-    ensures { result ≡ withControl control timer }
+    ensures { result ≡ with_control control timer }
 {
     let state = timer.state;
     let status = timer.status;
@@ -196,7 +196,7 @@ fn with_control(control: Control, timer: Timer) -> Timer
 }
 
 fn with_status(status: Status, timer: Timer) -> Timer
-    ensures { result ≡ withStatus status timer }
+    ensures { result ≡ with_status status timer }
 {
     let state = timer.state;
     let control = timer.control;
@@ -209,7 +209,7 @@ fn with_status(status: Status, timer: Timer) -> Timer
 
 // Control takes its two bits, status is cleared where a 1 is written, and bytes 2 to 7 stay: 29 where the address is above 7.
 pub fn write(address: u8, value: u8, timer: Timer) -> Changed
-    ensures { result ≡ afterWrite address value timer }
+    ensures { result ≡ after_write address value timer }
 {
     if 7 < address {
         return Changed { refusal: 29, timer };
@@ -233,7 +233,7 @@ pub fn write(address: u8, value: u8, timer: Timer) -> Changed
 
 // A frame is due now; if one was due already, it is missed.
 fn due_or_missed(status: Status) -> Status
-    ensures { result ≡ dueOrMissed status }
+    ensures { result ≡ due_or_missed status }
 {
     Status {
         due: true,
@@ -244,7 +244,7 @@ fn due_or_missed(status: Status) -> Status
 
 // A timer event: with run set a frame is due, or missed if one was due already.
 pub fn event(timer: Timer) -> Timer
-    ensures { result ≡ afterEvent timer }
+    ensures { result ≡ after_event timer }
 {
     let control = timer.control;
     if !control.run {
@@ -256,7 +256,7 @@ pub fn event(timer: Timer) -> Timer
 
 // No frame is due: no entries, and nothing changes.
 fn none_served(timer: Timer) -> FrameServed
-    ensures { result ≡ noneServed timer }
+    ensures { result ≡ none_served timer }
 {
     FrameServed {
         refusal: 0,
@@ -284,7 +284,7 @@ fn frame_served(frame: Frame, timer: Timer) -> FrameServed
 
 // The frame was served: it is no longer due.
 fn served_once(state: State, timer: Timer) -> Timer
-    ensures { result ≡ servedOnce state timer }
+    ensures { result ≡ served_once state timer }
 {
     let control = timer.control;
     let status = timer.status;
@@ -346,7 +346,7 @@ pub fn report(request: &[u8], task: u8, ticks: u32, timer: Timer) -> Changed
 
 // The interrupt line is on exactly if it is enabled and a status bit is set.
 pub fn line(timer: Timer) -> bool
-    ensures { result ≡ lineOn timer }
+    ensures { result ≡ line_on timer }
 {
     let control = timer.control;
     let status = timer.status;

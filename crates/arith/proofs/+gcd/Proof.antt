@@ -1,10 +1,10 @@
--- `gcd` follows the definition's two laws, gcd-zero and gcd-step; its measure is the second number, which falls to a remainder.
+-- `gcd` follows the definition's two laws, gcd_zero and gcd_step; its measure is the second number, which falls to a remainder.
 use Prim.Native.Nat.{ℕ, ◌<◌, ◌%◌}
 use mathlib.Core.Path.{sym, ◌∙◌}
 use native.Mathlib.Nat.{pos_of_ne-zero, mod-lt}
 use borrow.Author.Rules.{rules}
 use native.Mathlib.Omega.{arith}
-use Rattle.arith.specs.GcdLaws.{gcd-zero, gcd-step}
+use Rattle.arith.specs.GcdLaws.{gcd_zero, gcd_step}
 use borrow.Fn.Kinds.{In}
 use borrow.Fn.PlainCycle.{Measures, is, falls, and}
 use Rattle.arith.proofs.gcd.Reads as gcd
@@ -32,10 +32,10 @@ gcd-gcd-requires t c κs =
     (omega (arith, c.before.requires.0), tt)
 
 gcd-returns : (t : ℕ) → gcd-lts.Need-returns (gcd-below t, gcd.Post) (gcd-at t) gcd.Post
-gcd-returns t c = rw c.if1.true (sym (gcd-zero _))
+gcd-returns t c = rw c.if1.true (sym (gcd_zero _))
 
 gcd-returns-2 : (t : ℕ) → gcd-lts.Need-returns-2 (gcd-below t, gcd.Post) (gcd-at t) gcd.Post
-gcd-returns-2 t c = c.gcd.ensures ∙ sym (gcd-step _ _ (pos_of_ne-zero c.before.if1.false))
+gcd-returns-2 t c = c.gcd.ensures ∙ sym (gcd_step _ _ (pos_of_ne-zero c.before.if1.false))
 
 pub +gcd-spec : {M : Type 1} → statement M
 +gcd-spec =

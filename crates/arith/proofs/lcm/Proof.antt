@@ -5,8 +5,8 @@ use mathlib.Core.Path.{sym, ◌∙◌}
 use native.Mathlib.Nat.{div-le_self, mul-le-mul}
 use native.Mathlib.Omega.{arith}
 use borrow.Author.Rules.{rules}
-use Rattle.arith.specs.Lcm.{lcmOf}
-use Rattle.arith.specs.LcmLaws.{lcm-none}
+use Rattle.arith.specs.Lcm.{lcm_of}
+use Rattle.arith.specs.LcmLaws.{lcm_none}
 use Rattle.arith.proofs.lcm.Statement.{statement}
 use Rattle.arith.proofs.lcm.Tie as tie
 
@@ -14,7 +14,7 @@ gcd-requires : tie.Need-gcd-requires
 gcd-requires c κs = search rules
 
 returns : tie.Need-returns
-returns c = sym (lcm-none _ _ (sym c.before.gcd.ensures ∙ c.if1.true))
+returns c = sym (lcm_none _ _ (sym c.before.gcd.ensures ∙ c.if1.true))
 
 div_parts : tie.Need-nonzero-div-parts
 div_parts c = search rules
@@ -32,7 +32,7 @@ mul-result c =
     record { fits = omega arith }
 
 returns-2 : tie.Need-returns-2
-unfolding lcmOf
+unfolding lcm_of
 returns-2 c = rw c.before.gcd.ensures
 
 pub lcm-spec : {M : Type 1} → statement M

@@ -2,21 +2,21 @@
 use Prim.Native.Nat.{◌-◌}
 use mathlib.Core.Path.{◌∙◌}
 use native.Mathlib.Omega.{arith}
-use Rattle.model.specs.Answers.{instanceOf}
+use Rattle.model.specs.Answers.{instance_of}
 use Rattle.planner.specs.TriedLaws.{searchable}
-use Rattle.decider.specs.ChoiceLaws.{Deciding, deciding-start, none-with, one-with, passed}
+use Rattle.decider.specs.ChoiceLaws.{Deciding, deciding_start, none_with, one_with, passed}
 use borrow.Author.Rules.{rules}
 use Rattle.decider.proofs.choose_exactly.Statement.{statement}
 use Rattle.decider.proofs.choose_exactly.Tie as tie
 
 abbrev invariant-loop : tie.invariant-loop
-invariant-loop cycle cost links some₀ rows₀ some rows = Deciding (instanceOf cycle) rows some
+invariant-loop cycle cost links some₀ rows₀ some rows = Deciding (instance_of cycle) rows some
 
 abbrev decreases-loop : tie.decreases-loop
 decreases-loop cycle cost links some₀ rows₀ some rows = 257 - rows
 
 loop-holds : tie.Need-loop-init invariant-loop decreases-loop
-loop-holds c = deciding-start c.next-tried.ensures
+loop-holds c = deciding_start c.next-tried.ensures
 
 plan-with-requires : tie.Need-plan-with-requires invariant-loop decreases-loop
 plan-with-requires c κs =
@@ -31,7 +31,7 @@ returns : tie.Need-returns invariant-loop decreases-loop
 returns c =
     let planned = c.before.before in
     let test = planned.before.before in
-    one-with test.before.loop.invariant test.loop-test.true planned.plan-with.ensures c.before.if1.true
+    one_with test.before.loop.invariant test.loop-test.true planned.plan-with.ensures c.before.if1.true
 
 loop-less : tie.Need-loop-smaller invariant-loop decreases-loop
 loop-less c =
@@ -42,7 +42,7 @@ loop-again : tie.Need-loop-preserved invariant-loop decreases-loop
 loop-again c =
     let planned = c.before.before in
     let test = planned.before.before in
-    none-with test.before.loop.invariant test.loop-test.true planned.plan-with.ensures c.before.if1.false c.next-tried2.ensures
+    none_with test.before.loop.invariant test.loop-test.true planned.plan-with.ensures c.before.if1.false c.next-tried2.ensures
 
 returns-2 : tie.Need-returns-2 invariant-loop decreases-loop
 returns-2 c = c.none_left.ensures ∙ passed c.before.before.loop.invariant c.before.loop-test.false

@@ -1,35 +1,35 @@
 -- The request is read, a plan is chosen, and it is written; each way out is one of the definition's cases.
-use Rattle.model.specs.WithinLaws.{read-within, read-refused}
-use Rattle.planner.specs.PlanLaws.{choice-refused, choice-written}
-use Rattle.decider.specs.DecideLaws.{not_within, refusal-decided}
+use Rattle.model.specs.WithinLaws.{read_within, read_refused}
+use Rattle.planner.specs.PlanLaws.{choice_refused, choice_written}
+use Rattle.decider.specs.DecideLaws.{not_within, refusal_decided}
 use borrow.Author.Rules.{rules}
 use Rattle.decider.proofs.decide.Statement.{statement}
 use Rattle.decider.proofs.decide.Tie as tie
 
 returns : tie.Need-returns
-returns c = rw c.refused.ensures (not_within _ _ (read-refused _ _ c.before.before.before.read.ensures c.before.if1.true) _)
+returns c = rw c.refused.ensures (not_within _ _ (read_refused _ _ c.before.before.before.read.ensures c.before.if1.true) _)
 
 choose-requires : tie.Need-choose-requires
-choose-requires c κs = (read-within _ _ c.before.before.read.ensures c.if1.false).limits
+choose-requires c κs = (read_within _ _ c.before.before.read.ensures c.if1.false).limits
 
 returns-2 : tie.Need-returns-2
 returns-2 c =
     let test = c.before.before.before.before in
-    let t = read-within _ _ test.before.before.read.ensures test.if1.false in
-    rw c.refused2.ensures (refusal-decided _ _ (choice-refused _ _ t _ c.before.before.before.choose.ensures c.before.if2.true) _)
+    let t = read_within _ _ test.before.before.read.ensures test.if1.false in
+    rw c.refused2.ensures (refusal_decided _ _ (choice_refused _ _ t _ c.before.before.before.choose.ensures c.before.if2.true) _)
 
 write-requires : tie.Need-write-requires
 write-requires c κs =
     let test1 = c.before.before.before.before.before in
-    (read-within _ _ test1.before.before.read.ensures test1.if1.false).limits
+    (read_within _ _ test1.before.before.read.ensures test1.if1.false).limits
 
 returns-3 : tie.Need-returns-3
 returns-3 c =
     let wrote = c.before.before in
     let test2 = wrote.before.before.before in
     let test1 = test2.before.before.before in
-    let t = read-within _ _ test1.before.before.read.ensures test1.if1.false in
-    choice-written _ _ t _ test2.before.before.choose.ensures test2.if2.false _ wrote.write.ensures.0 wrote.write.ensures.1
+    let t = read_within _ _ test1.before.before.read.ensures test1.if1.false in
+    choice_written _ _ t _ test2.before.before.choose.ensures test2.if2.false _ wrote.write.ensures.0 wrote.write.ensures.1
 
 pub decide-spec : {M : Type 1} → statement M
 decide-spec =

@@ -3,12 +3,12 @@ use Prim.Native.Nat.{◌≤◌, ◌<◌}
 use native.Mathlib.Omega.{arith}
 use borrow.Author.Rules.{rules}
 use Rattle.request.specs.AnswerLaws.{WasRead, was_read}
-use Rattle.dispatcher.specs.StepLaws.{report-refused, task-unknown, task-placed, task-known}
+use Rattle.dispatcher.specs.StepLaws.{report_refused_lem, task_unknown, task_placed, task_known}
 use Rattle.dispatcher.proofs.report.Statement.{statement}
 use Rattle.dispatcher.proofs.report.Tie as tie
 
 returns : tie.Need-returns
-returns c = report-refused _ _ _ _ _ c.before.before.read.ensures c.if1.true
+returns c = report_refused_lem _ _ _ _ _ c.before.before.read.ensures c.if1.true
 
 there : (c : tie.Else1) → let read = c.before.before in WasRead read.before.before.args.request.now read.read.result
 there c = was_read _ _ c.before.before.read.ensures c.if1.false
@@ -18,7 +18,7 @@ returns-2 c =
     let e = c.before.before in
     let read = e.before.before in
     let unknown : read.read.result.n ≤ read.before.before.args.task = omega (arith, c.if2.true) in
-    task-unknown _ _ _ _ _ (there e) unknown
+    task_unknown _ _ _ _ _ (there e) unknown
 
 -- the task is one of the request's
 known : (c : tie.Else2) → let read = c.before.before.before.before in read.before.before.args.task < read.read.result.n
@@ -28,7 +28,7 @@ known c = omega (arith, c.if2.false)
 placed : (c : tie.Else2) → c.before.before.before.before.before.before.args.task < 16
 placed c =
     let a = c.before.before.before.before.before.before.args in
-    task-placed _ _ a.ticks a.state _ (there c.before.before) (known c)
+    task_placed _ _ a.ticks a.state _ (there c.before.before) (known c)
 
 array-copy-out-x : tie.Need-array-copy-out-x
 array-copy-out-x c = placed c.before
@@ -42,7 +42,7 @@ array-write-counts c = placed c.before.before.before.before.before
 returns-3 : tie.Need-returns-3
 returns-3 c =
     let e = c.before.before.before.before.before in
-    task-known _ _ _ _ _ (there e.before.before) (known e) _ c.count-overrun.ensures
+    task_known _ _ _ _ _ (there e.before.before) (known e) _ c.count-overrun.ensures
 
 pub report-spec : {M : Type 1} → statement M
 report-spec =

@@ -2,7 +2,7 @@
 use mathlib.Core.Path.{◌∙◌}
 use native.Mathlib.Omega.{arith}
 use borrow.Author.Rules.{rules}
-use Rattle.draft.specs.MoveLaws.{unknown, sound-decides}
+use Rattle.draft.specs.MoveLaws.{unknown, sound_decides}
 use Rattle.draft.proofs.can_move.Statement.{statement}
 use Rattle.draft.proofs.can_move.Tie as tie
 
@@ -14,7 +14,7 @@ returns c =
 returns-2 : tie.Need-returns-2
 returns-2 c =
     let a = c.before.before.before.args in
-    c.is-sound.ensures ∙ sound-decides a.cycle a.draft a.y (omega (arith, c.before.before.at_most.ensures, c.before.if1.false))
+    c.is-sound.ensures ∙ sound_decides a.cycle a.draft a.y (omega (arith, c.before.before.at_most.ensures, c.before.if1.false))
 
 pub can-move-spec : {M : Type 1} → statement M
 can-move-spec = tie.close (tie.spec (λ c κs. search rules) returns (λ c κs. search rules) returns-2)

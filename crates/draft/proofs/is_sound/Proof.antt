@@ -3,14 +3,14 @@ use mathlib.Core.Path.{sym, ◌∙◌}
 use native.Mathlib.Omega.{arith}
 use borrow.Author.Rules.{rules}
 use borrow.Author.Tests.{not-true, not-false}
-use Rattle.draft.specs.StepLaws.{not-plausible, some-length, rules-broken, count-few, rows_few, rows_fit, loads-decide}
+use Rattle.draft.specs.StepLaws.{not_plausible, some_length, rules_broken, count_few, rows_few, rows_fit, loads_decide}
 use Rattle.draft.proofs.is_sound.Statement.{statement}
 use Rattle.draft.proofs.is_sound.Tie as tie
 
 returns : tie.Need-returns
 returns c =
     let a = c.before.before.args in
-    not-plausible a.cycle a.draft (sym c.before.plausible.ensures ∙ not-true _ c.if1.true)
+    not_plausible a.cycle a.draft (sym c.before.plausible.ensures ∙ not-true _ c.if1.true)
 
 placed-requires : tie.Need-placed-requires
 placed-requires c κs = omega (arith, c.at_most.ensures)
@@ -20,7 +20,7 @@ div-rows c =
     let stood = c.before.before.before.before.before in
     let test = stood.before.before.before.before in
     let a = test.before.before.args in
-    some-length a.cycle a.draft (sym test.before.plausible.ensures ∙ not-false _ test.if1.false)
+    some_length a.cycle a.draft (sym test.before.plausible.ensures ∙ not-false _ test.if1.false)
 
 returns-2 : tie.Need-returns-2
 returns-2 c =
@@ -30,7 +30,7 @@ returns-2 c =
     let a = test.before.before.args in
     let can = sym test.before.plausible.ensures ∙ not-false _ test.if1.false in
     let rules = rw part.with-jobs.ensures at c.before.rules-kept.ensures in
-    rules-broken a.cycle a.draft can _ stood.before.at_most.ensures _ stood.placed.ensures (sym rules ∙ not-true _ c.if2.true)
+    rules_broken a.cycle a.draft can _ stood.before.at_most.ensures _ stood.placed.ensures (sym rules ∙ not-true _ c.if2.true)
 
 row-loads-requires : tie.Need-row-loads-requires
 row-loads-requires c κs =
@@ -44,7 +44,7 @@ row-loads-requires c κs =
     let kept = sym rules ∙ not-false _ ruled.if2.false in
     let costs = rw part.with-jobs.ensures at c.costs.ensures in
     let sizes = ruled.before.before.before in (
-      count-few a.cycle a.draft can _ stood.before.at_most.ensures _ stood.placed.ensures kept,
+      count_few a.cycle a.draft can _ stood.before.at_most.ensures _ stood.placed.ensures kept,
       rows_fit a.cycle a.draft can _ stood.before.at_most.ensures _ stood.placed.ensures kept _ costs
           (omega (arith, sizes.before.struct_known.given, sizes.struct-known2.given)),
     )
@@ -85,7 +85,7 @@ returns-3 c =
     let kept = sym rules ∙ not-false _ ruled.if2.false in
     let costs = rw part.with-jobs.ensures at c.before.before.before.costs.ensures in
     c.same-loads.ensures
-    ∙ loads-decide a.cycle a.draft can _ stood.before.at_most.ensures _ stood.placed.ensures kept _ costs _
+    ∙ loads_decide a.cycle a.draft can _ stood.before.at_most.ensures _ stood.placed.ensures kept _ costs _
     c.before.before.row-loads.ensures
 
 pub is-sound-spec : {M : Type 1} → statement M

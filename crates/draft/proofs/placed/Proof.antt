@@ -4,16 +4,16 @@ use Prim.Native.Nat.{◌≤◌, ◌<◌, ◌-◌}
 use mathlib.Core.Path.{◌≡◌}
 use mathlib.Core.Logic.{⊎_elim}
 use native.Mathlib.Omega.{arith}
-use Rattle.draft.specs.PlacedLaws.{Passed, none_passed, few-passed, lifted-passed, placed-passed}
+use Rattle.draft.specs.PlacedLaws.{Passed, none_passed, few_passed, lifted_passed, placed_passed}
 use Rattle.draft.proofs.placed.Statement.{statement}
 use Rattle.draft.proofs.placed.Tie as tie
 
 abbrev invariant-loop : tie.invariant-loop
-invariant-loop count jobs frames their-jobs₀ their-frames₀ c₀ y₀ their-jobs their-frames c y =
-    (y ≤ count) × (count ≤ 128) × (c ≤ y) × Passed jobs frames y (record { count = c; jobs = their-jobs; frames = their-frames })
+invariant-loop count jobs frames their-jobs₀ their-frames₀ c₀ y₀ their_jobs their_frames c y =
+    (y ≤ count) × (count ≤ 128) × (c ≤ y) × Passed jobs frames y (record { count = c; jobs = their_jobs; frames = their_frames })
 
 abbrev decreases-loop : tie.decreases-loop
-decreases-loop count jobs frames their-jobs₀ their-frames₀ c₀ y₀ their-jobs their-frames c y = count - y
+decreases-loop count jobs frames their-jobs₀ their-frames₀ c₀ y₀ their_jobs their_frames c y = count - y
 
 loop-holds : tie.Need-loop-init invariant-loop decreases-loop
 loop-holds c = (omega arith, c.requires, omega arith, none_passed c.args.t1 c.args.t2)
@@ -25,13 +25,13 @@ loop-again c =
     let turn = c.before.before.loop-test.true in
     let room : l.y < 128 = omega (arith, l.invariant.1, turn) in
     let so = l.invariant.3 in
-    let few = few-passed a.t1 a.t2 l.y _ so in (
+    let few = few_passed a.t1 a.t2 l.y _ so in (
       omega arith,
       l.invariant.1,
       ⊎_elim (λ w. omega (arith, w, few)) (λ w. omega (arith, w, few)) c.if1.branch,
       ⊎_elim
-          (λ w. rw (w.1, w.2, w.3) (placed-passed a.t1 a.t2 l.y _ so w.0.taken room))
-          (λ w. rw (w.1, w.2, w.3) (lifted-passed a.t1 a.t2 l.y _ so w.0.left))
+          (λ w. rw (w.1, w.2, w.3) (placed_passed a.t1 a.t2 l.y _ so w.0.taken room))
+          (λ w. rw (w.1, w.2, w.3) (lifted_passed a.t1 a.t2 l.y _ so w.0.left))
           c.if1.branch,
     )
 

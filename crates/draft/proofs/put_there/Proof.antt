@@ -3,15 +3,15 @@ use mathlib.Core.Path.{sym, ◌∙◌}
 use native.Mathlib.Omega.{arith}
 use borrow.Author.Rules.{rules}
 use borrow.Author.Tests.{not-true, not-false}
-use Rattle.draft.specs.MoveLaws.{in-range, rows_are, outside, full, room_fits, breaks, stands}
+use Rattle.draft.specs.MoveLaws.{in_range, rows_are, outside, full, room_fits, breaks, stands}
 use Rattle.draft.proofs.put_there.Statement.{statement}
 use Rattle.draft.proofs.put_there.Tie as tie
 
 mul-job : tie.Need-overflow-mul-job
-mul-job c = omega (arith, in-range _ _ _ c.before.requires)
+mul-job c = omega (arith, in_range _ _ _ c.before.requires)
 
 array-copy-out-job : tie.Need-array-copy-out-job
-array-copy-out-job c = in-range _ _ _ c.before.requires
+array-copy-out-job c = in_range _ _ _ c.before.requires
 
 returns : tie.Need-returns
 returns c =
@@ -28,7 +28,7 @@ array-read-load : tie.Need-array-read-load
 array-read-load c = c.before.row_of.ensures.1
 
 cost-at-requires : tie.Need-cost-at-requires
-cost-at-requires c κs = let s = c.before.before.before.before.before.before in (s.requires.known, s.requires.limits.few-jobs)
+cost-at-requires c κs = let s = c.before.before.before.before.before.before in (s.requires.known, s.requires.limits.few_jobs)
 
 returns-2 : tie.Need-returns-2
 returns-2 c =
@@ -37,7 +37,7 @@ returns-2 c =
     let test = row.before in
     let inside = sym test.before.in_window.ensures ∙ not-false _ test.if1.false in
     c.kept2.ensures
-    ∙ full _ _ _ test.before.before.before.before.requires _ inside _ _ row.row_of.ensures.0 room.before.before.cost-at.ensures
+    ∙ full _ _ _ test.before.before.before.before.requires _ inside _ _ row.row_of.ensures.0 room.before.before.cost_at_lem.ensures
     (sym room.before.has_room.ensures ∙ not-true _ room.if2.true)
 
 cast-touched : tie.Need-overflow-cast-touched
@@ -47,8 +47,8 @@ cast-touched c =
     let s = test.before.before.before.before in
     let inside = sym test.before.in_window.ensures ∙ not-false _ test.if1.false in
     let room = sym c.before.has_room.ensures ∙ not-false _ c.if2.false in
-    let fits = room_fits _ _ _ s.requires _ inside _ _ row.row_of.ensures.0 c.before.before.cost-at.ensures room in
-    omega (arith, fits, c.before.before.cost-at.type-inv)
+    let fits = room_fits _ _ _ s.requires _ inside _ _ row.row_of.ensures.0 c.before.before.cost_at_lem.ensures room in
+    omega (arith, fits, c.before.before.cost_at_lem.type-inv)
 
 add-touched : tie.Need-overflow-add-touched
 add-touched c =
@@ -57,13 +57,13 @@ add-touched c =
     let s = test.before.before.before.before in
     let inside = sym test.before.in_window.ensures ∙ not-false _ test.if1.false in
     let room = sym c.before.has_room.ensures ∙ not-false _ c.if2.false in
-    let fits = room_fits _ _ _ s.requires _ inside _ _ row.row_of.ensures.0 c.before.before.cost-at.ensures room in
+    let fits = room_fits _ _ _ s.requires _ inside _ _ row.row_of.ensures.0 c.before.before.cost_at_lem.ensures room in
     omega (arith, fits)
 
 touched-requires : tie.Need-touched-requires
 touched-requires c κs =
     let row = c.before.before.before.before in
-    (in-range _ _ _ row.before.before.before.before.before.requires, row.row_of.ensures.1)
+    (in_range _ _ _ row.before.before.before.before.before.requires, row.row_of.ensures.1)
 
 returns-3 : tie.Need-returns-3
 returns-3 c =
@@ -74,7 +74,7 @@ returns-3 c =
     let inside = sym test.before.in_window.ensures ∙ not-false _ test.if1.false in
     let room = sym tested.before.has_room.ensures ∙ not-false _ tested.if2.false in
     c.kept3.ensures
-    ∙ breaks _ _ _ test.before.before.before.before.requires _ inside _ _ row.row_of.ensures.0 tested.before.before.cost-at.ensures room _
+    ∙ breaks _ _ _ test.before.before.before.before.requires _ inside _ _ row.row_of.ensures.0 tested.before.before.cost_at_lem.ensures room _
     new.touched.ensures (sym c.before.before.is-sound.ensures ∙ not-true _ c.before.if3.true)
 
 returns-4 : tie.Need-returns-4
@@ -86,7 +86,7 @@ returns-4 c =
     let inside = sym test.before.in_window.ensures ∙ not-false _ test.if1.false in
     let room = sym tested.before.has_room.ensures ∙ not-false _ tested.if2.false in
     c.kept4.ensures
-    ∙ stands _ _ _ test.before.before.before.before.requires _ inside _ _ row.row_of.ensures.0 tested.before.before.cost-at.ensures room _
+    ∙ stands _ _ _ test.before.before.before.before.requires _ inside _ _ row.row_of.ensures.0 tested.before.before.cost_at_lem.ensures room _
     new.touched.ensures (sym c.before.before.is-sound.ensures ∙ not-false _ c.before.if3.false)
 
 pub put-there-spec : {M : Type 1} → statement M

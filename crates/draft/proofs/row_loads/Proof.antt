@@ -5,7 +5,7 @@ use native.Mathlib.Omega.{arith}
 use lib.ListN.{get_or}
 use Rattle.cursor.specs.Padded.{firsts}
 use Rattle.draft.specs.Answers.{RowsFit}
-use Rattle.draft.specs.LoadLaws.{Added, none-added, row-few, sum_fits, one-added, all-added}
+use Rattle.draft.specs.LoadLaws.{Added, none_added, row_few, sum_fits, one_added, all_added}
 use Rattle.draft.proofs.row_loads.Statement.{statement}
 use Rattle.draft.proofs.row_loads.Tie as tie
 
@@ -17,13 +17,13 @@ abbrev decreases-loop : tie.decreases-loop
 decreases-loop count rows cost frames loads₀ y₀ loads y = count - y
 
 loop-holds : tie.Need-loop-init invariant-loop decreases-loop
-loop-holds c = let a = c.args in (omega arith, c.requires.0, c.requires.1.some-row, c.requires.1, none-added a.rows a.t1 a.t2 a.count)
+loop-holds c = let a = c.args in (omega arith, c.requires.0, c.requires.1.some_row, c.requires.1, none_added a.rows a.t1 a.t2 a.count)
 
 row_inside : (c : tie.In-loop invariant-loop decreases-loop) → let a = c.before.before.args in get_or a.t2 c.before.loop.y 0 % a.rows < 256
 row_inside c =
     let a = c.before.before.args in
     let l = c.before.loop in
-    row-few a.rows a.t1 a.t2 a.count l.invariant.3 l.y l.loads l.invariant.4 c.loop-test.true
+    row_few a.rows a.t1 a.t2 a.count l.invariant.3 l.y l.loads l.invariant.4 c.loop-test.true
 
 small-sum : (c : tie.In-loop invariant-loop decreases-loop) → let a = c.before.before.args in let l = c.before.loop in
     get_or l.loads (get_or a.t2 l.y 0 % a.rows) 0 + get_or a.t1 l.y 0 ≤ 65535
@@ -58,14 +58,14 @@ loop-again c =
       l.invariant.1,
       l.invariant.2,
       l.invariant.3,
-      one-added a.rows a.t1 a.t2 a.count l.invariant.3 l.y l.loads l.invariant.4 c.loop-test.true,
+      one_added a.rows a.t1 a.t2 a.count l.invariant.3 l.y l.loads l.invariant.4 c.loop-test.true,
     )
 
 returns : tie.Need-returns invariant-loop decreases-loop
 returns c =
     let a = c.before.before.args in
     let l = c.before.loop in
-    all-added a.rows a.t1 a.t2 a.count l.y l.loads l.invariant.4 (omega (arith, l.invariant.0, c.loop-test.false))
+    all_added a.rows a.t1 a.t2 a.count l.y l.loads l.invariant.4 (omega (arith, l.invariant.0, c.loop-test.false))
 
 pub row-loads-spec : {M : Type 1} → statement M
 row-loads-spec =

@@ -5,13 +5,13 @@ use mathlib.Core.Path.{◌∙◌}
 use native.Mathlib.Nat.{sub-zero}
 use native.Mathlib.Omega.{arith}
 use borrow.Author.Tests.{eq-eqb, ne_eqb}
-use Rattle.plan_rules.specs.EveryLaws.{AllLeft, all-next, all-fails, all_done}
-use Rattle.draft.specs.Answers.{sameAt}
+use Rattle.plan_rules.specs.EveryLaws.{AllLeft, all_next, all_fails, all_done}
+use Rattle.draft.specs.Answers.{same_at}
 use Rattle.draft.proofs.same_loads.Statement.{statement}
 use Rattle.draft.proofs.same_loads.Tie as tie
 
 abbrev invariant-loop : tie.invariant-loop
-invariant-loop rows loads sums r₀ r = (r ≤ rows) × (rows ≤ 256) × AllLeft (sameAt loads sums) rows r
+invariant-loop rows loads sums r₀ r = (r ≤ rows) × (rows ≤ 256) × AllLeft (same_at loads sums) rows r
 
 abbrev decreases-loop : tie.decreases-loop
 decreases-loop rows loads sums r₀ r = rows - r
@@ -20,16 +20,16 @@ loop-holds : tie.Need-loop-init invariant-loop decreases-loop
 loop-holds c = (omega arith, c.requires, simp sub-zero)
 
 returns : tie.Need-returns invariant-loop decreases-loop
-unfolding sameAt
+unfolding same_at
 returns c =
     let l = c.before.before.loop in
-    all-fails _ _ l.r c.before.loop-test.true (ne_eqb _ _ c.if1.true) ∙ l.invariant.2
+    all_fails _ _ l.r c.before.loop-test.true (ne_eqb _ _ c.if1.true) ∙ l.invariant.2
 
 loop-again : tie.Need-loop-preserved invariant-loop decreases-loop
-unfolding sameAt
+unfolding same_at
 loop-again c =
     let l = c.before.before.loop in
-    (omega arith, l.invariant.1, all-next _ _ l.r c.before.loop-test.true (eq-eqb _ _ c.if1.false) ∙ l.invariant.2)
+    (omega arith, l.invariant.1, all_next _ _ l.r c.before.loop-test.true (eq-eqb _ _ c.if1.false) ∙ l.invariant.2)
 
 returns-2 : tie.Need-returns-2 invariant-loop decreases-loop
 returns-2 c =

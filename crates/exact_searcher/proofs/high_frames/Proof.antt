@@ -2,16 +2,16 @@
 use native.Mathlib.Omega.{arith}
 use Prim.Native.Nat.{◌≤◌, ◌-◌}
 use mathlib.Core.Path.{◌≡◌, sym, ◌∙◌}
-use Rattle.searcher.specs.Arrays.{jobsIn}
+use Rattle.searcher.specs.Arrays.{jobs_in}
 use Rattle.prune.specs.Arrays.{Filled}
 use Rattle.prune.proofs.Laws.{filled_none, filled_more}
-use Rattle.exact_searcher.specs.Arrays.{highBy}
+use Rattle.exact_searcher.specs.Arrays.{high_by}
 use borrow.Author.Rules.{rules}
 use Rattle.exact_searcher.proofs.high_frames.Statement.{statement}
 use Rattle.exact_searcher.proofs.high_frames.Tie as tie
 
 abbrev invariant-loop : tie.invariant-loop
-invariant-loop given place at n out₀ i₀ out i = (i ≤ jobsIn given) × Filled (highBy given place at) i out
+invariant-loop given place at n out₀ i₀ out i = (i ≤ jobs_in given) × Filled (high_by given place at) i out
 
 abbrev decreases-loop : tie.decreases-loop
 decreases-loop given place at n out₀ i₀ out i = n - i
@@ -19,7 +19,7 @@ decreases-loop given place at n out₀ i₀ out i = n - i
 loop-holds : tie.Need-loop-init invariant-loop decreases-loop
 loop-holds c =
     let s = c.before in
-    (omega arith, filled_none (highBy s.args.given.now s.args.place.now s.args.at))
+    (omega arith, filled_none (high_by s.args.given.now s.args.place.now s.args.at))
 
 mul-out : tie.Need-overflow-mul-out invariant-loop decreases-loop
 mul-out c = omega (arith, c.before.before.before.before.before.before.before.requires, c.before.before.before.before.loop-test.true)
@@ -47,7 +47,7 @@ returns c =
     let loop = c.before.loop in
     let s = c.before.before.before in
     let test = c.loop-test in
-    let e : loop.i ≡ jobsIn s.args.given.now = omega (arith, loop.invariant.0, test.false) in rw (sym e) loop.invariant.1
+    let e : loop.i ≡ jobs_in s.args.given.now = omega (arith, loop.invariant.0, test.false) in rw (sym e) loop.invariant.1
 
 pub high-frames-spec : {M : Type 1} → statement M
 high-frames-spec =

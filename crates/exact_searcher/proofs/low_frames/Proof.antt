@@ -2,16 +2,16 @@
 use native.Mathlib.Omega.{arith}
 use Prim.Native.Nat.{◌≤◌, ◌-◌}
 use mathlib.Core.Path.{◌≡◌, sym}
-use Rattle.searcher.specs.Arrays.{jobsIn}
+use Rattle.searcher.specs.Arrays.{jobs_in}
 use Rattle.prune.specs.Arrays.{Filled}
 use Rattle.prune.proofs.Laws.{filled_none, filled_more}
-use Rattle.exact_searcher.specs.Arrays.{lowBy}
+use Rattle.exact_searcher.specs.Arrays.{low_by}
 use borrow.Author.Rules.{rules}
 use Rattle.exact_searcher.proofs.low_frames.Statement.{statement}
 use Rattle.exact_searcher.proofs.low_frames.Tie as tie
 
 abbrev invariant-loop : tie.invariant-loop
-invariant-loop given place at n out₀ i₀ out i = (i ≤ jobsIn given) × Filled (lowBy given place at) i out
+invariant-loop given place at n out₀ i₀ out i = (i ≤ jobs_in given) × Filled (low_by given place at) i out
 
 abbrev decreases-loop : tie.decreases-loop
 decreases-loop given place at n out₀ i₀ out i = n - i
@@ -19,7 +19,7 @@ decreases-loop given place at n out₀ i₀ out i = n - i
 loop-holds : tie.Need-loop-init invariant-loop decreases-loop
 loop-holds c =
     let s = c.before in
-    (omega arith, filled_none (lowBy s.args.given.now s.args.place.now s.args.at))
+    (omega arith, filled_none (low_by s.args.given.now s.args.place.now s.args.at))
 
 loop-again : tie.Need-loop-preserved invariant-loop decreases-loop
 loop-again c =
@@ -34,7 +34,7 @@ returns c =
     let loop = c.before.loop in
     let s = c.before.before.before in
     let test = c.loop-test in
-    let e : loop.i ≡ jobsIn s.args.given.now = omega (arith, loop.invariant.0, test.false) in rw (sym e) loop.invariant.1
+    let e : loop.i ≡ jobs_in s.args.given.now = omega (arith, loop.invariant.0, test.false) in rw (sym e) loop.invariant.1
 
 pub low-frames-spec : {M : Type 1} → statement M
 low-frames-spec =

@@ -2,7 +2,7 @@
 use native.Mathlib.Omega.{arith}
 use mathlib.Core.Path.{◌≡◌, sym, ◌∙◌}
 use mathlib.Core.Bool.{true, false}
-use Rattle.table.specs.Table.{carriedIn}
+use Rattle.table.specs.Table.{carried_in}
 use borrow.Author.Tests.{not-true, not-false}
 use borrow.Author.Rules.{rules}
 use Rattle.fly_listing.proofs.job_cycle.Statement.{statement}
@@ -10,10 +10,10 @@ use Rattle.fly_listing.proofs.job_cycle.Tie as tie
 
 returns : tie.Need-returns
 returns c =
-    let not_carried : carriedIn c.before.before.args.job ≡ false = sym c.before.is_Carried.ensures ∙ not-true _ c.if1.true in
+    let not_carried : carried_in c.before.before.args.job ≡ false = sym c.before.is_Carried.ensures ∙ not-true _ c.if1.true in
     rw not_carried
 
-carried : (c : tie.Else1) → carriedIn c.before.before.args.job ≡ true
+carried : (c : tie.Else1) → carried_in c.before.before.args.job ≡ true
 carried c = sym c.before.is_Carried.ensures ∙ not-false _ c.if1.false
 
 returns-2 : tie.Need-returns-2

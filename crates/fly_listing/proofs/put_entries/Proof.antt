@@ -6,17 +6,17 @@ use native.Mathlib.Nat.{sub-zero}
 use native.Mathlib.Omega.{arith}
 use lib.ListN.{length}
 use Rattle.table.specs.AnswerLaws.{entries_at}
-use Rattle.text.specs.Text.{filledTo, putAllOf}
+use Rattle.text.specs.Text.{filled_to, put_all_of}
 use Rattle.plan_listing.specs.Listing.{each}
-use Rattle.plan_listing.specs.ListingLaws.{entries-turn, entries-end}
-use Rattle.fly_listing.specs.Flown.{servedText}
+use Rattle.plan_listing.specs.ListingLaws.{entries_turn, entries_end}
+use Rattle.fly_listing.specs.Flown.{served_text}
 use Rattle.fly_listing.proofs.put_entries.Statement.{statement}
 use Rattle.fly_listing.proofs.put_entries.Tie as tie
 
 abbrev invariant-loop : tie.invariant-loop
 invariant-loop out₀ at q n tasks jobs end₀ i₀ out end i =
     (i ≤ n) × (n ≤ 16) × (length out ≡ length out₀)
-    × (putAllOf (filledTo end out) (each (servedText q) (entries_at tasks jobs (n - i) i)) ≡ putAllOf (filledTo at out₀) (each (servedText q) (entries_at tasks jobs n 0)))
+    × (put_all_of (filled_to end out) (each (served_text q) (entries_at tasks jobs (n - i) i)) ≡ put_all_of (filled_to at out₀) (each (served_text q) (entries_at tasks jobs n 0)))
 
 abbrev decreases-loop : tie.decreases-loop
 decreases-loop out₀ at q n tasks jobs end₀ i₀ out end i = n - i
@@ -32,13 +32,13 @@ loop-again c =
       omega (arith, more),
       l.invariant.1,
       c.before.before.put-served.auto.0 ∙ l.invariant.2,
-      rw c.before.before.put-served.ensures (entries-turn s.frame.tasks s.frame.jobs _ l.i (servedText _) _ more) ∙ l.invariant.3,
+      rw c.before.before.put-served.ensures (entries_turn s.frame.tasks s.frame.jobs _ l.i (served_text _) _ more) ∙ l.invariant.3,
     )
 
 returns : tie.Need-returns invariant-loop decreases-loop
 returns c =
     let s = c.before.before.before.before.before.args in
-    sym (entries-end s.frame.tasks s.frame.jobs _ c.before.loop.i (servedText _) _ c.loop-test.false) ∙ c.before.loop.invariant.3
+    sym (entries_end s.frame.tasks s.frame.jobs _ c.before.loop.i (served_text _) _ c.loop-test.false) ∙ c.before.loop.invariant.3
 
 pub put-entries-spec : {M : Type 1} → statement M
 put-entries-spec =

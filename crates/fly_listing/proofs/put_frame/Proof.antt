@@ -2,8 +2,8 @@
 use Prim.Native.Nat.{◌*◌, ◌≤◌}
 use native.Mathlib.Nat.{mul-le-mul_right}
 use native.Mathlib.Omega.{arith}
-use Rattle.text.specs.TextLaws.{put-none, put-more, put-append}
-use Rattle.fly_listing.specs.Flown.{frameLine}
+use Rattle.text.specs.TextLaws.{put_none, put_more, put_append}
+use Rattle.fly_listing.specs.Flown.{frame_line}
 use borrow.Author.Rules.{rules}
 use Rattle.fly_listing.proofs.put_frame.Statement.{statement}
 use Rattle.fly_listing.proofs.put_frame.Tie as tie
@@ -17,7 +17,7 @@ mul-put-number c =
     omega (arith, most, c.struct_known.given)
 
 returns : tie.Need-returns
-unfolding frameLine
+unfolding frame_line
 returns c =
     let end = c.before.before in
     let entries = end.before.before.before.before in
@@ -26,7 +26,7 @@ returns c =
     let number = start.before.before.before.before.before in
     let name = number.before.before.before.before in
     rw (end.put.ensures, entries.put_entries.ensures, time.put-number2.ensures, start.put-all2.ensures, number.put-number.ensures, name.put_all_lem.ensures)
-    (simp (put-append, put-more, put-none))
+    (simp (put_append, put_more, put_none))
 
 pub put-frame-spec : {M : Type 1} → statement M
 put-frame-spec =

@@ -1,7 +1,7 @@
 -- What is served arrives unless it is lost; the rest is what `exchanged` ensures.
 use mathlib.Core.Path.{◌≡◌, ◌∙◌}
 use Rattle.heater_link.specs.Exchange.{arrives}
-use Rattle.heater_link.specs.StepLaws.{frame_refused, frame-exchanged}
+use Rattle.heater_link.specs.StepLaws.{frame_refused, frame_exchanged}
 use borrow.Author.Rules.{rules}
 use Rattle.heater_link.proofs.in_frame.Statement.{statement}
 use Rattle.heater_link.proofs.in_frame.Tie as tie
@@ -21,7 +21,7 @@ returns-2 c =
     let reply : last.arrives2.result ≡ arrives last.before.serves2.result a.lost.reply = last.arrives2.ensures in
     c.exchanged.ensures
     ∙ rw (reply, last.before.serves2.ensures, command, first.before.serves.ensures)
-    (frame-exchanged a.a a.b a.lost a.frame a.link test.if1.false)
+    (frame_exchanged a.a a.b a.lost a.frame a.link test.if1.false)
 
 pub in-frame-spec : {M : Type 1} → statement M
 in-frame-spec =

@@ -4,13 +4,13 @@ use mathlib.Core.Path.{◌≡◌, ◌∙◌}
 use native.Mathlib.Nat.{sub-zero}
 use native.Mathlib.Omega.{arith}
 use Rattle.heater_link.specs.Exchange.{serves}
-use Rattle.heater_link.specs.StepLaws.{servesFrom, served-here, served-later, not-served}
+use Rattle.heater_link.specs.StepLaws.{serves_from, served_here, served_later, not_served}
 use borrow.Author.Rules.{rules}
 use Rattle.heater_link.proofs.serves.Statement.{statement}
 use Rattle.heater_link.proofs.serves.Tie as tie
 
 abbrev invariant-loop : tie.invariant-loop
-invariant-loop count task tasks i₀ i = (i ≤ count) × (count ≤ 16) × (servesFrom task tasks (count - i) i ≡ serves task tasks count)
+invariant-loop count task tasks i₀ i = (i ≤ count) × (count ≤ 16) × (serves_from task tasks (count - i) i ≡ serves task tasks count)
 
 abbrev decreases-loop : tie.decreases-loop
 decreases-loop count task tasks i₀ i = count - i
@@ -23,20 +23,20 @@ returns c =
     let test = c.before in
     let a = test.before.before.args in
     let l = test.before.loop in
-    served-here a.task a.t1 a.count l.i test.loop-test.true c.if1.true ∙ l.invariant.2
+    served_here a.task a.t1 a.count l.i test.loop-test.true c.if1.true ∙ l.invariant.2
 
 loop-again : tie.Need-loop-preserved invariant-loop decreases-loop
 loop-again c =
     let test = c.before in
     let a = test.before.before.args in
     let l = test.before.loop in
-    (omega arith, l.invariant.1, served-later a.task a.t1 a.count l.i test.loop-test.true c.if1.false ∙ l.invariant.2)
+    (omega arith, l.invariant.1, served_later a.task a.t1 a.count l.i test.loop-test.true c.if1.false ∙ l.invariant.2)
 
 returns-2 : tie.Need-returns-2 invariant-loop decreases-loop
 returns-2 c =
     let l = c.before.loop in
     let a = c.before.before.args in
-    not-served a.task a.t1 a.count l.i c.loop-test.false ∙ l.invariant.2
+    not_served a.task a.t1 a.count l.i c.loop-test.false ∙ l.invariant.2
 
 pub serves-spec : {M : Type 1} → statement M
 serves-spec =

@@ -1,6 +1,6 @@
 -- `job_records::fill` meets its contract: a walk of its MIR, by hand. `known` is called once, before the loop; of it and of `record_at`, which each turn calls, the
 -- proof knows the contract alone. The borrow of the
--- records is opened once, before the loop, and closed once, after it: after i turns the list is `filledTo i`. What the answer of `known` owns is facts alone, so it
+-- records is opened once, before the loop, and closed once, after it: after i turns the list is `filled_to i`. What the answer of `known` owns is facts alone, so it
 -- is had again at each turn.
 use mathlib.Core.Path.{◌≡◌, refl, sym, ◌∙◌, ap, subst}
 use Prim.Native.Nat.{ℕ, ◌<◌, ◌≤◌, ◌^◌, ◌*◌, ◌+◌, ◌-◌, zero-le}
@@ -52,10 +52,10 @@ use denote.Triple.Spec.{Meets, triple_of}
 use denote.Triple.Table.{entered, cited}
 use denote.Triple.Walked.{says, Stays, stay_slice, stay_dropped, walk_of, Goes-slice, Goes-dropped, Walks, ends_at, walked, walk_Meets}
 use denote.Exit.{yes}
-use Rattle.job_records.specs.Timeline.{Timeline, filling, recordsIn, filledRecords}
-use Rattle.job_records.specs.Known.{knownAnswer, recordHere}
-use Rattle.job_records.specs.KnownLaws.{KnownFor, known-for}
-use Rattle.job_records.specs.FillLaws.{filling-few, filledTo, fill_more, fill_end, fill-answer}
+use Rattle.job_records.specs.Timeline.{Timeline, filling, records_in, filled_records}
+use Rattle.job_records.specs.Known.{known_answer, record_here}
+use Rattle.job_records.specs.KnownLaws.{KnownFor, known_for}
+use Rattle.job_records.specs.FillLaws.{filling_few, filled_to, fill_more, fill_end, fill_answer}
 use Rattle.job_records.specs.declared.JobRecord.{JobRecord}
 use Rattle.job_records.specs.declared.JobsKnown.{JobsKnown}
 use Rattle.job_records.specs.declared.RecordsFilled.{RecordsFilled}
@@ -193,18 +193,18 @@ module _ {M : Type 1} {𝓤 : Ura M} (𝓛 : Logic 𝓤) (mem : Memory → SProp
   Lent = (MutSlice (named 2) κ₂ T.the_row).own_val (y xs) (xᵛ ∷ [])
 
   -- the call of `known`
-  abbrev to-known : (Knows 𝓛 mem run).Ghost
-  to-known = (((κ₀, (κ₁, tt)), (q₀, (q₁, tt)), tt, (s, (t, (length xs, tt))), (sᵛ ∷ [], (tᵛ ∷ [], (vint w64 (length xs) ∷ [], tt)))), tt)
+  abbrev to_known : (Knows 𝓛 mem run).Ghost
+  to_known = (((κ₀, (κ₁, tt)), (q₀, (q₁, tt)), tt, (s, (t, (length xs, tt))), (sᵛ ∷ [], (tᵛ ∷ [], (vint w64 (length xs) ∷ [], tt)))), tt)
 
   goes-known : ent 𝓤 (on_entry 𝓛 knows.signature (κ₀, (κ₁, tt)) (q₀, (q₁, tt)) (s, (t, (length xs, tt))) (sᵛ ∷ [], (tᵛ ∷ [], (vint w64 (length xs) ∷ [], tt))))
-      ((Knows 𝓛 mem run).pre to-known)
+      ((Knows 𝓛 mem run).pre to_known)
   goes-known =
       qed 𝓛 (Tokens ∷ ‵ (owns (ShrSlice (named 0) κ₀ u8 ∷ ShrSlice (named 1) κ₁ u8 ∷ usize ∷ []) (s, (t, (length xs, tt)))
       (sᵛ ∷ [], (tᵛ ∷ [], (vint w64 (length xs) ∷ [], tt)))) ∷ []) ∵
       join ! $ frame ! $ done !
 
   -- what is passed is taken apart: what `known` asks, and the records
-  apart : length xs < 2 ^ 64 → ent 𝓤 (on_entry 𝓛 f.signature κs qs x at) (sep 𝓤 ((Knows 𝓛 mem run).pre to-known)
+  apart : length xs < 2 ^ 64 → ent 𝓤 (on_entry 𝓛 f.signature κs qs x at) (sep 𝓤 ((Knows 𝓛 mem run).pre to_known)
       (sep 𝓤 (sem 𝓛 (flft κ₂ q₂)) (sem 𝓛 Lent)))
   apart fits =
       qed 𝓛 ((‵ (flft κ₀ q₀) ⊛ ‵ (flft κ₁ q₁) ⊛ ‵ (flft κ₂ q₂) ⊛ ‵ ftrue) ∷ ‵ (owns (ShrSlice (named 0) κ₀ u8 ∷ ShrSlice (named 1) κ₁ u8
@@ -215,13 +215,13 @@ module _ {M : Type 1} {𝓤 : Ura M} (𝓛 : Logic 𝓤) (mem : Memory → SProp
       -- [the records; the table; the request; the third token; nothing; the second; the first]
       nothing ! $ owned ! usize (Is usize) (uint_Makes 𝓛 w64) (length xs) (vint w64 (length xs) ∷ []) (refl, fits) $ fjoin ! $
       move ! (2 ∷ 0 ∷ []) $ fjoin ! $ move ! (2 ∷ 0 ∷ []) $ fjoin ! $ move ! (4 ∷ 3 ∷ []) $ join ! $ move ! (4 ∷ 0 ∷ []) $ join ! $
-      use2 𝓛 (raw ((Knows 𝓛 mem run).pre to-known)) goes-known $ frame ! $ move ! (1 ∷ 0 ∷ []) $ done !
+      use2 𝓛 (raw ((Knows 𝓛 mem run).pre to_known)) goes-known $ frame ! $ move ! (1 ∷ 0 ∷ []) $ done !
 
   abbrev KnownEnsured : JobsKnown → SProp 𝓤
   KnownEnsured k = ensured 𝓛 knows.ended (knows.clauses 𝓛 mem run) (κ₀, (κ₁, tt)) (s, (t, (length xs, tt))) tt k
 
-  known-said : (k : JobsKnown) → ent 𝓤 (KnownEnsured k) (fact 𝓤 (k ≡ knownAnswer tl))
-  known-said k = ex_e 𝓤 _ (λ ws. snd∗ 𝓤 (sem 𝓛 (lasts knows.ended (κ₀, (κ₁, tt)) (s, (t, (length xs, tt))) ws)) (fact 𝓤 (k ≡ knownAnswer tl)))
+  known-said : (k : JobsKnown) → ent 𝓤 (KnownEnsured k) (fact 𝓤 (k ≡ known_answer tl))
+  known-said k = ex_e 𝓤 _ (λ ws. snd∗ 𝓤 (sem 𝓛 (lasts knows.ended (κ₀, (κ₁, tt)) (s, (t, (length xs, tt))) ws)) (fact 𝓤 (k ≡ known_answer tl)))
 
   module _ (k : JobsKnown) (is : Is K.the_row k (K'.lowered k ∷ [])) (known : KnownFor tl k) where
     abbrev n : ℕ
@@ -233,7 +233,7 @@ module _ {M : Type 1} {𝓤 : Ura M} (𝓛 : Logic 𝓤) (mem : Memory → SProp
     sized : WT (K'.lowered k)
     sized = ((LL.lawful K.the_type K'.the_laws 𝓛).typed k _ is).0.1
 
-    exits : (zs : List JobRecord) → length zs ≡ length xs → zs ≡ filledRecords tl xs → Room T.the_row (length xs)
+    exits : (zs : List JobRecord) → length zs ≡ length xs → zs ≡ filled_records tl xs → Room T.the_row (length xs)
         → ent 𝓤 (⋆ 𝓛 (‵ (fobs γ ((coded_holeys T.the_row).code (heres T.the_row zs))) ∷ ‵ (fbor κ₂ (Held T.the_row (length zs) b o γ)) ∷ ‵ (flft κ₂ q₂) ∷ Tokens
         ∷ [])) (Post (R'.lowered answer))
     exits zs len e room =
@@ -241,7 +241,7 @@ module _ {M : Type 1} {𝓤 : Ura M} (𝓛 : Logic 𝓤) (mem : Memory → SProp
         qed 𝓛 (‵ (fobs γ ((coded_holeys T.the_row).code (heres T.the_row zs))) ∷ ‵ (fbor κ₂ (Held T.the_row (length zs) b o γ)) ∷ ‵ (flft κ₂ q₂) ∷ Tokens ∷ []) ∵
         suffices ! _ (ends_at 𝓛 f.ended stayed (f.clauses 𝓛 mem run) ((κs, qs, tt, x, at), tt) (R'.lowered answer) answer (tt, (tt, (zs, tt)))
         (tt, (tt, (len, tt)))) $
-        says ! (fill-answer tl xs k known, e) $
+        says ! (fill_answer tl xs k known, e) $
         move ! (3 ∷ []) $ split ! $ move ! (1 ∷ []) $ split ! $
         -- [the second token; nothing; the first; obs; the borrow; the third token]
         move ! (5 ∷ 1 ∷ []) $ join ! $ move ! (1 ∷ 0 ∷ []) $ join ! $ move ! (1 ∷ 0 ∷ []) $ join ! $ frame ! $
@@ -259,7 +259,7 @@ module _ {M : Type 1} {𝓤 : Ura M} (𝓛 : Logic 𝓤) (mem : Memory → SProp
     asked i h = qed 𝓛 (‵ ftrue ∷ ‵ (owns (K.the_row ∷ usize ∷ []) (k, (i, tt)) (K'.lowered k ∷ [], (vint w64 i ∷ [], tt))) ∷ []) ∵ says ! h $ done !
 
     abbrev made : ℕ → JobRecord
-    made = recordHere k
+    made = record_here k
 
     abbrev Ensured : ℕ → JobRecord → SProp 𝓤
     Ensured i r = ensured 𝓛 job.ended (job.clauses 𝓛 mem run) tt (k, (i, tt)) tt r
@@ -294,7 +294,7 @@ module _ {M : Type 1} {𝓤 : Ura M} (𝓛 : Logic 𝓤) (mem : Memory → SProp
           ∷ ‵ (froom ty_ptr l₁₀ 0) ∷ Frame
 
       abbrev Facts : ℕ → ℕ → List JobRecord → Type 0
-      Facts m i ys = (n - i ≡ m) × (i ≤ n) × (length ys ≡ length xs) × (ys ≡ filledTo tl xs i)
+      Facts m i ys = (n - i ≡ m) × (i ≤ n) × (length ys ≡ length xs) × (ys ≡ filled_to tl xs i)
 
       abbrev Inv : ℕ → SProp 𝓤
       Inv m = ex 𝓤 (λ (i : ℕ). ex 𝓤 (λ (ys : List JobRecord). guard 𝓤 (Facts m i ys) (⋆ 𝓛 (At i ys))))
@@ -345,7 +345,7 @@ module _ {M : Type 1} {𝓤 : Ura M} (𝓛 : Logic 𝓤) (mem : Memory → SProp
           forget ! 2 refl $ forget ! 3 refl $ forget ! 4 refl $ forget ! 5 refl $ by ! go)))))
 
       -- the turn that leaves the loop, and the rest of the body
-      ends : (i : ℕ) (ys : List JobRecord) (X : SProp 𝓤) → n ≤ i → length ys ≡ length xs → ys ≡ filledRecords tl xs → ent 𝓤 (⋆ 𝓛 (At i ys))
+      ends : (i : ℕ) (ys : List JobRecord) (X : SProp 𝓤) → n ≤ i → length ys ≡ length xs → ys ≡ filled_records tl xs → ent 𝓤 (⋆ 𝓛 (At i ys))
           (Wp 𝓤 H C Λ En mir_of.turn-1 (after_turn 𝓤 H X Left))
       unfolding after_turn
       ends i ys X past len e =
@@ -383,8 +383,8 @@ module _ {M : Type 1} {𝓤 : Ura M} (𝓛 : Logic 𝓤) (mem : Memory → SProp
       turn_at m i ys facts true e =
           let small : i < n = ltb-true i n e in
           let few : i < 128 = omega (arith, known.few) in
-          let fits : length (recordsIn tl) ≤ length xs = filling-few s.now t.now (length xs) in
-          let within : i < length xs = omega (arith, known.count-is) in
+          let fits : length (records_in tl) ≤ length xs = filling_few s.now t.now (length xs) in
+          let within : i < length xs = omega (arith, known.count_is) in
           let h₁ : i < 2 ^ 64 = omega arith in
           let h₃ : i + 1 < 2 ^ 64 = omega arith in
           let h₄ : i < length ys = omega (arith, facts.2) in
@@ -445,17 +445,17 @@ module _ {M : Type 1} {𝓤 : Ura M} (𝓛 : Logic 𝓤) (mem : Memory → SProp
           qed 𝓛 Passed₀ ∵ exec ! 𝓣.C 𝓣.Λ En₀ mir_of.t-1 (at_ret En₀ Post) $
           assigns ! (of_opd ! (load ! (from ! (fld ! refl (stop !))) (look_in ! 14 (sub ! 1 refl (whole !))))) (from ! (stop !))
           (init ! 8 refl (tt, record { fits = room.0 })) $
-          move ! (22 ∷ []) $ use1 𝓛 (raw ((Knows 𝓛 mem run).pre to-known) ⊛ ‵ (flft κ₂ q₂) ⊛ ‵ Lent) (apart room.0) $ split ! $
-          calls_at ! (fm_of 𝓤 H 𝓛.laws 𝓣) (Knows 𝓛 mem run) all_Known to-known
+          move ! (22 ∷ []) $ use1 𝓛 (raw ((Knows 𝓛 mem run).pre to_known) ⊛ ‵ (flft κ₂ q₂) ⊛ ‵ Lent) (apart room.0) $ split ! $
+          calls_at ! (fm_of 𝓤 H 𝓛.laws 𝓣) (Knows 𝓛 mem run) all_Known to_known
           (and_then ! (load ! (from ! (stop !)) (look ! 20 refl)) (and_then ! (load ! (from ! (stop !)) (look ! 18 refl))
           (and_then ! (load ! (from ! (stop !)) (look ! 10 refl)) (no_more !)))) (λ u.
           use1 𝓛 (later (some (λ (k : JobsKnown). (Tokens ⊛ ‵ ((K.the_row).own_val k (u ∷ []))) ⊛ raw (KnownEnsured k)))) (id⊢ 𝓤 _) $ await ! tt $ pick ! (λ k.
-          split ! $ move ! (1 ∷ []) $ use1 𝓛 (raw (fact 𝓤 (k ≡ knownAnswer tl))) (known-said k) $ heard ! (k ≡ knownAnswer tl) (λ said. split ! $ move ! (1 ∷ []) $
+          split ! $ move ! (1 ∷ []) $ use1 𝓛 (raw (fact 𝓤 (k ≡ known_answer tl))) (known-said k) $ heard ! (k ≡ known_answer tl) (λ said. split ! $ move ! (1 ∷ []) $
           peeks ! K.the_row (Is K.the_row) (shows 𝓛 K.the_row) k (u ∷ []) (λ is. drop ! $
           -- [the tokens; the third token and the records; room for _10; …]
           land ! (from ! (stop !)) (init ! 14 refl ((LL.lawful K.the_type K'.the_laws 𝓛).typed k _ is).0) $
           rewrite ! 14 (λ (vs : List Val). ‵ (fat full_share K'.mir l₄ 0 (only vs))) ((K'.lowers).val_is k (u ∷ []) is) refl $
-          by ! (opened k (subst (Is K.the_row k) ((K'.lowers).val_is k (u ∷ []) is) is) (known-for s.now t.now (length xs) k said) 𝓣 job-known room l₀ l₁ l₂ l₃ l₄ l₅ l₆ l₇ l₈ l₉ l₁₀)))))
+          by ! (opened k (subst (Is K.the_row k) ((K'.lowers).val_is k (u ∷ []) is) is) (known_for s.now t.now (length xs) k said) 𝓣 job-known room l₀ l₁ l₂ l₃ l₄ l₅ l₆ l₇ l₈ l₉ l₁₀)))))
 
     walk : Is (ShrSlice (named 0) κ₀ u8) s (sᵛ ∷ []) → Is (ShrSlice (named 1) κ₁ u8) t (tᵛ ∷ [])
         → ent 𝓤 (on_entry 𝓛 f.signature κs qs x at) (WpFn 𝓤 H 𝓣.C 𝓣.Λ code.function (sᵛ ∷ tᵛ ∷ xᵛ ∷ []) Post)
@@ -491,4 +491,4 @@ fill_spec 𝓤 𝓛 𝓜 𝓡 =
     (tables 𝓤 𝓛.H 𝓜 𝓡 code.env).C (tables 𝓤 𝓛.H 𝓜 𝓡 code.env).Λ #fill code.function (code.unfolded 𝓤 𝓛.H 𝓜 𝓡)
     (fill_meets 𝓛 𝓜.mem 𝓡.run (tables_of 𝓤 𝓛.H 𝓜 (tables 𝓤 𝓛.H 𝓜 𝓡 code.env))
     (cited 𝓤 𝓛.H (Knows 𝓛 𝓜.mem 𝓡.run) 𝓜 𝓡 code.env #known knows-def.routine code.calls-job-records::known (knows-thm.met 𝓤 𝓛 𝓜 𝓡))
-    (cited 𝓤 𝓛.H (RecordAt 𝓛 𝓜.mem 𝓡.run) 𝓜 𝓡 code.env #record-at job-def.routine code.calls-job-records::record-at (job-thm.met 𝓤 𝓛 𝓜 𝓡)))
+    (cited 𝓤 𝓛.H (RecordAt 𝓛 𝓜.mem 𝓡.run) 𝓜 𝓡 code.env #record-at job-def.routine code.calls-job-records::record_at (job-thm.met 𝓤 𝓛 𝓜 𝓡)))

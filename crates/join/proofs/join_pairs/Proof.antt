@@ -5,16 +5,16 @@ use mathlib.Core.Path.{◌≡◌}
 use mathlib.Core.List.{◌++◌, map, append-nil}
 use native.Mathlib.Omega.{arith}
 use Rattle.cursor.specs.Padded.{padded, firsts}
-use Rattle.request.specs.Request.{noPair}
+use Rattle.request.specs.Request.{no_pair}
 use Rattle.request.specs.Places.{Few}
-use Rattle.join.specs.Joined.{raisedBy}
-use Rattle.join.specs.JoinLaws.{pair-behind}
+use Rattle.join.specs.Joined.{raised_by}
+use Rattle.join.specs.JoinLaws.{pair_behind}
 use Rattle.join.proofs.join_pairs.Statement.{statement}
 use Rattle.join.proofs.join_pairs.Tie as tie
 
 abbrev invariant-loop : tie.invariant-loop
 invariant-loop m k n second pairs₀ i₀ pairs i =
-    (i ≤ k) × (m + k ≤ 16) × (n ≤ 16) × Few second × (pairs ≡ padded 16 noPair (firsts m noPair pairs₀ ++ map (raisedBy n) (firsts i noPair second)))
+    (i ≤ k) × (m + k ≤ 16) × (n ≤ 16) × Few second × (pairs ≡ padded 16 no_pair (firsts m no_pair pairs₀ ++ map (raised_by n) (firsts i no_pair second)))
 
 abbrev decreases-loop : tie.decreases-loop
 decreases-loop m k n second pairs₀ i₀ pairs i = k - i
@@ -33,7 +33,7 @@ loop-again : tie.Need-loop-preserved invariant-loop decreases-loop
 loop-again c =
     let l = c.before.before.before.before.loop in
     let more = c.before.before.before.loop-test.true in
-    (omega arith, l.invariant.1, l.invariant.2, l.invariant.3, rw l.invariant.4 (pair-behind _ _ _ l.i _ (omega arith)))
+    (omega arith, l.invariant.1, l.invariant.2, l.invariant.3, rw l.invariant.4 (pair_behind _ _ _ l.i _ (omega arith)))
 
 returns : tie.Need-returns invariant-loop decreases-loop
 returns c =

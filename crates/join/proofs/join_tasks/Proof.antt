@@ -5,13 +5,13 @@ use mathlib.Core.Path.{◌≡◌}
 use mathlib.Core.List.{◌++◌, append-nil}
 use native.Mathlib.Omega.{arith}
 use Rattle.cursor.specs.Padded.{padded, firsts}
-use Rattle.request.specs.Request.{noTask}
-use Rattle.join.specs.JoinLaws.{task-behind}
+use Rattle.request.specs.Request.{no_task}
+use Rattle.join.specs.JoinLaws.{task_behind}
 use Rattle.join.proofs.join_tasks.Statement.{statement}
 use Rattle.join.proofs.join_tasks.Tie as tie
 
 abbrev invariant-loop : tie.invariant-loop
-invariant-loop n k second tasks₀ i₀ tasks i = (i ≤ k) × (n + k ≤ 16) × (tasks ≡ padded 16 noTask (firsts n noTask tasks₀ ++ firsts i noTask second))
+invariant-loop n k second tasks₀ i₀ tasks i = (i ≤ k) × (n + k ≤ 16) × (tasks ≡ padded 16 no_task (firsts n no_task tasks₀ ++ firsts i no_task second))
 
 abbrev decreases-loop : tie.decreases-loop
 decreases-loop n k second tasks₀ i₀ tasks i = k - i
@@ -23,7 +23,7 @@ loop-holds c = (omega arith, c.requires.0, rw append-nil c.requires.1)
 loop-again : tie.Need-loop-preserved invariant-loop decreases-loop
 loop-again c =
     let l = c.before.before.loop in
-    (omega arith, l.invariant.1, rw l.invariant.2 (task-behind _ _ _ l.i (omega arith)))
+    (omega arith, l.invariant.1, rw l.invariant.2 (task_behind _ _ _ l.i (omega arith)))
 
 returns : tie.Need-returns invariant-loop decreases-loop
 returns c =

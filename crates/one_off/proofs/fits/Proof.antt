@@ -2,7 +2,7 @@
 use Prim.Native.Nat.{◌≤◌, ◌*◌}
 use native.Mathlib.Nat.{mul-le-mul}
 use native.Mathlib.Omega.{arith}
-use Rattle.one_off.specs.StepLaws.{too-early, too-late, room-decides}
+use Rattle.one_off.specs.StepLaws.{too_early, too_late, room_decides}
 use borrow.Author.Rules.{rules}
 use Rattle.one_off.proofs.fits.Statement.{statement}
 use Rattle.one_off.proofs.fits.Tie as tie
@@ -16,17 +16,17 @@ start_small c =
 returns : tie.Need-returns
 returns c =
     let a = c.before.args in
-    too-early a.length a.from a.until a.f a.g a.used a.k c.if1.true
+    too_early a.length a.from a.until a.f a.g a.used a.k c.if1.true
 
 returns-2 : tie.Need-returns-2
 returns-2 c =
     let a = c.before.before.args in
-    too-late a.length a.from a.until a.f a.g a.used a.k c.before.if1.false c.if2.true
+    too_late a.length a.from a.until a.f a.g a.used a.k c.before.if1.false c.if2.true
 
 returns-3 : tie.Need-returns-3
 returns-3 c =
     let a = c.before.before.args in
-    room-decides a.length a.from a.until a.f a.g a.used a.k c.before.if1.false c.if2.false
+    room_decides a.length a.from a.until a.f a.g a.used a.k c.before.if1.false c.if2.false
 
 pub fits-spec : {M : Type 1} → statement M
 fits-spec =

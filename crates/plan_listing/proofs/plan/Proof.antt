@@ -6,7 +6,7 @@ use lib.ListN.{length}
 use lib.Seq.{length-take-le}
 use borrow.Author.Rules.{rules}
 use Rattle.text.specs.TextLaws.{put_front}
-use Rattle.plan_listing.specs.HandedLaws.{refused-is, table_is, written-few, listing-refused, listing-handed}
+use Rattle.plan_listing.specs.HandedLaws.{refused_is, table_is, written_few, listing_refused, listing_handed}
 use Rattle.plan_listing.proofs.plan.Statement.{statement}
 use Rattle.plan_listing.proofs.plan.Tie as tie
 
@@ -15,7 +15,7 @@ returns c =
     let line = c.before.before in
     let plan = line.before.before.before.before.before.plan in
     let s = line.before.before.before.before.before.before.before.before.before.args in
-    rw (← listing-refused s.request.now plan.result.refusal (refused-is s.request.now plan.result plan.ensures.0 line.before.before.if1.true))
+    rw (← listing_refused s.request.now plan.result.refusal (refused_is s.request.now plan.result plan.ensures.0 line.before.before.if1.true))
     line.refused.ensures
 
 -- what is lent is within the buffer
@@ -23,7 +23,7 @@ within : (c : tie.Else1) → let plan = c.before.before.before.plan in plan.resu
 within c =
     let at = c.before.before.before in
     let plan = at.plan in
-    omega (arith, written-few at.before.before.before.before.args.request.now plan.result plan.ensures.0 c.if1.false, plan.auto.1.1.0)
+    omega (arith, written_few at.before.before.before.before.args.request.now plan.result plan.ensures.0 c.if1.false, plan.auto.1.1.0)
 
 array-share-prefix-table : tie.Need-array-share-prefix-table
 array-share-prefix-table c = within c.before
@@ -37,7 +37,7 @@ returns-2 c =
     let plan = lines.before.before.before.before.before.before.plan in
     let s = lines.before.before.before.before.before.before.before.before.before.before.args in
     let is = table_is s.request.now plan.result plan.ensures.0 lines.before.before.before.if1.false plan.new.1.1.0 plan.ensures.1 in
-    rw (← listing-handed s.request.now _ is) (put_front _ s.out.now lines.put-table.new.0 lines.put-table.result lines.put-table.ensures)
+    rw (← listing_handed s.request.now _ is) (put_front _ s.out.now lines.put-table.new.0 lines.put-table.result lines.put-table.ensures)
 
 pub plan-spec : {M : Type 1} → statement M
 plan-spec =

@@ -3,7 +3,7 @@ use borrow.Author.Rules.{rules}
 use Prim.Native.Nat.{◌≤◌, ◌<◌, ◌-◌, ◌%◌}
 use native.Mathlib.Omega.{arith}
 use lib.ListN.{get_or}
-use Rattle.plan_rules.specs.LoopLaws.{Kept, kept-none, row_inside, kept_more, overloaded, all-loaded}
+use Rattle.plan_rules.specs.LoopLaws.{Kept, kept_none, row_inside, kept_more, overloaded, all_loaded}
 use Rattle.plan_rules.proofs.capacity_kept.Statement.{statement}
 use Rattle.plan_rules.proofs.capacity_kept.Tie as tie
 
@@ -16,7 +16,7 @@ decreases-loop cost frames count rows f length load₀ y₀ load y = count - y
 loop-holds : tie.Need-loop-init invariant-loop decreases-loop
 loop-holds c =
     let a = c.args in
-    (omega arith, c.requires.0, c.requires.1, c.requires.2, kept-none a.rows a.cost.now a.frames.now a.count a.f)
+    (omega arith, c.requires.0, c.requires.1, c.requires.2, kept_none a.rows a.cost.now a.frames.now a.count a.f)
 
 -- the row of a job is one of 256
 inside : (c : tie.After-row invariant-loop decreases-loop)
@@ -75,7 +75,7 @@ returns-2 : tie.Need-returns-2 invariant-loop decreases-loop
 returns-2 c =
     let l = c.before.loop in
     let a = c.before.before.args in
-    all-loaded a.rows a.cost.now a.frames.now a.count a.f l.y l.load l.invariant.4 (omega (arith, l.invariant.0, c.loop-test.false))
+    all_loaded a.rows a.cost.now a.frames.now a.count a.f l.y l.load l.invariant.4 (omega (arith, l.invariant.0, c.loop-test.false))
 
 pub capacity-kept-spec : {M : Type 1} → statement M
 capacity-kept-spec =

@@ -4,7 +4,7 @@ use native.Mathlib.Nat.{mul-le-mul}
 use native.Mathlib.Omega.{arith}
 use borrow.Author.Tests.{le-leb, lt-leb}
 use mathlib.Core.Path.{◌≡◌}
-use Rattle.plan_rules.specs.Rules.{inWindow}
+use Rattle.plan_rules.specs.Rules.{in_window}
 use borrow.Author.Rules.{rules}
 use Rattle.plan_rules.proofs.in_window.Statement.{statement}
 use Rattle.plan_rules.proofs.in_window.Tie as tie
@@ -21,7 +21,7 @@ cast-if1 : tie.Need-overflow-cast-if1
 cast-if1 c = search rules
 
 returns : tie.Need-returns
-unfolding inWindow
+unfolding in_window
 returns c =
     let a = c.before.before.args in
     let early : a.k * a.f < a.job.release = c.if1.true in
@@ -39,7 +39,7 @@ cast-result : tie.Need-overflow-cast-result
 cast-result c = search rules
 
 returns-2 : tie.Need-returns-2
-unfolding inWindow
+unfolding in_window
 returns-2 c =
     let a = c.before.before.before.args in
     let more : (a.k + 1) * a.f ≡ a.k * a.f + a.f = omega arith in

@@ -5,18 +5,18 @@ use native.Mathlib.Nat.{sub-zero}
 use native.Mathlib.Omega.{arith}
 use borrow.Author.Tests.{not-true, not-false}
 use Rattle.cursor.specs.Padded.{firsts}
-use Rattle.cycle.specs.Planned.{noJob}
-use Rattle.request.specs.Request.{noPair}
-use Rattle.plan_rules.specs.Rules.{pairKept}
-use Rattle.plan_rules.specs.EveryLaws.{AllLeft, all-next, all-fails, all_done}
-use Rattle.plan_rules.specs.LoopLaws.{pair-at}
+use Rattle.cycle.specs.Planned.{no_job}
+use Rattle.request.specs.Request.{no_pair}
+use Rattle.plan_rules.specs.Rules.{pair_kept}
+use Rattle.plan_rules.specs.EveryLaws.{AllLeft, all_next, all_fails, all_done}
+use Rattle.plan_rules.specs.LoopLaws.{pair_at_lem}
 use borrow.Author.Rules.{rules}
 use Rattle.plan_rules.proofs.pairs_kept.Statement.{statement}
 use Rattle.plan_rules.proofs.pairs_kept.Tie as tie
 
 abbrev invariant-loop : tie.invariant-loop
 invariant-loop m jobs frames count pairs u₀ u =
-    (u ≤ m) × (m ≤ 16) × AllLeft (pairKept (firsts count noJob jobs) (firsts count 0 frames) count (firsts m noPair pairs)) m u
+    (u ≤ m) × (m ≤ 16) × AllLeft (pair_kept (firsts count no_job jobs) (firsts count 0 frames) count (firsts m no_pair pairs)) m u
 
 abbrev decreases-loop : tie.decreases-loop
 decreases-loop m jobs frames count pairs u₀ u = m - u
@@ -33,8 +33,8 @@ returns c =
     let a = test.before.before.args in
     let l = test.before.loop in
     let turn = test.loop-test.true in
-    let here = pair-at (firsts a.count noJob a.jobs) (firsts a.count 0 a.frames.now) a.count a.t1 a.m l.u turn in
-    all-fails _ a.m l.u turn (here ∙ sym c.before.pair-kept.ensures ∙ not-true _ c.if1.true) ∙ l.invariant.2
+    let here = pair_at_lem (firsts a.count no_job a.jobs) (firsts a.count 0 a.frames.now) a.count a.t1 a.m l.u turn in
+    all_fails _ a.m l.u turn (here ∙ sym c.before.pair_kept_lem.ensures ∙ not-true _ c.if1.true) ∙ l.invariant.2
 
 loop-again : tie.Need-loop-preserved invariant-loop decreases-loop
 loop-again c =
@@ -42,8 +42,8 @@ loop-again c =
     let a = test.before.before.args in
     let l = test.before.loop in
     let turn = test.loop-test.true in
-    let here = pair-at (firsts a.count noJob a.jobs) (firsts a.count 0 a.frames.now) a.count a.t1 a.m l.u turn in
-    (omega arith, l.invariant.1, all-next _ a.m l.u turn (here ∙ sym c.before.pair-kept.ensures ∙ not-false _ c.if1.false) ∙ l.invariant.2)
+    let here = pair_at_lem (firsts a.count no_job a.jobs) (firsts a.count 0 a.frames.now) a.count a.t1 a.m l.u turn in
+    (omega arith, l.invariant.1, all_next _ a.m l.u turn (here ∙ sym c.before.pair_kept_lem.ensures ∙ not-false _ c.if1.false) ∙ l.invariant.2)
 
 returns-2 : tie.Need-returns-2 invariant-loop decreases-loop
 returns-2 c =

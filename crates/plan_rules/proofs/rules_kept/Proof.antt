@@ -4,7 +4,7 @@ use mathlib.Core.Path.{refl, sym, ◌∙◌}
 use native.Mathlib.Omega.{arith}
 use borrow.Author.Rules.{rules}
 use borrow.Author.Tests.{not-true, not-false}
-use Rattle.plan_rules.specs.RulesAre.{no_row, many-rows, windows-broken, capacity-broken, order-decides}
+use Rattle.plan_rules.specs.RulesAre.{no_row, many_rows, windows_broken, capacity_broken, order_decides}
 use Rattle.plan_rules.proofs.rules_kept.Statement.{statement}
 use Rattle.plan_rules.proofs.rules_kept.Tie as tie
 
@@ -16,7 +16,7 @@ returns c =
 returns-2 : tie.Need-returns-2
 returns-2 c =
     let a = c.before.before.args in
-    many-rows a.cycle a.frames.now a.rows a.f _ refl c.if2.true
+    many_rows a.cycle a.frames.now a.rows a.f _ refl c.if2.true
 
 windows-kept-requires : tie.Need-windows-kept-requires
 windows-kept-requires c κs = omega (arith, c.at_most.ensures)
@@ -27,7 +27,7 @@ returns-3 c =
     let a = p.before.before.before.before.args in
     let some : 1 ≤ a.rows = omega (arith, p.before.before.before.if1.false) in
     let few : a.rows ≤ 256 = omega (arith, p.before.before.if2.false) in
-    windows-broken a.cycle a.frames.now a.rows a.f _ p.at_most.ensures some few (sym c.before.windows-kept.ensures ∙ not-true _ c.if3.true)
+    windows_broken a.cycle a.frames.now a.rows a.f _ p.at_most.ensures some few (sym c.before.windows-kept.ensures ∙ not-true _ c.if3.true)
 
 capacity-kept-requires : tie.Need-capacity-kept-requires
 capacity-kept-requires c κs =
@@ -42,7 +42,7 @@ returns-4 c =
     let few : a.rows ≤ 256 = omega (arith, p.before.before.if2.false) in
     let w = c.before.before.before.before in
     let kept = sym w.before.windows-kept.ensures ∙ not-false _ w.if3.false in
-    capacity-broken a.cycle a.frames.now a.rows a.f _ p.at_most.ensures some few kept _ c.before.before.before.costs.ensures
+    capacity_broken a.cycle a.frames.now a.rows a.f _ p.at_most.ensures some few kept _ c.before.before.before.costs.ensures
     (sym c.before.capacity-kept.ensures ∙ not-true _ c.if4.true)
 
 pairs-kept-requires : tie.Need-pairs-kept-requires
@@ -59,7 +59,7 @@ returns-5 c =
     let q = c.before.before.before in
     let loaded = sym q.before.capacity-kept.ensures ∙ not-false _ q.if4.false in
     c.pairs-kept.ensures
-    ∙ order-decides a.cycle a.frames.now a.rows a.f _ p.at_most.ensures some few kept _ q.before.before.before.costs.ensures loaded _ c.before.at-most2.ensures
+    ∙ order_decides a.cycle a.frames.now a.rows a.f _ p.at_most.ensures some few kept _ q.before.before.before.costs.ensures loaded _ c.before.at-most2.ensures
 
 pub rules-kept-spec : {M : Type 1} → statement M
 rules-kept-spec =

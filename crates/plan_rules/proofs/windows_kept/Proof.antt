@@ -5,17 +5,17 @@ use native.Mathlib.Nat.{sub-zero}
 use native.Mathlib.Omega.{arith}
 use borrow.Author.Tests.{not-true, not-false}
 use Rattle.cursor.specs.Padded.{firsts}
-use Rattle.cycle.specs.Planned.{noJob}
-use Rattle.plan_rules.specs.Rules.{windowKept}
-use Rattle.plan_rules.specs.EveryLaws.{AllLeft, all-next, all-fails, all_done}
-use Rattle.plan_rules.specs.LoopLaws.{window-at}
+use Rattle.cycle.specs.Planned.{no_job}
+use Rattle.plan_rules.specs.Rules.{window_kept}
+use Rattle.plan_rules.specs.EveryLaws.{AllLeft, all_next, all_fails, all_done}
+use Rattle.plan_rules.specs.LoopLaws.{window_at}
 use borrow.Author.Rules.{rules}
 use Rattle.plan_rules.proofs.windows_kept.Statement.{statement}
 use Rattle.plan_rules.proofs.windows_kept.Tie as tie
 
 abbrev invariant-loop : tie.invariant-loop
 invariant-loop frames count f jobs y₀ y =
-    (y ≤ count) × (count ≤ 128) × AllLeft (windowKept (firsts count noJob jobs) (firsts count 0 frames) f) count y
+    (y ≤ count) × (count ≤ 128) × AllLeft (window_kept (firsts count no_job jobs) (firsts count 0 frames) f) count y
 
 abbrev decreases-loop : tie.decreases-loop
 decreases-loop frames count f jobs y₀ y = count - y
@@ -29,8 +29,8 @@ returns c =
     let a = test.before.before.args in
     let l = test.before.loop in
     let turn = test.loop-test.true in
-    let here = window-at a.t1 a.frames.now a.count l.y turn a.f in
-    all-fails _ a.count l.y turn (here ∙ sym c.before.in_window.ensures ∙ not-true _ c.if1.true) ∙ l.invariant.2
+    let here = window_at a.t1 a.frames.now a.count l.y turn a.f in
+    all_fails _ a.count l.y turn (here ∙ sym c.before.in_window.ensures ∙ not-true _ c.if1.true) ∙ l.invariant.2
 
 loop-again : tie.Need-loop-preserved invariant-loop decreases-loop
 loop-again c =
@@ -38,8 +38,8 @@ loop-again c =
     let a = test.before.before.args in
     let l = test.before.loop in
     let turn = test.loop-test.true in
-    let here = window-at a.t1 a.frames.now a.count l.y turn a.f in
-    (omega arith, l.invariant.1, all-next _ a.count l.y turn (here ∙ sym c.before.in_window.ensures ∙ not-false _ c.if1.false) ∙ l.invariant.2)
+    let here = window_at a.t1 a.frames.now a.count l.y turn a.f in
+    (omega arith, l.invariant.1, all_next _ a.count l.y turn (here ∙ sym c.before.in_window.ensures ∙ not-false _ c.if1.false) ∙ l.invariant.2)
 
 returns-2 : tie.Need-returns-2 invariant-loop decreases-loop
 returns-2 c =

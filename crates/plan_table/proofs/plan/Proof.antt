@@ -5,8 +5,8 @@ use native.Mathlib.Omega.{arith}
 use lib.ListN.{length}
 use lib.Seq.{length-take-le}
 use borrow.Author.Rules.{rules}
-use Rattle.planner.specs.Outcome.{programTries}
-use Rattle.planner.specs.TableLaws.{searched-length}
+use Rattle.planner.specs.Outcome.{program_tries}
+use Rattle.planner.specs.TableLaws.{searched_length}
 use Rattle.plan_table.proofs.plan.Statement.{statement}
 use Rattle.plan_table.proofs.plan.Tie as tie
 
@@ -20,7 +20,7 @@ returns : tie.Need-returns
 returns c =
     let plan = c.before.before.plan in
     let s = c.before.before.before.before.before.before.args in
-    let size : plan.result.length ≤ length s.out.now = searched-length programTries s.request.now s.out.now plan.ensures.0 in
+    let size : plan.result.length ≤ length s.out.now = searched_length program_tries s.request.now s.out.now plan.ensures.0 in
     let within : plan.result.length ≤ length plan.new.1.1.0 = omega (arith, plan.auto.1.1.0) in
     (plan.ensures, (within, sym (length-take-le _ _ within)))
 

@@ -2,14 +2,14 @@
 use Prim.Native.Nat.{◌≤◌, ◌<◌, ◌-◌}
 use mathlib.Core.Path.{◌≡◌, ◌∙◌}
 use native.Mathlib.Omega.{arith}
-use Rattle.model.specs.Chosen.{firstFrameOf}
-use Rattle.problem.specs.JobLaws.{numbers, no_number, one_number, all-numbers}
+use Rattle.model.specs.Chosen.{first_frame_of}
+use Rattle.problem.specs.JobLaws.{numbers, no_number, one_number, all_numbers}
 use borrow.Author.Rules.{rules}
 use Rattle.problem.proofs.first_frames.Statement.{statement}
 use Rattle.problem.proofs.first_frames.Tie as tie
 
 abbrev invariant-loop : tie.invariant-loop
-invariant-loop f jobs count out₀ y₀ out y = (y ≤ count) × (out ≡ numbers (firstFrameOf f) jobs y)
+invariant-loop f jobs count out₀ y₀ out y = (y ≤ count) × (out ≡ numbers (first_frame_of f) jobs y)
 
 abbrev decreases-loop : tie.decreases-loop
 decreases-loop f jobs count out₀ y₀ out y = count - y
@@ -29,12 +29,12 @@ loop-again c =
     let a = begun.before.before.before.args in
     let l = begun.loop in
     let room : l.y < 128 = omega (arith, begun.before.at_most.ensures, c.before.before.loop-test.true) in
-    (omega arith, rw (l.invariant.1, c.first_frame.ensures) (one_number (firstFrameOf a.f) a.cycle.jobs l.y room))
+    (omega arith, rw (l.invariant.1, c.first_frame.ensures) (one_number (first_frame_of a.f) a.cycle.jobs l.y room))
 
 returns : tie.Need-returns invariant-loop decreases-loop
 returns c =
     let l = c.before.loop in
-    l.invariant.1 ∙ all-numbers _ _ l.y _ l.invariant.0 c.loop-test.false ∙ rw c.before.before.at_most.ensures
+    l.invariant.1 ∙ all_numbers _ _ l.y _ l.invariant.0 c.loop-test.false ∙ rw c.before.before.at_most.ensures
 
 pub first-frames-spec : {M : Type 1} → statement M
 first-frames-spec =

@@ -1,7 +1,7 @@
 -- The loop keeps that the links of the jobs passed are counted and stored.
 use Prim.Native.Nat.{◌≤◌, ◌-◌}
 use native.Mathlib.Omega.{arith}
-use Rattle.problem.specs.LinkLaws.{LinksSoFar, linking, no-job-linked, job-linked, all-linked}
+use Rattle.problem.specs.LinkLaws.{LinksSoFar, linking, no_job_linked, job_linked, all_linked}
 use borrow.Author.Rules.{rules}
 use Rattle.problem.proofs.links.Statement.{statement}
 use Rattle.problem.proofs.links.Tie as tie
@@ -13,7 +13,7 @@ abbrev decreases-loop : tie.decreases-loop
 decreases-loop jobs pairs m n counts₀ places₀ y₀ counts places y = n - y
 
 loop-holds : tie.Need-loop-init invariant-loop decreases-loop
-loop-holds c = (omega arith, no-job-linked _)
+loop-holds c = (omega arith, no_job_linked _)
 
 store-links-requires : tie.Need-store-links-requires invariant-loop decreases-loop
 store-links-requires c κs =
@@ -28,10 +28,10 @@ loop-again c =
     let counted = c.before.before.before.before in
     let cycle = counted.before.before.before.before.args.cycle in
     let l = c.before.before.before.loop in
-    let few-jobs : counted.at-most2.result ≤ 128 = omega (arith, counted.at-most2.ensures) in
-    let few-pairs : counted.before.at_most.result ≤ 16 = omega (arith, counted.before.at_most.ensures) in (
+    let few_jobs : counted.at-most2.result ≤ 128 = omega (arith, counted.at-most2.ensures) in
+    let few_pairs : counted.before.at_most.result ≤ 16 = omega (arith, counted.before.at_most.ensures) in (
       omega arith,
-      job-linked cycle.jobs _ cycle.pairs _ few-jobs few-pairs
+      job_linked cycle.jobs _ cycle.pairs _ few_jobs few_pairs
           l.y l.counts l.places l.invariant.1 c.before.before.loop-test.true _ _ c.store-links.ensures,
     )
 
@@ -40,7 +40,7 @@ returns c =
     let l = c.before.loop in
     let counted = c.before.before in
     let cycle = counted.before.before.before.before.args.cycle in
-    all-linked cycle _ _ counted.at-most2.ensures counted.before.at_most.ensures
+    all_linked cycle _ _ counted.at-most2.ensures counted.before.at_most.ensures
     l.y l.counts l.places l.invariant.1 l.invariant.0 c.loop-test.false
 
 pub links-spec : {M : Type 1} → statement M

@@ -4,7 +4,7 @@ use borrow.Author.Rules.{rules}
 use mathlib.Core.Path.{sym, ◌∙◌}
 use mathlib.Core.Bool.{false≢true}
 use borrow.Author.Tests.{not-true}
-use Rattle.prune.proofs.Laws.{sweepable, none-of-empty, none-of-sweep, none-of-both}
+use Rattle.prune.proofs.Laws.{sweepable, none_of_empty, none_of_sweep, none_of_both}
 use Prim.Native.Nat.{ℕ, ◌<◌}
 use borrow.Fn.Kinds.{In}
 use borrow.Fn.PlainCycle.{Measures, is, falls, and}
@@ -69,12 +69,12 @@ may-is-empty-requires : (t : ℕ) → may-lts.Need-is-empty-requires (may-claims
 may-is-empty-requires t c κs = c.before.before.before.before.before.before.before.before.requires.1.0.few
 
 may-returns : (t : ℕ) → may-lts.Need-returns (may-claims t) (may_at t) may.Post
-may-returns t c = λ e. c.before.before.before.before.tighten.ensures.keeps (none-of-empty c.before.before.before.before.before.before.before.before.before.before.requires.1.0 (c.before.is-empty.ensures c.if1.true))
+may-returns t c = λ e. c.before.before.before.before.tighten.ensures.keeps (none_of_empty c.before.before.before.before.before.before.before.before.before.before.requires.1.0 (c.before.is-empty.ensures c.if1.true))
 
 may-sides-of-requires : (t : ℕ) → may-lts.Need-sides-of-requires (may-claims t) (may_at t) may.Post
 may-sides-of-requires t c κs = (
   c.before.before.before.before.before.before.before.before.before.before.before.before.requires.1.0.few,
-  c.before.before.before.before.before.before.before.before.before.before.before.before.requires.1.0.few-rows,
+  c.before.before.before.before.before.before.before.before.before.before.before.before.requires.1.0.few_rows,
 )
 
 may-rows-of-requires : (t : ℕ) → may-lts.Need-rows-of-requires (may-claims t) (may_at t) may.Post
@@ -90,7 +90,7 @@ may-same-length : (t : ℕ) → may-lts.Need-same-length (may-claims t) (may_at 
 may-same-length t c = c.before.before.words.given
 
 may-returns-2 : (t : ℕ) → may-lts.Need-returns-2 (may-claims t) (may_at t) may.Post
-may-returns-2 t c = λ e. c.before.before.before.before.before.before.before.before.before.before.before.before.before.before.before.before.before.before.before.before.tighten.ensures.keeps (none-of-sweep c.before.before.before.before.before.before.before.before.before.before.before.before.before.before.before.before.before.before.before.before.before.before.before.before.before.before.requires.1.0 c.before.before.before.before.before.before.before.before.before.before.before.before.before.sides-of.ensures c.before.before.before.before.before.before.before.before.before.before.rows_of.ensures c.before.before.before.before.before.before.before.rows-of2.ensures c.before.before.before.before.before.before.before.before.before.before.before.before.before.before.before.before.before.before.before.before.before.before.before.before.before.before.requires.1.1
+may-returns-2 t c = λ e. c.before.before.before.before.before.before.before.before.before.before.before.before.before.before.before.before.before.before.before.before.tighten.ensures.keeps (none_of_sweep c.before.before.before.before.before.before.before.before.before.before.before.before.before.before.before.before.before.before.before.before.before.before.before.before.before.before.requires.1.0 c.before.before.before.before.before.before.before.before.before.before.before.before.before.sides-of.ensures c.before.before.before.before.before.before.before.before.before.before.rows_of.ensures c.before.before.before.before.before.before.before.rows-of2.ensures c.before.before.before.before.before.before.before.before.before.before.before.before.before.before.before.before.before.before.before.before.before.before.before.before.before.before.requires.1.1
     (c.before.before.before.sweep.ensures (not-true c.before.before.before.sweep.result c.if2.true)))
 
 may-same-length-2 : (t : ℕ) → may-lts.Need-same-length-2 (may-claims t) (may_at t) may.Post
@@ -176,7 +176,7 @@ may-same-length-5 : (t : ℕ) → may-lts.Need-same-length-5 (may-claims t) (may
 may-same-length-5 t c = c.before.words3.given ∙ c.before.before.before.before.before.before.before.words2.given ∙ c.before.before.before.before.before.before.before.before.before.before.before.before.before.before.before.before.before.words.given
 
 may-returns-6 : (t : ℕ) → may-lts.Need-returns-6 (may-claims t) (may_at t) may.Post
-may-returns-6 t c = λ e. c.before.before.before.before.before.before.before.before.before.before.before.before.before.before.before.before.before.before.before.before.before.before.before.before.before.before.before.before.before.before.before.before.before.before.before.tighten.ensures.keeps (none-of-both c.before.before.before.before.before.before.before.before.before.before.before.before.before.before.before.before.before.before.before.before.before.before.before.before.before.before.before.before.before.before.before.before.before.before.before.before.before.before.before.before.before.requires.1.0 c.before.before.before.before.before.before.before.before.before.before.before.before.first-unsided.result (c.before.before.before.before.before.before.before.before.may.ensures c.before.before.before.before.before.if5.false) (c.before.before.may2.ensures e))
+may-returns-6 t c = λ e. c.before.before.before.before.before.before.before.before.before.before.before.before.before.before.before.before.before.before.before.before.before.before.before.before.before.before.before.before.before.before.before.before.before.before.before.tighten.ensures.keeps (none_of_both c.before.before.before.before.before.before.before.before.before.before.before.before.before.before.before.before.before.before.before.before.before.before.before.before.before.before.before.before.before.before.before.before.before.before.before.before.before.before.before.before.before.requires.1.0 c.before.before.before.before.before.before.before.before.before.before.before.before.first-unsided.result (c.before.before.before.before.before.before.before.before.may.ensures c.before.before.before.before.before.if5.false) (c.before.before.may2.ensures e))
 
 pub +may-spec : {M : Type 1} → statement M
 +may-spec = close μ-may λ t. may-lts.spec (may-claims t)

@@ -3,13 +3,13 @@ use mathlib.Core.Path.{◌∙◌}
 use native.Mathlib.Omega.{arith}
 use Rattle.request.specs.SectionLaws.{
   FirstSection,
-  first-section,
-  refused-first,
+  first_section,
+  refused_first,
   SecondSection,
-  refused-second,
-  second-section,
-  refused-third,
-  bytes-follow,
+  refused_second,
+  second_section,
+  refused_third,
+  bytes_follow,
   all_read,
 }
 use Rattle.cursor.specs.Parts.{rest_part}
@@ -18,10 +18,10 @@ use Rattle.request.proofs.read.Statement.{statement}
 use Rattle.request.proofs.read.Tie as tie
 
 returns : tie.Need-returns
-returns c = c.refused.ensures ∙ refused-first _ _ c.before.before.before.read-tasks.ensures c.before.if1.true
+returns c = c.refused.ensures ∙ refused_first _ _ c.before.before.before.read-tasks.ensures c.before.if1.true
 
 first : (c : tie.Else1) → let read = c.before.before in FirstSection read.before.before.args.s.now read.read-tasks.result
-first c = first-section _ _ c.before.before.read-tasks.ensures c.if1.false
+first c = first_section _ _ c.before.before.read-tasks.ensures c.if1.false
 
 sub-read-pairs : tie.Need-overflow-sub-read-pairs
 sub-read-pairs c = (first c.before).within
@@ -35,7 +35,7 @@ read-pairs-requires c κs = let h = first c.before.before in (h.few, h.places)
 returns-2 : tie.Need-returns-2
 returns-2 c =
     let call = c.before.before.before in
-    c.refused2.ensures ∙ refused-second _ _ (first call.before.before.before) _ (rw rest_part at call.read_pairs.ensures) c.before.if2.true
+    c.refused2.ensures ∙ refused_second _ _ (first call.before.before.before) _ (rw rest_part at call.read_pairs.ensures) c.before.if2.true
 
 second : (c : tie.Else2)
     → let call = c.before.before in
@@ -43,7 +43,7 @@ second : (c : tie.Else2)
     SecondSection read.before.before.args.s.now read.read-tasks.result call.read_pairs.result
 second c =
     let call = c.before.before in
-    second-section _ _ (first call.before.before.before) _ (rw rest_part at call.read_pairs.ensures) c.if2.false
+    second_section _ _ (first call.before.before.before) _ (rw rest_part at call.read_pairs.ensures) c.if2.false
 
 add-behind : tie.Need-overflow-add-behind
 add-behind c =
@@ -59,7 +59,7 @@ part-read-silent-start c = (second c.before).within
 returns-3 : tie.Need-returns-3
 returns-3 c =
     let call = c.before.before.before in
-    c.refused3.ensures ∙ refused-third _ _ _ (second call.before.before.before) _ (rw rest_part at call.read-silent.ensures) c.before.if3.true
+    c.refused3.ensures ∙ refused_third _ _ _ (second call.before.before.before) _ (rw rest_part at call.read-silent.ensures) c.before.if3.true
 
 sub-if4 : tie.Need-overflow-sub-if4
 sub-if4 c = (second c.before.before.before.before.before).within
@@ -69,7 +69,7 @@ returns-4 c =
     let test = c.before.before.before in
     let call = test.before.before in
     c.refused4.ensures
-    ∙ bytes-follow _ _ _ (second call.before.before.before) _ (rw rest_part at call.read-silent.ensures) test.if3.false c.before.if4.true
+    ∙ bytes_follow _ _ _ (second call.before.before.before) _ (rw rest_part at call.read-silent.ensures) test.if3.false c.before.if4.true
 
 returns-5 : tie.Need-returns-5
 returns-5 c =

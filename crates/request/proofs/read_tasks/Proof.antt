@@ -5,47 +5,47 @@ use mathlib.Core.Path.{◌≡◌, sym, ◌∙◌, ap}
 use native.Mathlib.Omega.{arith}
 use borrow.Author.Rules.{rules}
 use borrow.Author.Tests.{lt-leb, le-leb}
-use Rattle.cursor.specs.FieldLaws.{byte-taken, byte-missing}
-use Rattle.cursor.specs.RecordLaws.{SoFar, none_read, one-read, one-refused}
-use Rattle.request.specs.Request.{noTask, task_of, tasksOf}
-use Rattle.request.specs.Answers.{taskAnswer, taskSection}
-use Rattle.request.specs.ReadingLaws.{task-taken, task-refused}
-use Rattle.request.specs.SectionLaws.{section-answer}
+use Rattle.cursor.specs.FieldLaws.{byte_taken, byte_missing}
+use Rattle.cursor.specs.RecordLaws.{SoFar, none_read, one_read, one_refused}
+use Rattle.request.specs.Request.{no_task, task_of, tasks_of}
+use Rattle.request.specs.Answers.{task_answer, task_section}
+use Rattle.request.specs.ReadingLaws.{task_taken, task_refused}
+use Rattle.request.specs.SectionLaws.{section_answer_lem}
 use Rattle.request.proofs.read_tasks.Statement.{statement}
 use Rattle.request.proofs.read_tasks.Tie as tie
 
 abbrev invariant-loop : tie.invariant-loop
 invariant-loop s count n tasks₀ here₀ i₀ tasks here i =
-    (i ≤ n) × (n ≤ 16) × (here.at ≡ 1 + 8 * i) × SoFar task_of 16 noTask (tasksOf s) s n i here.at tasks
+    (i ≤ n) × (n ≤ 16) × (here.at ≡ 1 + 8 * i) × SoFar task_of 16 no_task (tasks_of s) s n i here.at tasks
 
 abbrev decreases-loop : tie.decreases-loop
 decreases-loop s count n tasks₀ here₀ i₀ tasks here i = n - i
 
 returns : tie.Need-returns invariant-loop decreases-loop
-unfolding tasksOf
+unfolding tasks_of
 returns c =
     let none = sym c.before.before.before.byte.ensures ∙ c.before.enum_told.given.1 in
-    c.no-tasks.ensures ∙ simp (byte-missing 1 _ _ none).0
+    c.no-tasks.ensures ∙ simp (byte_missing 1 _ _ none).0
 
 returns-2 : tie.Need-returns-2 invariant-loop decreases-loop
-unfolding tasksOf
+unfolding tasks_of
 returns-2 c =
     let known = c.before.before.before in
-    let taken = byte-taken 1 _ _ _ _ (sym known.before.before.byte.ensures ∙ known.count.given.1) in
+    let taken = byte_taken 1 _ _ _ _ (sym known.before.before.byte.ensures ∙ known.count.given.1) in
     c.no-tasks2.ensures ∙ simp (taken.field, lt-leb _ _ c.before.if1.true)
 
 returns-3 : tie.Need-returns-3 invariant-loop decreases-loop
-unfolding tasksOf
+unfolding tasks_of
 returns-3 c =
     let known = c.before.before.before.before in
-    let taken = byte-taken 1 _ _ _ _ (sym known.before.before.byte.ensures ∙ known.count.given.1) in
+    let taken = byte_taken 1 _ _ _ _ (sym known.before.before.byte.ensures ∙ known.count.given.1) in
     c.no-tasks3.ensures ∙ simp (taken.field, le-leb _ _ c.before.before.if1.false, lt-leb _ _ c.before.if2.true)
 
 loop-holds : tie.Need-loop-init invariant-loop decreases-loop
-unfolding tasksOf
+unfolding tasks_of
 loop-holds c =
     let known = c.before.before.before in
-    let taken = byte-taken 1 _ _ _ _ (sym known.before.before.byte.ensures ∙ known.count.given.1) in (
+    let taken = byte_taken 1 _ _ _ _ (sym known.before.before.byte.ensures ∙ known.count.given.1) in (
       omega arith,
       c.if2.false,
       taken.moved,
@@ -59,26 +59,26 @@ returns-4 c =
     let l = turn.before.loop in
     let s = turn.before.before.before.before.before.before.before.before.before.args.s.now in
     let number = told.enum-told2.given.1 in
-    let refused = task-refused s l.here.at (sym told.before.before.read-task.ensures ∙ number) in
+    let refused = task_refused s l.here.at (sym told.before.before.read-task.ensures ∙ number) in
     c.no-tasks4.ensures
-    ∙ rw (c.before.number-of-task.ensures, number) (ap taskSection (sym (one-refused l.invariant.3 turn.loop-test.true refused)))
+    ∙ rw (c.before.number-of-task.ensures, number) (ap task_section (sym (one_refused l.invariant.3 turn.loop-test.true refused)))
 
 loop-again : tie.Need-loop-preserved invariant-loop decreases-loop
 loop-again c =
     let turn = c.before.before.before.before in
     let l = turn.before.loop in
     let s = turn.before.before.before.before.before.before.before.before.before.args.s.now in
-    let read = task-taken s l.here.at (sym c.before.before.before.read-task.ensures ∙ c.before.r.given.1) in (
+    let read = task_taken s l.here.at (sym c.before.before.before.read-task.ensures ∙ c.before.r.given.1) in (
       search rules,
       search rules,
       omega (arith, read.1),
-      one-read l.invariant.3 turn.loop-test.true (omega arith) _ _ read.0,
+      one_read l.invariant.3 turn.loop-test.true (omega arith) _ _ read.0,
     )
 
 returns-5 : tie.Need-returns-5 invariant-loop decreases-loop
 returns-5 c =
     let l = c.before.loop in
-    section-answer taskAnswer 8 l.invariant.3 c.loop-test.false l.invariant.0 (omega arith)
+    section_answer_lem task_answer 8 l.invariant.3 c.loop-test.false l.invariant.0 (omega arith)
 
 pub read-tasks-spec : {M : Type 1} → statement M
 read-tasks-spec =

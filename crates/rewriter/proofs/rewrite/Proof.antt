@@ -1,17 +1,17 @@
 -- The check reads the plan, and the plan is written; each way out is one of the definition's cases.
 use mathlib.Core.Path.{◌∙◌}
-use Rattle.rewriter.specs.RewriteLaws.{not-read, cycle-read, was_read}
+use Rattle.rewriter.specs.RewriteLaws.{not_read, cycle_read, was_read}
 use borrow.Author.Rules.{rules}
 use Rattle.rewriter.proofs.rewrite.Statement.{statement}
 use Rattle.rewriter.proofs.rewrite.Tie as tie
 
 returns : tie.Need-returns
-returns c = not-read _ _ _ c.before.before.read-plan.ensures _ c.if1.true
+returns c = not_read _ _ _ c.before.before.read-plan.ensures _ c.if1.true
 
 write-requires : tie.Need-write-requires
 write-requires c κs =
     let test = c.before.before.before in
-    cycle-read _ _ _ test.before.before.read-plan.ensures test.if1.false
+    cycle_read _ _ _ test.before.before.read-plan.ensures test.if1.false
 
 returns-2 : tie.Need-returns-2
 returns-2 c =

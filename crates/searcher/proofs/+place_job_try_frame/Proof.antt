@@ -10,9 +10,9 @@ use lib.Seq.{get_or-take}
 use borrow.Author.Tests.{not-true, not-false}
 use borrow.Author.Rules.{rules}
 use Rattle.search.specs.Placing.{fits}
-use Rattle.searcher.specs.Arrays.{partIn, countsIn, rowsIn, jobsIn, problemIn, LinksBack}
-use Rattle.searcher.proofs.Laws.{links-back, same-bounds, is-left, all_placed, Trying, none_tried, test}
-use Rattle.searcher.proofs.Laws.{none_left, pass_on, pass-answer, none_allowed, refused, fits_in, put, went, back}
+use Rattle.searcher.specs.Arrays.{part_in, counts_in, rows_in, jobs_in, problem_in, LinksBack}
+use Rattle.searcher.proofs.Laws.{links_back, same_bounds, is_left, all_placed, Trying, none_tried, test}
+use Rattle.searcher.proofs.Laws.{none_left, pass_on, pass_answer, none_allowed, refused, fits_in, put, went, back}
 use borrow.Fn.Kinds.{In}
 use borrow.Fn.PlainCycle.{Measures, is, falls, and}
 use Rattle.searcher.proofs.place_job.Reads as place-job
@@ -30,10 +30,10 @@ use Rattle.searcher.proofs.+place_job_try_frame.{statement}
 use Rattle.searcher.proofs.+place_job_try_frame.Tie.{close}
 
 abbrev μ-place-job : Measures 5 place-job-kinds.ps ℕ
-μ-place-job κs a = (jobsIn a.0.now - a.1.1.1.1.1.0) * 65537 + 65536
+μ-place-job κs a = (jobs_in a.0.now - a.1.1.1.1.1.0) * 65537 + 65536
 
 abbrev μ-try-frame : Measures 5 try-frame-kinds.ps ℕ
-μ-try-frame κs a = (jobsIn a.0.now - a.1.1.1.1.1.0) * 65537 + (get_or (partIn a.0.now 2) a.1.1.1.1.1.0 0 - a.1.1.1.1.1.1.0)
+μ-try-frame κs a = (jobs_in a.0.now - a.1.1.1.1.1.0) * 65537 + (get_or (part_in a.0.now 2) a.1.1.1.1.1.0 0 - a.1.1.1.1.1.1.0)
 
 abbrev place-job-at : ℕ → In 5 place-job-kinds.ps
 place-job-at t = and 5 place-job-kinds.ps (is 5 place-job-kinds.ps μ-place-job t) place-job.Pre
@@ -66,7 +66,7 @@ try-frame-claims t = (may-stand-reads.Asked, may-stand-reads.Learnt, place-job-b
 
 abbrev place-job-Inv-loop : place-job-lts.invariant-loop
 place-job-Inv-loop given links place₀ load₀ left₀ i n low high rows e k₀ row₀ place load left k row =
-    Trying (problemIn given links) (jobsIn given) place₀ load₀ i left₀ place load left k row
+    Trying (problem_in given links) (jobs_in given) place₀ load₀ i left₀ place load left k row
 
 abbrev place-job-μ-loop : place-job-lts.decreases-loop
 place-job-μ-loop given links place₀ load₀ left₀ i n low high rows e k₀ row₀ place load left k row = e - k
@@ -76,24 +76,24 @@ module _ (t : ℕ) where
   abbrev Left : Type 0
   Left = place-job-lts.Else1 (place-job-claims t) (place-job-at t) place-job.Post place-job-Inv-loop place-job-μ-loop
 
-  more : (c : Left) → let a = c.before.before.args in a.i < jobsIn a.given.now
-  more c = is-left c.before.before.requires.1 c.if1.false
+  more : (c : Left) → let a = c.before.before.args in a.i < jobs_in a.given.now
+  more c = is_left c.before.before.requires.1 c.if1.false
 
-  linked : (c : Left) → let a = c.before.before.args in LinksBack (countsIn a.given.now) a.links.now a.i
+  linked : (c : Left) → let a = c.before.before.args in LinksBack (counts_in a.given.now) a.links.now a.i
   linked c =
       let s = c.before.before in
       let g = s.args.given.now in
       let r = s.requires.1.ready in
-      links-back (countsIn g) s.args.links.now (jobsIn g) s.args.i (more c) r.proper.linked r.few (omega (arith, r.proper.counted, r.jobs))
+      links_back (counts_in g) s.args.links.now (jobs_in g) s.args.i (more c) r.proper.linked r.few (omega (arith, r.proper.counted, r.jobs))
 
   small : (c : Left) → c.before.before.args.i < 128
   small c = omega (arith, more c, c.before.before.requires.1.ready.few)
 
-  first-row : (c : Left) → let a = c.before.before.args in let rows = rowsIn a.given.now in (0 < rows) × (get_or (partIn a.given.now 1) a.i 0 % rows < 256)
-  first-row c =
+  first_row_lem : (c : Left) → let a = c.before.before.args in let rows = rows_in a.given.now in (0 < rows) × (get_or (part_in a.given.now 1) a.i 0 % rows < 256)
+  first_row_lem c =
       let s = c.before.before in
       let r = s.requires.1.ready in
-      (r.proper.some-row, omega (arith, mod-lt (get_or (partIn s.args.given.now 1) s.args.i 0) r.proper.some-row, r.few-rows))
+      (r.proper.some_row, omega (arith, mod-lt (get_or (part_in s.args.given.now 1) s.args.i 0) r.proper.some_row, r.few_rows))
 
   -- the loop over its frames
   abbrev AtLoop : Type 0
@@ -103,13 +103,13 @@ module _ (t : ℕ) where
   left c = c.before.before.before.before.before.before.before.before
 
   end_is : (c : AtLoop) → let a = (left c).before.before.args in
-      c.before.before.entry.result ≡ get_or (take (jobsIn a.given.now) (partIn a.given.now 2)) a.i 0
+      c.before.before.entry.result ≡ get_or (take (jobs_in a.given.now) (part_in a.given.now 2)) a.i 0
   end_is c =
       let a = (left c).before.before.args in
-      c.before.before.entry.ensures ∙ sym (get_or-take (jobsIn a.given.now) (partIn a.given.now 2) a.i 0 (more (left c)))
+      c.before.before.entry.ensures ∙ sym (get_or-take (jobs_in a.given.now) (part_in a.given.now 2) a.i 0 (more (left c)))
 
-  row_in : (c : AtLoop) → c.loop.row < (problemIn (left c).before.before.args.given.now (left c).before.before.args.links.now).rows
-  row_in c = omega (arith, c.loop.invariant.at_row, mod-lt c.loop.k (left c).before.before.requires.1.ready.proper.some-row)
+  row_in : (c : AtLoop) → c.loop.row < (problem_in (left c).before.before.args.given.now (left c).before.before.args.links.now).rows
+  row_in c = omega (arith, c.loop.invariant.at_row, mod-lt c.loop.k (left c).before.before.requires.1.ready.proper.some_row)
 
   place-job-returns : place-job-lts.Need-returns (place-job-claims t) (place-job-at t) place-job.Post place-job-Inv-loop place-job-μ-loop
   place-job-returns c = let s = c.before.before in all_placed s.requires.1 c.if1.true
@@ -119,7 +119,7 @@ module _ (t : ℕ) where
       let e = c.before.before.before.before.before.before.before in
       let s = e.before.before in
       let g = s.args.given.now in
-      none_tried (more e) s.requires.1 (sym (get_or-take (jobsIn g) (partIn g 1) s.args.i 0 (more e)))
+      none_tried (more e) s.requires.1 (sym (get_or-take (jobs_in g) (part_in g 1) s.args.i 0 (more e)))
 
   place-job-try-frame-requires : place-job-lts.Need-try-frame-requires (place-job-claims t) (place-job-at t) place-job.Post place-job-Inv-loop place-job-μ-loop
   place-job-try-frame-requires c κs =
@@ -129,7 +129,7 @@ module _ (t : ℕ) where
       let g = s.args.given.now in
       let r = s.pre.1.ready in
       let v = l.loop.invariant in
-      let bounds = same-bounds (countsIn g) s.args.links.now (jobsIn g) s.args.i (more e) r.proper.linked s.args.place.now l.loop.place v.kept
+      let bounds = same_bounds (counts_in g) s.args.links.now (jobs_in g) s.args.i (more e) r.proper.linked s.args.place.now l.loop.place v.kept
       l.before.before.before.before.before.before.lower-bound.ensures l.before.before.before.before.upper-bound.ensures in (
         omega (arith, s.pre.0, more e, l.before.before.entry.type-inv, l.before.before.entry.ensures),
         test (more e) s.pre.1 v bounds,
@@ -140,7 +140,7 @@ module _ (t : ℕ) where
       let in-loop = c.before.before.before.before.before in
       let l = in-loop.before in
       let s = (left l).before.before in
-      pass-answer (more (left l)) s.pre.1 l.loop.invariant (end_is l) in-loop.loop-test.true c.before.try-frame.ensures c.if2.true
+      pass_answer (more (left l)) s.pre.1 l.loop.invariant (end_is l) in-loop.loop-test.true c.before.try-frame.ensures c.if2.true
 
   place-job-loop-again : place-job-lts.Need-loop-preserved (place-job-claims t) (place-job-at t) place-job.Post place-job-Inv-loop place-job-μ-loop
   place-job-loop-again c =
@@ -161,13 +161,13 @@ module _ (t : ℕ) where
   Tried = try-frame-lts.Start (try-frame-claims t) (try-frame-at t) try-frame.Post
 
   row_small : (c : Tried) → c.args.row < 256
-  row_small c = let p = c.requires.1 in omega (arith, p.at_row, mod-lt c.args.k p.ready.proper.some-row, p.ready.few-rows)
+  row_small c = let p = c.requires.1 in omega (arith, p.at_row, mod-lt c.args.k p.ready.proper.some_row, p.ready.few_rows)
 
-  job-small : (c : Tried) → c.args.i < 128
-  job-small c = omega (arith, c.requires.1.more, c.requires.1.ready.few)
+  job_small : (c : Tried) → c.args.i < 128
+  job_small c = omega (arith, c.requires.1.more, c.requires.1.ready.few)
 
-  cost-is : (c : Tried) → let a = c.args in get_or (partIn a.given.now 0) a.i 0 ≡ get_or (take (jobsIn a.given.now) (partIn a.given.now 0)) a.i 0
-  cost-is c = let a = c.args in sym (get_or-take (jobsIn a.given.now) (partIn a.given.now 0) a.i 0 c.requires.1.more)
+  cost_is : (c : Tried) → let a = c.args in get_or (part_in a.given.now 0) a.i 0 ≡ get_or (take (jobs_in a.given.now) (part_in a.given.now 0)) a.i 0
+  cost_is c = let a = c.args in sym (get_or-take (jobs_in a.given.now) (part_in a.given.now 0) a.i 0 c.requires.1.more)
 
   -- a try is left, and is taken
   abbrev Asked : Type 0
@@ -192,13 +192,13 @@ module _ (t : ℕ) where
   abbrev Stands : Type 0
   Stands = try-frame-lts.Else2 (try-frame-claims t) (try-frame-at t) try-frame.Post
 
-  may : (c : Stands) → let a = (start c.before).args in fits (problemIn a.given.now a.links.now) (take a.i a.place.now) a.k ≡ true
+  may : (c : Stands) → let a = (start c.before).args in fits (problem_in a.given.now a.links.now) (take a.i a.place.now) a.k ≡ true
   may c = let asked = c.before in sym asked.may-stand.ensures ∙ not-false asked.may-stand.result c.if2.false
 
   -- the load with it
-  sum_is : (c : Stands) → let a = (start c.before).args in let x = problemIn a.given.now a.links.now in
-      get_or a.load.now a.row 0 + get_or (partIn a.given.now 0) a.i 0 ≡ get_or a.load.now a.row 0 + get_or x.cost a.i 0
-  sum_is c = let a = (start c.before).args in ap (λ (k : ℕ). get_or a.load.now a.row 0 + k) (cost-is (start c.before))
+  sum_is : (c : Stands) → let a = (start c.before).args in let x = problem_in a.given.now a.links.now in
+      get_or a.load.now a.row 0 + get_or (part_in a.given.now 0) a.i 0 ≡ get_or a.load.now a.row 0 + get_or x.cost a.i 0
+  sum_is c = let a = (start c.before).args in ap (λ (k : ℕ). get_or a.load.now a.row 0 + k) (cost_is (start c.before))
 
   try-frame-add-load : try-frame-lts.Need-overflow-add-load (try-frame-claims t) (try-frame-at t) try-frame.Post
   try-frame-add-load c =
@@ -241,8 +241,8 @@ pub +place-job-try-frame-spec : {M : Type 1} → statement M
     (λ c. omega (arith, small t c.before.before.before.before.before.before))
     (λ c. search rules)
     (λ c. small t c.before.before.before.before.before.before)
-    (λ c. (first-row t c.before.before.before.before.before.before.before).0)
-    (λ c. omega (arith, (first-row t c.before.before.before.before.before.before.before).1))
+    (λ c. (first_row_lem t c.before.before.before.before.before.before.before).0)
+    (λ c. omega (arith, (first_row_lem t c.before.before.before.before.before.before.before).1))
     (place-job-loop-holds t)
     (place-job-try-frame-requires t)
     (place-job-returns-2 t)
@@ -258,15 +258,15 @@ pub +place-job-try-frame-spec : {M : Type 1} → statement M
     (try-frame-returns-2 t)
     (λ c. omega (arith, row_small t (start t c.before)))
     (λ c. row_small t (start t c.before))
-    (λ c. omega (arith, job-small t (start t c.before.before)))
+    (λ c. omega (arith, job_small t (start t c.before.before)))
     (λ c. search rules)
-    (λ c. job-small t (start t c.before.before))
+    (λ c. job_small t (start t c.before.before))
     (try-frame-add-load t)
     (λ c. omega (arith, row_small t (start t c.before.before.before)))
     (λ c. row_small t (start t c.before.before.before))
-    (λ c. omega (arith, job-small t (start t c.before.before.before)))
-    (λ c. job-small t (start t c.before.before.before))
-    (λ c. omega (arith, job-small t (start t (stands t c).before)))
+    (λ c. omega (arith, job_small t (start t c.before.before.before)))
+    (λ c. job_small t (start t c.before.before.before))
+    (λ c. omega (arith, job_small t (start t (stands t c).before)))
     (try-frame-place-job-requires t)
     (try-frame-returns-3 t)
     (λ c. omega (arith, row_small t (start t (stands t c.before.before).before)))

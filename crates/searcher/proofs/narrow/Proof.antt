@@ -4,8 +4,8 @@ use mathlib.Core.Path.{◌≡◌, sym, ◌∙◌}
 use native.Mathlib.Omega.{arith}
 use lib.ListN.{take}
 use Rattle.cursor.specs.Padded.{padded}
-use Rattle.cursor.specs.PaddedLaws.{padded-none}
-use Rattle.searcher.proofs.Laws.{one-stored}
+use Rattle.cursor.specs.PaddedLaws.{padded_none}
+use Rattle.searcher.proofs.Laws.{one_stored}
 use borrow.Author.Rules.{rules}
 use Rattle.searcher.proofs.narrow.Statement.{statement}
 use Rattle.searcher.proofs.narrow.Tie as tie
@@ -17,13 +17,13 @@ abbrev decreases-loop : tie.decreases-loop
 decreases-loop n xs out₀ j₀ out j = n - j
 
 loop-holds : tie.Need-loop-init invariant-loop decreases-loop
-loop-holds c = (omega arith, sym (padded-none 128 0))
+loop-holds c = (omega arith, sym (padded_none 128 0))
 
 loop-again : tie.Need-loop-preserved invariant-loop decreases-loop
 loop-again c =
     let s = c.before.before in
     let l = c.before.loop in
-    (omega arith, rw l.invariant.1 (one-stored s.args.t1 l.j (omega (arith, s.requires.all, c.loop-test.true)) (omega (arith, s.requires.few, c.loop-test.true))))
+    (omega arith, rw l.invariant.1 (one_stored s.args.t1 l.j (omega (arith, s.requires.all, c.loop-test.true)) (omega (arith, s.requires.few, c.loop-test.true))))
 
 returns : tie.Need-returns invariant-loop decreases-loop
 returns c =

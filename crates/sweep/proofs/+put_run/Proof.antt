@@ -9,12 +9,12 @@ use mathlib.Core.List.{List}
 use lib.ListN.{length, get_or}
 use borrow.Author.Tests.{not-true, not-false}
 use Rattle.exact.specs.Sweep.{Ordered, skips, puts}
-use Rattle.searcher.specs.Arrays.{partIn, rowsIn, jobsIn}
-use Rattle.sweep.specs.Arrays.{rulesIn}
-use Rattle.sweep.proofs.Laws.{cost-within, not-skipped, free_of}
-use Rattle.sweep.proofs.LateLaws.{end_of, cost-of, sided-of}
-use Rattle.sweep.proofs.RunLaws.{n-is, f-is, Running, run-start, run-next, run_end, run-full, run-known, run-late, run_row, run-stuck, run-left}
-use Rattle.sweep.proofs.RunLaws.{Chosen, may-not, times-for, time-there, time-room, put_going, put-ordered, put-failed, put-noted}
+use Rattle.searcher.specs.Arrays.{part_in, rows_in, jobs_in}
+use Rattle.sweep.specs.Arrays.{rules_in}
+use Rattle.sweep.proofs.Laws.{cost_within, not_skipped, free_of}
+use Rattle.sweep.proofs.LateLaws.{end_of, cost_of_lem, sided_of}
+use Rattle.sweep.proofs.RunLaws.{n_is, f_is, Running, run_start, run_next, run_end, run_full, run_known, run_late, run_row, run_stuck, run_left}
+use Rattle.sweep.proofs.RunLaws.{Chosen, may_not, times_for, time_there, time_room, put_going, put_ordered, put_failed, put_noted}
 use Prim.Native.Nat.{ℕ, ◌<◌}
 use borrow.Fn.Kinds.{In}
 use borrow.Fn.PlainCycle.{Measures, is, falls, and}
@@ -120,27 +120,27 @@ in-arrays : (t : ℕ) (s : Began t) → s.args.i < 128
 in-arrays t s = omega (arith, s.pre.1.0.few, s.pre.1.1.0.1)
 
 -- it may be put
-may : (t : ℕ) (c : Costed t) → let a = (began t c).args in puts (rulesIn a.given.now a.links.now a.swept.now) a.flags.now a.room a.i ≡ true
+may : (t : ℕ) (c : Costed t) → let a = (began t c).args in puts (rules_in a.given.now a.links.now a.swept.now) a.flags.now a.room a.i ≡ true
 may t c = let may-put = c.before.before.may-put in sym may-put.ensures ∙ not-false may-put.result c.before.if2.false
 
 chosen : (t : ℕ) (c : Costed t) → let a = (began t c).args in
-    Chosen (rulesIn a.given.now a.links.now a.swept.now) a.flags.now a.i (get_or (partIn a.swept.now 1) a.i 0) c.entry.result
+    Chosen (rules_in a.given.now a.links.now a.swept.now) a.flags.now a.i (get_or (part_in a.swept.now 1) a.i 0) c.entry.result
 chosen t c =
     let s = began t c in
     let a = s.args in
-    let n = n-is a.given.now a.links.now a.swept.now in
+    let n = n_is a.given.now a.links.now a.swept.now in
     record {
       job = omega (arith, s.pre.1.1.0.1, n);
       few = omega (arith, s.pre.1.0.few, n);
-      unset = (not-skipped a.given.now a.links.now a.swept.now a.flags.now a.i a.p s.pre.1.1.1.1).0;
-      sided = sided-of a.given.now a.links.now a.swept.now a.i;
+      unset = (not_skipped a.given.now a.links.now a.swept.now a.flags.now a.i a.p s.pre.1.1.1.1).0;
+      sided = sided_of a.given.now a.links.now a.swept.now a.i;
       end_is = sym (end_of a.given.now a.links.now a.swept.now a.i);
-      cost-is = c.entry.ensures ∙ sym (cost-of a.given.now a.links.now a.swept.now a.i);
+      cost_is = c.entry.ensures ∙ sym (cost_of_lem a.given.now a.links.now a.swept.now a.i);
     }
 
 -- the order is kept only where it was and no job with a higher number must be put before
 kept_free : (t : ℕ) (c : put-lts.After-still-kept (put-claims t) (put-at t) put.Post) → let a = (began t c.before.before.before.before.before).args in
-    c.Still-kept.result ≡ true → (a.kept ≡ true) × ((rulesIn a.given.now a.links.now a.swept.now).free a.flags.now a.i ≡ true)
+    c.Still-kept.result ≡ true → (a.kept ≡ true) × ((rules_in a.given.now a.links.now a.swept.now).free a.flags.now a.i ≡ true)
 kept_free t c e =
     let job = c.before.before.before.before.before in
     let a = (began t job).args in
@@ -157,7 +157,7 @@ put-returns-2 : (t : ℕ) → put-lts.Need-returns-2 (put-claims t) (put-at t) p
 put-returns-2 t c =
     let s = c.before.before.before.before.before in
     let may-put = c.before.may-put in
-    λ e. may-not s.args.p s.args.i s.args.room s.requires.1.1.1.0 (sym may-put.ensures ∙ not-true may-put.result c.if2.true)
+    λ e. may_not s.args.p s.args.i s.args.room s.requires.1.1.1.0 (sym may-put.ensures ∙ not-true may-put.result c.if2.true)
 
 put-entry-requires : (t : ℕ) → put-lts.Need-entry-requires (put-claims t) (put-at t) put.Post
 put-entry-requires t c κs = (omega arith, in-arrays t c.before.before.before.before.before)
@@ -199,7 +199,7 @@ put-take-at-requires : (t : ℕ) → put-lts.Need-take-at-requires (put-claims t
 put-take-at-requires t c κs =
     let job = c.before.before.before.before.before.before.before in
     let s = began t job in
-    time-there s.args.p s.args.i s.args.room s.pre.1.1.1.0 (chosen t job)
+    time_there s.args.p s.args.i s.args.room s.pre.1.1.1.0 (chosen t job)
 
 put-add-run : (t : ℕ) → put-lts.Need-overflow-add-run (put-claims t) (put-at t) put.Post
 put-add-run t c =
@@ -210,7 +210,7 @@ put-sub-run : (t : ℕ) → put-lts.Need-overflow-sub-run (put-claims t) (put-at
 put-sub-run t c =
     let job = c.before.before.before.before.before.before.before.before.before.before.before.before.before in
     let a = (began t job).args in
-    rw job.entry.ensures (cost-within a.given.now a.links.now a.swept.now a.flags.now a.i a.room (may t job))
+    rw job.entry.ensures (cost_within a.given.now a.links.now a.swept.now a.flags.now a.i a.room (may t job))
 
 put-sub-run-2 : (t : ℕ) → put-lts.Need-overflow-sub-run-2 (put-claims t) (put-at t) put.Post
 put-sub-run-2 t c =
@@ -265,7 +265,7 @@ put-add-at-requires t c κs =
     let job = costed t ran in
     let s = began t job in
     let failed = ran.run.ensures (omega (arith, c.before.before.if3.false)) in
-    time-room s.args.p s.args.i s.args.room s.pre.1.1.1.0 (chosen t job) (failed.same-due ∙ ran.before.before.before.before.before.before.take_at.ensures)
+    time_room s.args.p s.args.i s.args.room s.pre.1.1.1.0 (chosen t job) (failed.same_due ∙ ran.before.before.before.before.before.before.take_at.ensures)
     (omega (arith, job.entry.ok))
 
 put-is-worth-noting-requires : (t : ℕ) → put-lts.Need-is-worth-noting-requires (put-claims t) (put-at t) put.Post
@@ -276,21 +276,21 @@ put-is-worth-noting-requires t c κs =
     let a = s.args in
     let failed = ran.run.ensures (omega (arith, c.before.before.before.before.if3.false)) in (
       s.pre.1.0,
-      λ e. subst (λ (qs : List Bool). Ordered (rulesIn a.given.now a.links.now a.swept.now) qs) (sym failed.same)
-          (put-ordered a.p a.i a.room s.pre.1.1.1.0 (chosen t job) (kept_free t ran.before.before.before.before.before.before.before.before.before) e),
+      λ e. subst (λ (qs : List Bool). Ordered (rules_in a.given.now a.links.now a.swept.now) qs) (sym failed.same)
+          (put_ordered a.p a.i a.room s.pre.1.1.1.0 (chosen t job) (kept_free t ran.before.before.before.before.before.before.before.before.before) e),
     )
 
 put-add-note : (t : ℕ) → put-lts.Need-overflow-add-note (put-claims t) (put-at t) put.Post
 put-add-note t c =
     let s = began t (costed t c.before.before.before.before.before.before.before.before.before.before.before.before) in
-    omega (arith, s.pre.1.0.few-rows, s.pre.1.1.0.0)
+    omega (arith, s.pre.1.0.few_rows, s.pre.1.1.0.0)
 
 put-note-requires : (t : ℕ) → put-lts.Need-note-requires (put-claims t) (put-at t) put.Post
 put-note-requires t c κs =
     let ran = c.before.before.before.before.before.before.before.before.before.before.before.before in
     let s = began t (costed t ran) in
     let memory = (ran.run.ensures (omega (arith, c.before.before.before.before.before.before.before.before.if3.false))).memory in
-    (omega (arith, s.pre.1.0.few-rows, s.pre.1.1.0.0), memory.marks-size, memory.words_size)
+    (omega (arith, s.pre.1.0.few_rows, s.pre.1.1.0.0), memory.marks_size, memory.words_size)
 
 put-element-write-flags-2 : (t : ℕ) → put-lts.Need-element-write-flags-2 (put-claims t) (put-at t) put.Post
 put-element-write-flags-2 t c =
@@ -310,7 +310,7 @@ put-returns-4 t c =
     let still = ran.before.before.before.before.before.before.before.before.before in
     let kept = worth.is-worth-noting.ensures c.before.before.before.before.before.if4.true in
     let note = c.before.before.note in
-    λ q. put-noted s.args.p s.args.i s.args.room s.pre.1.1.1.0 (chosen t job) ran.before.before.before.before.before.before.take_at.ensures failed
+    λ q. put_noted s.args.p s.args.i s.args.room s.pre.1.1.1.0 (chosen t job) ran.before.before.before.before.before.before.take_at.ensures failed
     worth.before.before.add_at.ensures still.before.before.before.with-flag.ensures still.before.with-flag2.ensures kept.0 kept.1
     note.ensures.0 note.ensures.1 note.ensures.2
 
@@ -328,13 +328,13 @@ put-returns-5 t c =
     let job = costed t ran in
     let s = began t job in
     let failed = ran.run.ensures (omega (arith, c.before.before.before.before.before.before.if3.false)) in
-    λ q. put-failed s.args.p s.args.i s.args.room s.pre.1.1.1.0 (chosen t job) ran.before.before.before.before.before.before.take_at.ensures failed
+    λ q. put_failed s.args.p s.args.i s.args.room s.pre.1.1.1.0 (chosen t job) ran.before.before.before.before.before.before.take_at.ensures failed
     c.before.before.before.add_at.ensures
 
 abbrev run-Inv-loop : run-lts.invariant-loop
 run-Inv-loop given links swept begun least flags₀ found₀ due₀ marks₀ words₀ low high kept p i room left reach n rows row₀ job₀ space₀ ordered₀ far₀
     flags found due marks words row job space ordered far =
-    Running (rulesIn given links swept) (rowsIn given) p i room flags₀ due₀ low high ordered flags due marks words row job space
+    Running (rules_in given links swept) (rows_in given) p i room flags₀ due₀ low high ordered flags due marks words row job space
 
 abbrev run-μ-loop : run-lts.decreases-loop
 run-μ-loop given links swept begun least flags₀ found₀ due₀ marks₀ words₀ low high kept p i room left reach n rows row₀ job₀ space₀ ordered₀ far₀
@@ -355,8 +355,8 @@ abbrev entered : (t : ℕ) → Looked t → run-lts.Start (run-claims t) (run_at
 entered t c = c.before.before.before.before.before.before.before
 
 -- the rules' number of jobs
-jobs-are : (t : ℕ) (c : Looked t) → let a = (entered t c).args in (rulesIn a.given.now a.links.now a.swept.now).n ≡ jobsIn a.given.now
-jobs-are t c = let a = (entered t c).args in n-is a.given.now a.links.now a.swept.now
+jobs_are : (t : ℕ) (c : Looked t) → let a = (entered t c).args in (rules_in a.given.now a.links.now a.swept.now).n ≡ jobs_in a.given.now
+jobs_are t c = let a = (entered t c).args in n_is a.given.now a.links.now a.swept.now
 
 -- the words have the length that they had
 words_same : (t : ℕ) (c : Looked t) → length c.before.before.before.loop.words ≡ length (entered t c).args.words.now
@@ -364,23 +364,23 @@ words_same t c = c.before.before.before.loop.invariant.going.memory.words_size �
 
 -- the loop stands at that job
 at-job : (t : ℕ) (c : Looked t) → let a = (entered t c).args in let l = c.before.before.before.loop in
-    Running (rulesIn a.given.now a.links.now a.swept.now) (rowsIn a.given.now) a.p a.i a.room a.flags.now a.due.now
+    Running (rules_in a.given.now a.links.now a.swept.now) (rows_in a.given.now) a.p a.i a.room a.flags.now a.due.now
     a.low a.high l.ordered l.flags l.due l.marks l.words l.row c.next-job.result l.space
-at-job t c = run-next c.before.before.before.loop.invariant (jobs-are t c) c.next-job.ensures
+at-job t c = run_next c.before.before.before.loop.invariant (jobs_are t c) c.next-job.ensures
 
 -- it is at the end of the row
-at-end : (t : ℕ) (c : None t) → let a = (entered t c.before).args in let l = c.before.before.before.before.loop in
-    let u = rulesIn a.given.now a.links.now a.swept.now in
-    Running u (rowsIn a.given.now) a.p a.i a.room a.flags.now a.due.now
+at_end : (t : ℕ) (c : None t) → let a = (entered t c.before).args in let l = c.before.before.before.before.loop in
+    let u = rules_in a.given.now a.links.now a.swept.now in
+    Running u (rows_in a.given.now) a.p a.i a.room a.flags.now a.due.now
     a.low a.high l.ordered l.flags l.due l.marks l.words l.row u.n l.space
-at-end t c = run_end c.before.before.before.before.loop.invariant (jobs-are t c.before) c.before.next-job.ensures c.if1.true
+at_end t c = run_end c.before.before.before.before.loop.invariant (jobs_are t c.before) c.before.next-job.ensures c.if1.true
 
 -- there is such a job, and it is not passed over
-job-there : (t : ℕ) (c : Some t) → let a = (entered t c.before).args in c.before.next-job.result < (rulesIn a.given.now a.links.now a.swept.now).n
-job-there t c = omega (arith, c.if1.false, jobs-are t c.before)
+job_there : (t : ℕ) (c : Some t) → let a = (entered t c.before).args in c.before.next-job.result < (rules_in a.given.now a.links.now a.swept.now).n
+job_there t c = omega (arith, c.if1.false, jobs_are t c.before)
 
 job-free : (t : ℕ) (c : Some t) → let a = (entered t c.before).args in let l = c.before.before.before.before.loop in
-    skips (rulesIn a.given.now a.links.now a.swept.now) l.row l.flags c.before.next-job.result ≡ false
+    skips (rules_in a.given.now a.links.now a.swept.now) l.row l.flags c.before.next-job.result ≡ false
 job-free t c = c.before.next-job.ensures.here c.if1.false
 
 run-index-1-n : (t : ℕ) → run-lts.Need-bounds-1-n (run-claims t) (run_at t) run.Post run-Inv-loop run-μ-loop
@@ -402,7 +402,7 @@ run-loop-holds : (t : ℕ) → run-lts.Need-loop-init (run-claims t) (run_at t) 
 run-loop-holds t c =
     let s = c.before.before.before in
     let a = s.args in
-    run-start a.room s.requires.1.1.1 s.requires.1.1.0.0 (omega (arith, n-is a.given.now a.links.now a.swept.now, s.requires.1.1.0.1))
+    run_start a.room s.requires.1.1.1 s.requires.1.1.0.0 (omega (arith, n_is a.given.now a.links.now a.swept.now, s.requires.1.1.0.1))
 
 run-next-job-requires : (t : ℕ) → run-lts.Need-next-job-requires (run-claims t) (run_at t) run.Post run-Inv-loop run-μ-loop
 run-next-job-requires t c κs =
@@ -411,7 +411,7 @@ run-next-job-requires t c κs =
     (s.requires.1.0, (s.requires.1.1.0.2, (c.before.loop-test.true, omega arith, going.lows, going.highs)))
 
 run-add-if2 : (t : ℕ) → run-lts.Need-overflow-add-if2 (run-claims t) (run_at t) run.Post run-Inv-loop run-μ-loop
-run-add-if2 t c = let looked = c.before in omega (arith, looked.before.before.loop-test.true, (entered t looked).requires.1.0.few-rows)
+run-add-if2 t c = let looked = c.before in omega (arith, looked.before.before.loop-test.true, (entered t looked).requires.1.0.few_rows)
 
 run-same-length : (t : ℕ) → run-lts.Need-same-length (run-claims t) (run_at t) run.Post run-Inv-loop run-μ-loop
 run-same-length t c = words_same t c.before.before
@@ -430,36 +430,36 @@ run-same-length-2 : (t : ℕ) → run-lts.Need-same-length-2 (run-claims t) (run
 run-same-length-2 t c = words_same t c.before.before.before.before.before
 
 run-returns-2 : (t : ℕ) → run-lts.Need-returns-2 (run-claims t) (run_at t) run.Post run-Inv-loop run-μ-loop
-run-returns-2 t c = λ h. run-full (at-end t c.before.before.before.before) (jobs-are t c.before.before.before.before.before) (c.before.one_more.ensures c.if3.true)
+run-returns-2 t c = λ h. run_full (at_end t c.before.before.before.before) (jobs_are t c.before.before.before.before.before) (c.before.one_more.ensures c.if3.true)
 
 run-add-row : (t : ℕ) → run-lts.Need-overflow-add-row (run-claims t) (run_at t) run.Post run-Inv-loop run-μ-loop
-run-add-row t c = let looked = c.before.before.before.before.before in omega (arith, looked.before.before.loop-test.true, (entered t looked).requires.1.0.few-rows)
+run-add-row t c = let looked = c.before.before.before.before.before in omega (arith, looked.before.before.loop-test.true, (entered t looked).requires.1.0.few_rows)
 
 run-known-requires : (t : ℕ) → run-lts.Need-known-requires (run-claims t) (run_at t) run.Post run-Inv-loop run-μ-loop
 run-known-requires t c κs =
     let looked = c.before.before.before.before.before.before.before in
     let memory = looked.before.before.before.loop.invariant.going.memory in
-    (omega (arith, looked.before.before.loop-test.true, (entered t looked).requires.1.0.few-rows), memory.marks-size, memory.words_size)
+    (omega (arith, looked.before.before.loop-test.true, (entered t looked).requires.1.0.few_rows), memory.marks_size, memory.words_size)
 
 run-same-length-3 : (t : ℕ) → run-lts.Need-same-length-3 (run-claims t) (run_at t) run.Post run-Inv-loop run-μ-loop
 run-same-length-3 t c = words_same t c.before.before.before.before.before.before.before.before.before
 
 run-returns-3 : (t : ℕ) → run-lts.Need-returns-3 (run-claims t) (run_at t) run.Post run-Inv-loop run-μ-loop
-run-returns-3 t c = λ h. run-known (at-end t c.before.before.before.before.before.before.before.before) (c.before.known.ensures c.if4.true)
+run-returns-3 t c = λ h. run_known (at_end t c.before.before.before.before.before.before.before.before) (c.before.known.ensures c.if4.true)
 
 run-is-late-requires : (t : ℕ) → run-lts.Need-is-late-requires (run-claims t) (run_at t) run.Post run-Inv-loop run-μ-loop
 run-is-late-requires t c κs =
     let more = c.before.before.before.before.before.before.before.before.before in
     let looked = more.before.before in (
       (entered t looked).requires.1.0,
-      (omega (arith, looked.before.before.loop-test.true, more.if2.false), times-for looked.before.before.before.loop.invariant.going (jobs-are t looked)),
+      (omega (arith, looked.before.before.loop-test.true, more.if2.false), times_for looked.before.before.before.loop.invariant.going (jobs_are t looked)),
     )
 
 run-same-length-4 : (t : ℕ) → run-lts.Need-same-length-4 (run-claims t) (run_at t) run.Post run-Inv-loop run-μ-loop
 run-same-length-4 t c = words_same t c.before.before.before.before.before.before.before.before.before.before.before.before.before
 
 run-returns-4 : (t : ℕ) → run-lts.Need-returns-4 (run-claims t) (run_at t) run.Post run-Inv-loop run-μ-loop
-run-returns-4 t c = λ h. run-late (at-end t c.before.before.before.before.before.before.before.before.before.before.before.before) (c.before.is-late.ensures c.if5.true)
+run-returns-4 t c = λ h. run_late (at_end t c.before.before.before.before.before.before.before.before.before.before.before.before) (c.before.is-late.ensures c.if5.true)
 
 run-is-kept-requires : (t : ℕ) → run-lts.Need-is-kept-requires (run-claims t) (run_at t) run.Post run-Inv-loop run-μ-loop
 run-is-kept-requires t c κs =
@@ -482,7 +482,7 @@ run-loop-again t c =
     let more = c.before.before.before.before.before.before.before.before.before.before.before.before.before.before in
     let none = more.before in
     let a = (entered t none.before).args in
-    run_row (at-end t none) (omega (arith, none.before.before.before.loop-test.true, more.if2.false)) (sym (f-is a.given.now a.links.now a.swept.now))
+    run_row (at_end t none) (omega (arith, none.before.before.before.loop-test.true, more.if2.false)) (sym (f_is a.given.now a.links.now a.swept.now))
     c.before.is-kept.ensures
 
 run-put-requires : (t : ℕ) → run-lts.Need-put-requires (run-claims t) (run_at t) run.Post run-Inv-loop run-μ-loop
@@ -494,7 +494,7 @@ run-put-requires t c κs =
       (
         s.pre.1.0,
         (
-          (looked.before.before.loop-test.true, omega (arith, job-there t found, jobs-are t looked), s.pre.1.1.0.2),
+          (looked.before.before.loop-test.true, omega (arith, job_there t found, jobs_are t looked), s.pre.1.1.0.2),
           ((at-job t looked).going, job-free t found),
         ),
       ),
@@ -511,8 +511,8 @@ run-may-leave-requires t c κs =
     let found = c.before.before.before.before.before.before.before.before.before.before in
     let looked = found.before in
     let s = entered t looked in (
-      omega (arith, looked.before.before.loop-test.true, s.pre.1.0.few-rows),
-      s.pre.1.0.back looked.next-job.result (omega (arith, job-there t found, jobs-are t looked)),
+      omega (arith, looked.before.before.loop-test.true, s.pre.1.0.few_rows),
+      s.pre.1.0.back looked.next-job.result (omega (arith, job_there t found, jobs_are t looked)),
     )
 
 run-same-length-6 : (t : ℕ) → run-lts.Need-same-length-6 (run-claims t) (run_at t) run.Post run-Inv-loop run-μ-loop
@@ -524,23 +524,23 @@ run-returns-6 : (t : ℕ) → run-lts.Need-returns-6 (run-claims t) (run_at t) r
 run-returns-6 t c =
     let found = c.before.before.before.before.before.before.before.before.before.before.before.before in
     let leave = c.before.may-leave in
-    λ h. run-stuck (at-job t found.before) (job-there t found) (job-free t found) (c.before.before.before.before.before.before.put.ensures c.before.before.before.if6.false)
+    λ h. run_stuck (at-job t found.before) (job_there t found) (job-free t found) (c.before.before.before.before.before.before.put.ensures c.before.before.before.if6.false)
     (sym leave.ensures ∙ not-true leave.result c.if7.true)
 
 run-add-job : (t : ℕ) → run-lts.Need-overflow-add-job (run-claims t) (run_at t) run.Post run-Inv-loop run-μ-loop
 run-add-job t c =
     let found = c.before.before.before.before.before.before.before.before.before.before.before.before in
-    omega (arith, job-there t found, (entered t found.before).pre.1.0.few, jobs-are t found.before)
+    omega (arith, job_there t found, (entered t found.before).pre.1.0.few, jobs_are t found.before)
 
 run-loop-less-2 : (t : ℕ) → run-lts.Need-loop-smaller-2 (run-claims t) (run_at t) run.Post run-Inv-loop run-μ-loop
 run-loop-less-2 t c =
     let found = c.before.before.before.before.before.before.before.before.before.before.before.before in
-    omega (arith, job-there t found, found.before.next-job.ensures.begun, jobs-are t found.before)
+    omega (arith, job_there t found, found.before.next-job.ensures.begun, jobs_are t found.before)
 
 run-loop-again-2 : (t : ℕ) → run-lts.Need-loop-preserved-2 (run-claims t) (run_at t) run.Post run-Inv-loop run-μ-loop
 run-loop-again-2 t c =
     let found = c.before.before.before.before.before.before.before.before.before.before.before.before in
-    run-left (at-job t found.before) (job-there t found) (job-free t found) (c.before.before.before.before.before.before.put.ensures c.before.before.before.if6.false)
+    run_left (at-job t found.before) (job_there t found) (job-free t found) (c.before.before.before.before.before.before.put.ensures c.before.before.before.if6.false)
 
 run-same-length-7 : (t : ℕ) → run-lts.Need-same-length-7 (run-claims t) (run_at t) run.Post run-Inv-loop run-μ-loop
 run-same-length-7 t c = c.before.loop.invariant.going.memory.words_size ∙ sym c.before.before.before.before.before.requires.1.1.1.memory.words_size

@@ -20,7 +20,7 @@ returns-4 c =
 pub could-put-spec : {M : Type 1} → statement M
 could-put-spec =
     tie.close
-    (tie.spec (λ c. omega (arith, c.requires.is-job)) (λ c. search rules) (λ c. c.requires.is-job) (λ c. λ e. absurd (false≢true e))
-    (λ c κs. c.before.before.requires.is-job) (λ c. λ e. absurd (false≢true e)) (λ c. omega (arith, c.before.before.before.before.requires.is-job))
-    (λ c. search rules) (λ c. c.before.before.before.before.requires.is-job) (λ c. λ e. absurd (false≢true e))
+    (tie.spec (λ c. omega (arith, c.requires.is_job)) (λ c. search rules) (λ c. c.requires.is_job) (λ c. λ e. absurd (false≢true e))
+    (λ c κs. c.before.before.requires.is_job) (λ c. λ e. absurd (false≢true e)) (λ c. omega (arith, c.before.before.before.before.requires.is_job))
+    (λ c. search rules) (λ c. c.before.before.before.before.requires.is_job) (λ c. λ e. absurd (false≢true e))
     (λ c κs. c.before.before.before.before.before.before.requires) returns-4)

@@ -5,15 +5,15 @@ use mathlib.Core.Bool.{true}
 use Prim.Native.Nat.{ℕ, ◌≤◌, ◌<◌, ◌-◌}
 use borrow.Author.Tests.{not-true, not-false}
 use Rattle.exact.specs.Sweep.{skips}
-use Rattle.sweep.specs.Arrays.{rulesIn}
-use Rattle.sweep.proofs.RunLaws.{all-from-more}
-use Rattle.sweep.proofs.BitLaws.{all-from-on}
+use Rattle.sweep.specs.Arrays.{rules_in}
+use Rattle.sweep.proofs.RunLaws.{all_from_more}
+use Rattle.sweep.proofs.BitLaws.{all_from_on}
 use Rattle.sweep.proofs.next_job.Statement.{statement}
 use Rattle.sweep.proofs.next_job.Tie as tie
 
 abbrev invariant-loop : tie.invariant-loop
 invariant-loop given links swept begun flags low high p i end j₀ j =
-    (i ≤ j) × ((m : ℕ) → i ≤ m → end ≤ m → j ≤ m) × ((y : ℕ) → i ≤ y → y < j → skips (rulesIn given links swept) p flags y ≡ true)
+    (i ≤ j) × ((m : ℕ) → i ≤ m → end ≤ m → j ≤ m) × ((y : ℕ) → i ≤ y → y < j → skips (rules_in given links swept) p flags y ≡ true)
 
 abbrev decreases-loop : tie.decreases-loop
 decreases-loop given links swept begun flags low high p i end j₀ j = end - j
@@ -39,7 +39,7 @@ returns c =
     record {
       begun = omega (arith, inv.0, c.before.before.loop-test.true);
       most = λ m a b. b;
-      passed = all-from-on _ inv.2 (λ y a b. free.1 y a (omega (arith, c.if1.true)) (omega (arith, pre.1.1.1)));
+      passed = all_from_on _ inv.2 (λ y a b. free.1 y a (omega (arith, c.if1.true)) (omega (arith, pre.1.1.1)));
       here = λ h. absurd (omega arith);
     }
 
@@ -58,7 +58,7 @@ returns-2 c =
     record {
       begun = omega (arith, inv.0, free.0);
       most = λ m a b. omega (arith, inside);
-      passed = all-from-on _ inv.2 (λ y a b. free.1 y a b (omega (arith, inside, pre.1.1.1)));
+      passed = all_from_on _ inv.2 (λ y a b. free.1 y a b (omega (arith, inside, pre.1.1.1)));
       here = λ h. sym is-skipped.ensures ∙ not-true is-skipped.result c.if2.true;
     }
 
@@ -79,7 +79,7 @@ loop-again c =
     let is-skipped = c.before.is-skipped in (
       omega (arith, inv.0, free.0),
       (λ m a b. omega (arith, inside)),
-      all-from-more _ (all-from-on _ inv.2 (λ y a b. free.1 y a b (omega (arith, inside, pre.1.1.1))))
+      all_from_more _ (all_from_on _ inv.2 (λ y a b. free.1 y a b (omega (arith, inside, pre.1.1.1))))
           (sym is-skipped.ensures ∙ not-false is-skipped.result c.if2.false),
     )
 

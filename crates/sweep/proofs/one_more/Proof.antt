@@ -4,23 +4,23 @@ use native.Mathlib.Omega.{arith}
 use Prim.Native.Nat.{◌≤◌, ◌-◌}
 use mathlib.Core.Bool.{false≢true}
 use Rattle.exact.specs.Sweep.{more}
-use Rattle.exact.specs.WitnessLaws.{any-below-from}
-use Rattle.searcher.specs.Arrays.{jobsIn}
-use Rattle.sweep.specs.Arrays.{rulesIn}
+use Rattle.exact.specs.WitnessLaws.{any_below_from}
+use Rattle.searcher.specs.Arrays.{jobs_in}
+use Rattle.sweep.specs.Arrays.{rules_in}
 use Rattle.sweep.proofs.one_more.Statement.{statement}
 use Rattle.sweep.proofs.one_more.Tie as tie
 
 abbrev invariant-loop : tie.invariant-loop
-invariant-loop given links swept begun least flags low high p room n i₀ i = n ≤ jobsIn given
+invariant-loop given links swept begun least flags low high p room n i₀ i = n ≤ jobs_in given
 
 abbrev decreases-loop : tie.decreases-loop
 decreases-loop given links swept begun least flags low high p room n i₀ i = n - i
 
 mul-if1 : tie.Need-overflow-mul-if1 invariant-loop decreases-loop
-mul-if1 c = omega (arith, c.requires.1.0, c.requires.0.few-rows)
+mul-if1 c = omega (arith, c.requires.1.0, c.requires.0.few_rows)
 
 element-copy-out-if1 : tie.Need-element-copy-out-if1 invariant-loop decreases-loop
-element-copy-out-if1 c = omega (arith, c.requires.1.0, c.requires.0.few-rows)
+element-copy-out-if1 c = omega (arith, c.requires.1.0, c.requires.0.few_rows)
 
 returns : tie.Need-returns invariant-loop decreases-loop
 returns c = λ e. absurd (false≢true e)
@@ -48,7 +48,7 @@ returns-3 c =
     let found = c.before.before.before in
     let loop = found.before.before in
     let a = loop.before.before.before.before.args in
-    λ e. any-below-from (more (rulesIn a.given.now a.links.now a.swept.now) a.p a.flags.now a.room) (jobsIn a.given.now)
+    λ e. any_below_from (more (rules_in a.given.now a.links.now a.swept.now) a.p a.flags.now a.room) (jobs_in a.given.now)
     found.first-free.result (omega (arith, c.before.before.if2.false, loop.loop.invariant)) (c.before.could-put.ensures c.if3.true)
 
 add-i : tie.Need-overflow-add-i invariant-loop decreases-loop

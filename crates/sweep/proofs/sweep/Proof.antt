@@ -3,9 +3,9 @@ use native.Mathlib.Omega.{arith}
 use mathlib.Core.Path.{sym}
 use mathlib.Core.Bool.{false≢true}
 use borrow.Author.Tests.{leb-false}
-use Rattle.searcher.specs.Arrays.{rowsIn}
-use Rattle.sweep.specs.Arrays.{rulesIn}
-use Rattle.sweep.proofs.RunLaws.{n-is, f-is, going-first, swept-false}
+use Rattle.searcher.specs.Arrays.{rows_in}
+use Rattle.sweep.specs.Arrays.{rules_in}
+use Rattle.sweep.proofs.RunLaws.{n_is, f_is, going_first, swept_false}
 use borrow.Author.Rules.{rules}
 use Rattle.sweep.proofs.sweep.Statement.{statement}
 use Rattle.sweep.proofs.sweep.Tie as tie
@@ -54,7 +54,7 @@ run-requires c κs =
       s.requires,
       (
         (omega (arith, left.before.if1.false), omega arith, made.before.before.begun-of.ensures),
-        going-first (rulesIn g l w) (rowsIn g) (n-is g l w) made.due-times.ensures left.if2.false,
+        going_first (rules_in g l w) (rows_in g) (n_is g l w) made.due-times.ensures left.if2.false,
       ),
     )
 
@@ -66,7 +66,7 @@ returns-3 c =
     let run = c.before.before in
     let begun = run.before.before.before.before.before.before.before.before.before.before.before.before.before.before in
     let s = begun.before.before.before in
-    λ e. swept-false (omega (arith, begun.if1.false)) (sym (f-is s.args.given.now s.args.links.now s.args.swept.now))
+    λ e. swept_false (omega (arith, begun.if1.false)) (sym (f_is s.args.given.now s.args.links.now s.args.swept.now))
     (run.run.ensures (leb-false _ _ e))
 
 pub sweep-spec : {M : Type 1} → statement M

@@ -2,7 +2,7 @@
 use borrow.Author.Rules.{rules}
 use Prim.Native.Nat.{ℕ, ◌<◌}
 use mathlib.Core.Path.{◌∙◌}
-use Rattle.text.specs.TextLaws.{put-short, put-long}
+use Rattle.text.specs.TextLaws.{put_short, put_long}
 use borrow.Fn.Kinds.{In}
 use borrow.Fn.PlainCycle.{Measures, is, falls, and}
 use Rattle.text.proofs.put_number.Reads as put-number
@@ -64,7 +64,7 @@ put-number-returns : (t : ℕ) → put-number-lts.Need-returns (
 ) (put-number-at t) put-number.Post
 put-number-returns t c =
     let one = c.before.before in
-    one.put.ensures ∙ rw one.before.digit.ensures (put-short _ _ one.before.before.before.if1.true)
+    one.put.ensures ∙ rw one.before.digit.ensures (put_short _ _ one.before.before.before.if1.true)
 
 put-number-put-number-requires : (t : ℕ) → put-number-lts.Need-put-number-requires (
   digit-reads.Asked,
@@ -117,7 +117,7 @@ put-number-returns-2 : (t : ℕ) → put-number-lts.Need-returns-2 (
 put-number-returns-2 t c =
     let last = c.before.before in
     let tenth = last.before.before.before.before.before in
-    last.put2.ensures ∙ rw (tenth.put-number.ensures, last.before.digit2.ensures) (put-long _ _ tenth.before.before.if1.false)
+    last.put2.ensures ∙ rw (tenth.put-number.ensures, last.before.digit2.ensures) (put_long _ _ tenth.before.before.if1.false)
 
 pub +put-number-spec : {M : Type 1} → statement M
 +put-number-spec = close μ-put-number λ t. put-number-lts.spec (

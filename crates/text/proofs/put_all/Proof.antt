@@ -4,13 +4,13 @@ use Prim.Native.Nat.{◌≤◌, ◌-◌}
 use mathlib.Core.Path.{◌≡◌, sym, ◌∙◌}
 use native.Mathlib.Omega.{arith}
 use lib.ListN.{length, drop}
-use Rattle.text.specs.Text.{filledTo, putAllOf}
-use Rattle.text.specs.TextLaws.{put-turn, put_ended}
+use Rattle.text.specs.Text.{filled_to, put_all_of}
+use Rattle.text.specs.TextLaws.{put_turn, put_ended}
 use Rattle.text.proofs.put_all.Statement.{statement}
 use Rattle.text.proofs.put_all.Tie as tie
 
 abbrev invariant-loop : tie.invariant-loop
-invariant-loop out₀ at text end₀ i₀ out end i = (i ≤ length text) × (length out ≡ length out₀) × (putAllOf (filledTo end out) (drop i text) ≡ putAllOf (filledTo at out₀) text)
+invariant-loop out₀ at text end₀ i₀ out end i = (i ≤ length text) × (length out ≡ length out₀) × (put_all_of (filled_to end out) (drop i text) ≡ put_all_of (filled_to at out₀) text)
 
 abbrev decreases-loop : tie.decreases-loop
 decreases-loop out₀ at text end₀ i₀ out end i = length text - i
@@ -21,7 +21,7 @@ loop-again c =
     let more = c.before.before.before.before.before.loop-test.true in (
       omega (arith, more),
       c.before.before.put.auto.0 ∙ l.invariant.1,
-      rw c.before.before.put.ensures (put-turn _ _ l.i more) ∙ l.invariant.2,
+      rw c.before.before.put.ensures (put_turn _ _ l.i more) ∙ l.invariant.2,
     )
 
 returns : tie.Need-returns invariant-loop decreases-loop

@@ -5,18 +5,18 @@ use mathlib.Core.Path.{◌≡◌, ap}
 use native.Mathlib.Nat.{sub-zero, zero-add}
 use native.Mathlib.Omega.{arith}
 use lib.ListN.{get_or}
-use Rattle.request.specs.Request.{noTask}
-use Rattle.plan_listing.specs.ListingLaws.{ticks-are}
-use Rattle.job_records.specs.Timeline.{busyOf}
-use Rattle.job_records.specs.Known.{recordsFrom}
+use Rattle.request.specs.Request.{no_task}
+use Rattle.plan_listing.specs.ListingLaws.{ticks_are}
+use Rattle.job_records.specs.Timeline.{busy_of}
+use Rattle.job_records.specs.Known.{records_from}
 use Rattle.job_records.specs.declared.JobRecord.{JobRecord}
-use Rattle.timeline_listing.specs.PutLaws.{busy-turn, busy-end}
+use Rattle.timeline_listing.specs.PutLaws.{busy_turn, busy_end}
 use Rattle.timeline_listing.proofs.busy.Statement.{statement}
 use Rattle.timeline_listing.proofs.busy.Tie as tie
 
 abbrev invariant-loop : tie.invariant-loop
 invariant-loop known tasks n sum₀ y₀ sum y =
-    (y ≤ n) × (n ≤ 128) × (sum ≤ y * 65535) × (sum + busyOf tasks (recordsFrom known (n - y) y) ≡ busyOf tasks (recordsFrom known n 0))
+    (y ≤ n) × (n ≤ 128) × (sum ≤ y * 65535) × (sum + busy_of tasks (records_from known (n - y) y) ≡ busy_of tasks (records_from known n 0))
 
 abbrev decreases-loop : tie.decreases-loop
 decreases-loop known tasks n sum₀ y₀ sum y = n - y
@@ -30,18 +30,18 @@ loop-again c =
     let s = test.before.before.args in
     let l = test.before.loop in
     let more = test.loop-test.true in
-    let is = ap (λ (r : JobRecord). (get_or s.tasks r.task noTask).c) c.before.record-at.ensures in (
+    let is = ap (λ (r : JobRecord). (get_or s.tasks r.task no_task).c) c.before.record_at.ensures in (
       omega arith,
       l.invariant.1,
       omega (arith, c.cost.type-inv, l.invariant.2),
-      omega (arith, c.cost.ensures, ticks-are s.tasks c.before.record-at.result.task test.before.before.requires.1, is, busy-turn s.known s.known.count l.y s.tasks more, l.invariant.3),
+      omega (arith, c.cost.ensures, ticks_are s.tasks c.before.record_at.result.task test.before.before.requires.1, is, busy_turn s.known s.known.count l.y s.tasks more, l.invariant.3),
     )
 
 returns : tie.Need-returns invariant-loop decreases-loop
 returns c =
     let s = c.before.before.args in
     let l = c.before.loop in
-    omega (arith, busy-end s.known s.known.count l.y s.tasks c.loop-test.false, l.invariant.3)
+    omega (arith, busy_end s.known s.known.count l.y s.tasks c.loop-test.false, l.invariant.3)
 
 pub busy-spec : {M : Type 1} → statement M
 busy-spec =

@@ -6,8 +6,8 @@ use lib.ListN.{length}
 use lib.Seq.{length-take-le}
 use borrow.Author.Rules.{rules}
 use Rattle.text.specs.TextLaws.{put_front}
-use Rattle.plan_listing.specs.HandedLaws.{refused-is, table_is, written-few}
-use Rattle.timeline_listing.specs.PrintedLaws.{timeline-refused, timeline-handed}
+use Rattle.plan_listing.specs.HandedLaws.{refused_is, table_is, written_few}
+use Rattle.timeline_listing.specs.PrintedLaws.{timeline_refused, timeline_handed}
 use Rattle.timeline_listing.proofs.list.Statement.{statement}
 use Rattle.timeline_listing.proofs.list.Tie as tie
 
@@ -16,7 +16,7 @@ returns c =
     let line = c.before.before in
     let plan = line.before.before.before.before.before.plan in
     let s = line.before.before.before.before.before.before.before.before.before.args in
-    rw (← timeline-refused s.request.now plan.result.refusal (refused-is s.request.now plan.result plan.ensures.0 line.before.before.if1.true))
+    rw (← timeline_refused s.request.now plan.result.refusal (refused_is s.request.now plan.result plan.ensures.0 line.before.before.if1.true))
     line.refused.ensures
 
 -- what is lent is within the buffer
@@ -24,7 +24,7 @@ within : (c : tie.Else1) → let plan = c.before.before.before.plan in plan.resu
 within c =
     let at = c.before.before.before in
     let plan = at.plan in
-    omega (arith, written-few at.before.before.before.before.args.request.now plan.result plan.ensures.0 c.if1.false, plan.auto.1.1.0)
+    omega (arith, written_few at.before.before.before.before.args.request.now plan.result plan.ensures.0 c.if1.false, plan.auto.1.1.0)
 
 array-share-prefix-table : tie.Need-array-share-prefix-table
 array-share-prefix-table c = within c.before
@@ -38,7 +38,7 @@ returns-2 c =
     let plan = lines.before.before.before.before.before.before.plan in
     let s = lines.before.before.before.before.before.before.before.before.before.before.args in
     let is = table_is s.request.now plan.result plan.ensures.0 lines.before.before.before.if1.false plan.new.1.1.0 plan.ensures.1 in
-    rw (← timeline-handed s.request.now _ is) (put_front _ s.out.now lines.put-timeline.new.0 lines.put-timeline.result lines.put-timeline.ensures)
+    rw (← timeline_handed s.request.now _ is) (put_front _ s.out.now lines.put-timeline.new.0 lines.put-timeline.result lines.put-timeline.ensures)
 
 pub list-spec : {M : Type 1} → statement M
 list-spec =

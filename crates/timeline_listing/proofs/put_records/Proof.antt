@@ -5,17 +5,17 @@ use mathlib.Core.Path.{◌≡◌, refl, sym, ◌∙◌}
 use native.Mathlib.Nat.{sub-zero}
 use native.Mathlib.Omega.{arith}
 use lib.ListN.{length}
-use Rattle.text.specs.Text.{filledTo, putAllOf}
-use Rattle.job_records.specs.Known.{recordsFrom}
-use Rattle.timeline_listing.specs.Printed.{recordLines}
-use Rattle.timeline_listing.specs.PutLaws.{lines-turn, lines_end}
+use Rattle.text.specs.Text.{filled_to, put_all_of}
+use Rattle.job_records.specs.Known.{records_from}
+use Rattle.timeline_listing.specs.Printed.{record_lines}
+use Rattle.timeline_listing.specs.PutLaws.{lines_turn, lines_end}
 use Rattle.timeline_listing.proofs.put_records.Statement.{statement}
 use Rattle.timeline_listing.proofs.put_records.Tie as tie
 
 abbrev invariant-loop : tie.invariant-loop
 invariant-loop out₀ at known n end₀ y₀ out end y =
     (y ≤ n) × (n ≤ 128) × (length out ≡ length out₀)
-    × (putAllOf (filledTo end out) (recordLines (recordsFrom known (n - y) y)) ≡ putAllOf (filledTo at out₀) (recordLines (recordsFrom known n 0)))
+    × (put_all_of (filled_to end out) (record_lines (records_from known (n - y) y)) ≡ put_all_of (filled_to at out₀) (record_lines (records_from known n 0)))
 
 abbrev decreases-loop : tie.decreases-loop
 decreases-loop out₀ at known n end₀ y₀ out end y = n - y
@@ -32,7 +32,7 @@ loop-again c =
       omega (arith, more),
       l.invariant.1,
       put.put_record.auto.0 ∙ l.invariant.2,
-      rw (put.put_record.ensures, put.before.record-at.ensures) (lines-turn _ _ l.y _ more) ∙ l.invariant.3,
+      rw (put.put_record.ensures, put.before.record_at.ensures) (lines_turn _ _ l.y _ more) ∙ l.invariant.3,
     )
 
 returns : tie.Need-returns invariant-loop decreases-loop

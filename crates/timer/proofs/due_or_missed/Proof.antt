@@ -8,8 +8,8 @@ use Rattle.timer.proofs.due_or_missed.Tie as tie
 returns : tie.Need-returns
 returns c =
     let s = c.before.args.status in
-    let missed-is : c.either.result ≡ s.due || s.missed = c.either.ensures in
-    λ i. record { due = true; overrun = s.overrun; missed = missed-is i }
+    let missed_is : c.either.result ≡ s.due || s.missed = c.either.ensures in
+    λ i. record { due = true; overrun = s.overrun; missed = missed_is i }
 
 pub due-or-missed-spec : {M : Type 1} → statement M
 due-or-missed-spec = tie.close (tie.spec (λ c κs. search rules) returns)

@@ -3,12 +3,12 @@ use Prim.Native.Nat.{◌≤◌, ◌<◌}
 use mathlib.Core.Path.{refl}
 use native.Mathlib.Omega.{arith}
 use borrow.Author.Rules.{rules}
-use Rattle.timer.specs.RegisterLaws.{read-no-more, read_at, read-free}
+use Rattle.timer.specs.RegisterLaws.{read_no_more, read_at, read_free}
 use Rattle.timer.proofs.read.Statement.{statement}
 use Rattle.timer.proofs.read.Tie as tie
 
 returns : tie.Need-returns
-returns c = rw (read-no-more c.before.args.address c.before.args.timer (omega (arith, c.if1.true)))
+returns c = rw (read_no_more c.before.args.address c.before.args.timer (omega (arith, c.if1.true)))
 
 returns-2 : tie.Need-returns-2
 returns-2 c = read_at _ _ 0 _ c.before.match.keys1 (omega arith) c.control-byte.ensures
@@ -33,7 +33,7 @@ returns-8 c =
     let a = c.before.before.before.before.args in
     let behind : 6 ≤ a.address = omega (arith, c.match.rest) in
     let within : a.address < 8 = omega (arith, c.before.before.before.if1.false) in
-    read-free _ a.timer behind within
+    read_free _ a.timer behind within
 
 pub read_spec : {M : Type 1} → statement M
 read_spec =

@@ -4,12 +4,12 @@ use mathlib.Core.Path.{◌≡◌}
 use native.Mathlib.Omega.{arith}
 use borrow.Author.Rules.{rules}
 use Rattle.timer.specs.Registers.{sum_of}
-use Rattle.timer.specs.RegisterLaws.{sumFrom, sum_is, sum_more, sum-end}
+use Rattle.timer.specs.RegisterLaws.{sum_from, sum_is, sum_more, sum_end}
 use Rattle.timer.proofs.sum_of.Statement.{statement}
 use Rattle.timer.proofs.sum_of.Tie as tie
 
 abbrev invariant-loop : tie.invariant-loop
-invariant-loop counts sum₀ i₀ sum i = (i ≤ 16) × (sum ≤ i * 65535) × (sum + sumFrom counts (16 - i) i ≡ sum_of counts)
+invariant-loop counts sum₀ i₀ sum i = (i ≤ 16) × (sum ≤ i * 65535) × (sum + sum_from counts (16 - i) i ≡ sum_of counts)
 
 abbrev decreases-loop : tie.decreases-loop
 decreases-loop counts sum₀ i₀ sum i = 16 - i
@@ -32,7 +32,7 @@ loop-again c =
 returns : tie.Need-returns invariant-loop decreases-loop
 returns c =
     let l = c.before.loop in
-    omega (arith, l.invariant.2, sum-end c.before.before.args.t1 l.i c.loop-test.false)
+    omega (arith, l.invariant.2, sum_end c.before.before.args.t1 l.i c.loop-test.false)
 
 pub sum-of-spec : {M : Type 1} → statement M
 sum-of-spec =

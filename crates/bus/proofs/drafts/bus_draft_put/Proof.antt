@@ -1,8 +1,8 @@
 -- The lent draft is read, and the draft after the put is handed back.
 use mathlib.Core.Path.{◌∙◌}
 use Rattle.draft.specs.Draft.{put}
-use Rattle.lent.specs.DraftBytes.{draftIn}
-use Rattle.bus.specs.Drafts.{putReply, putBytes}
+use Rattle.lent.specs.DraftBytes.{draft_in}
+use Rattle.bus.specs.Drafts.{put_reply, put_bytes}
 use Rattle.bus.specs.ReplyLaws.{kept}
 use Rattle.bus.specs.DraftLaws.{too_short}
 use borrow.Author.Rules.{rules}
@@ -10,14 +10,14 @@ use Rattle.bus.proofs.drafts.bus_draft_put.Statement.{statement}
 use Rattle.bus.proofs.drafts.bus_draft_put.Tie as tie
 
 returns : tie.Need-returns
-unfolding putReply putBytes
+unfolding put_reply put_bytes
 returns c =
     let a = c.before.before.before.before.args in
-    let law = too_short (put a.request.now (draftIn a.lent.now) a.job a.frame) a.lent.now c.before.if1.true in
+    let law = too_short (put a.request.now (draft_in a.lent.now) a.job a.frame) a.lent.now c.before.if1.true in
     (kept _ c.refusal.type-inv ∙ c.refusal.ensures ∙ law.0, law.1)
 
 returns-2 : tie.Need-returns-2
-unfolding putReply putBytes
+unfolding put_reply put_bytes
 returns-2 c =
     let back = c.before.before in
     let made = back.before.before in

@@ -1,7 +1,7 @@
 -- The draft of the table is handed back; a buffer that is too short comes first.
 use mathlib.Core.Path.{◌∙◌}
 use Rattle.draft.specs.Draft.{start}
-use Rattle.bus.specs.Drafts.{startReply, startBytes}
+use Rattle.bus.specs.Drafts.{start_reply, start_bytes}
 use Rattle.bus.specs.ReplyLaws.{kept}
 use Rattle.bus.specs.DraftLaws.{too_short}
 use borrow.Author.Rules.{rules}
@@ -9,14 +9,14 @@ use Rattle.bus.proofs.drafts.bus_draft_start.Statement.{statement}
 use Rattle.bus.proofs.drafts.bus_draft_start.Tie as tie
 
 returns : tie.Need-returns
-unfolding startReply startBytes
+unfolding start_reply start_bytes
 returns c =
     let a = c.before.before.before.before.before.args in
     let law = too_short (start a.request.now a.table.now) a.lent.now c.before.if1.true in
     (kept _ c.refusal.type-inv ∙ c.refusal.ensures ∙ law.0, law.1)
 
 returns-2 : tie.Need-returns-2
-unfolding startReply startBytes
+unfolding start_reply start_bytes
 returns-2 c =
     let back = c.before.before in
     let made = back.before.before in

@@ -2,7 +2,7 @@
 use mathlib.Core.Path.{◌∙◌}
 use Rattle.draft.specs.Draft.{write}
 use Rattle.bus.specs.ReplyLaws.{kept}
-use Rattle.bus.specs.DraftLaws.{write-short, write-refused, write-made, write-buffer, write-few}
+use Rattle.bus.specs.DraftLaws.{write_short, write_refused, write_made, write_buffer_lem, write_few}
 use borrow.Author.Rules.{rules}
 use Rattle.bus.proofs.drafts.bus_draft_write.Statement.{statement}
 use Rattle.bus.proofs.drafts.bus_draft_write.Tie as tie
@@ -10,7 +10,7 @@ use Rattle.bus.proofs.drafts.bus_draft_write.Tie as tie
 returns : tie.Need-returns
 returns c =
     let a = c.before.before.before.before.before.args in
-    let law = write-short a.request.now a.lent.now a.out.now c.before.if1.true in
+    let law = write_short a.request.now a.lent.now a.out.now c.before.if1.true in
     (kept _ c.refusal.type-inv ∙ c.refusal.ensures ∙ law.0, law.1)
 
 returns-2 : tie.Need-returns-2
@@ -19,12 +19,12 @@ returns-2 c =
     let read = wrote.before.before in
     let test = read.before in
     let w = rw read.read-draft.ensures at wrote.write.ensures in (
-      kept _ c.refusal2.type-inv ∙ c.refusal2.ensures ∙ write-refused _ _ _ test.if1.false _ w.0 c.before.if2.true,
-      w.1 ∙ write-buffer _ _ _ test.if1.false,
+      kept _ c.refusal2.type-inv ∙ c.refusal2.ensures ∙ write_refused _ _ _ test.if1.false _ w.0 c.before.if2.true,
+      w.1 ∙ write_buffer_lem _ _ _ test.if1.false,
     )
 
 value-requires : tie.Need-value-requires
-value-requires c κs = rw c.before.before.before.before.write.ensures.0 (write-few _ _ _)
+value-requires c κs = rw c.before.before.before.before.write.ensures.0 (write_few _ _ _)
 
 returns-3 : tie.Need-returns-3
 returns-3 c =
@@ -32,8 +32,8 @@ returns-3 c =
     let read = wrote.before.before in
     let test = read.before in
     let w = rw read.read-draft.ensures at wrote.write.ensures in (
-      kept _ c.value.type-inv ∙ c.value.ensures ∙ write-made _ _ _ test.if1.false _ w.0 c.before.if2.false,
-      w.1 ∙ write-buffer _ _ _ test.if1.false,
+      kept _ c.value.type-inv ∙ c.value.ensures ∙ write_made _ _ _ test.if1.false _ w.0 c.before.if2.false,
+      w.1 ∙ write_buffer_lem _ _ _ test.if1.false,
     )
 
 pub bus-draft-write-spec : {M : Type 1} → statement M

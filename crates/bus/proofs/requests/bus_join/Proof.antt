@@ -1,27 +1,27 @@
 -- The joined request's answer, of which a refusal is negated and a length is small.
 use mathlib.Core.Path.{◌∙◌}
-use Rattle.bus.specs.ReplyLaws.{kept, written-refused, written-length}
-use Rattle.bus.specs.Join.{joinReply, joinBuffer}
-use Rattle.bus.specs.JoinLaws.{join-few}
+use Rattle.bus.specs.ReplyLaws.{kept, written_refused, written_length}
+use Rattle.bus.specs.Join.{join_reply, join_buffer}
+use Rattle.bus.specs.JoinLaws.{join_few}
 use borrow.Author.Rules.{rules}
 use Rattle.bus.proofs.requests.bus_join.Statement.{statement}
 use Rattle.bus.proofs.requests.bus_join.Tie as tie
 
 returns : tie.Need-returns
-unfolding joinReply joinBuffer
+unfolding join_reply join_buffer
 returns c = (
-  kept _ c.refusal.type-inv ∙ c.refusal.ensures ∙ written-refused _ _ c.before.before.before.before.before.join.ensures.0
+  kept _ c.refusal.type-inv ∙ c.refusal.ensures ∙ written_refused _ _ c.before.before.before.before.before.join.ensures.0
       c.before.if1.true,
   c.before.before.before.before.before.join.ensures.1,
 )
 
 value-requires : tie.Need-value-requires
-value-requires c κs = rw c.before.before.before.before.join.ensures.0 (join-few _ _ _)
+value-requires c κs = rw c.before.before.before.before.join.ensures.0 (join_few _ _ _)
 
 returns-2 : tie.Need-returns-2
-unfolding joinReply joinBuffer
+unfolding join_reply join_buffer
 returns-2 c = (
-  kept _ c.value.type-inv ∙ c.value.ensures ∙ written-length _ _ c.before.before.before.before.before.join.ensures.0
+  kept _ c.value.type-inv ∙ c.value.ensures ∙ written_length _ _ c.before.before.before.before.before.join.ensures.0
       c.before.if1.false,
   c.before.before.before.before.before.join.ensures.1,
 )

@@ -1,7 +1,7 @@
 -- 99 comes first. Then the planner's answer: its count is written, a refusal is negated, and a length is small.
 use mathlib.Core.Path.{◌∙◌}
 use Rattle.bus.specs.ReplyLaws.{kept}
-use Rattle.bus.specs.PlanLaws.{no-count, plan-few, plan-refused, plan-written}
+use Rattle.bus.specs.PlanLaws.{no_count, plan_few, plan_refused, plan_written_lem}
 use borrow.Author.Rules.{rules}
 use Rattle.bus.proofs.tables.bus_plan.Statement.{statement}
 use Rattle.bus.proofs.tables.bus_plan.Tie as tie
@@ -9,7 +9,7 @@ use Rattle.bus.proofs.tables.bus_plan.Tie as tie
 returns : tie.Need-returns
 returns c =
     let a = c.before.before.before.before.before.args in
-    let law = no-count a.allowance a.request.now a.out.now a.tries.now c.before.if1.true in
+    let law = no_count a.allowance a.request.now a.out.now a.tries.now c.before.if1.true in
     (kept _ c.refusal.type-inv ∙ c.refusal.ensures ∙ law.0, law.1, law.2)
 
 returns-2 : tie.Need-returns-2
@@ -18,7 +18,7 @@ returns-2 c =
     let planned = wrote.before.before.before.before in
     let test = planned.before.before in
     let a = test.before.before.before.before.args in
-    let law = plan-refused a.allowance a.request.now a.out.now a.tries.now test.if1.false planned.plan.result planned.plan.ensures.0
+    let law = plan_refused a.allowance a.request.now a.out.now a.tries.now test.if1.false planned.plan.result planned.plan.ensures.0
     _ _ planned.plan.ensures.1 wrote.write-number.ensures c.before.if2.true in
     (kept _ c.refusal2.type-inv ∙ c.refusal2.ensures ∙ law.0, law.1, law.2)
 
@@ -27,7 +27,7 @@ value-requires c κs =
     let planned = c.before.before.before.before.before.before.before.before in
     let test = planned.before.before in
     let a = test.before.before.before.before.args in
-    plan-few a.allowance a.request.now a.out.now a.tries.now test.if1.false planned.plan.result planned.plan.ensures.0
+    plan_few a.allowance a.request.now a.out.now a.tries.now test.if1.false planned.plan.result planned.plan.ensures.0
 
 returns-3 : tie.Need-returns-3
 returns-3 c =
@@ -35,7 +35,7 @@ returns-3 c =
     let planned = wrote.before.before.before.before in
     let test = planned.before.before in
     let a = test.before.before.before.before.args in
-    let law = plan-written a.allowance a.request.now a.out.now a.tries.now test.if1.false planned.plan.result planned.plan.ensures.0
+    let law = plan_written_lem a.allowance a.request.now a.out.now a.tries.now test.if1.false planned.plan.result planned.plan.ensures.0
     _ _ planned.plan.ensures.1 wrote.write-number.ensures c.before.if2.false in
     (kept _ c.value.type-inv ∙ c.value.ensures ∙ law.0, law.1, law.2)
 

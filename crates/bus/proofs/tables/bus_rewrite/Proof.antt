@@ -1,27 +1,27 @@
 -- The rewriter's answer, of which a refusal is negated and a length is small.
 use mathlib.Core.Path.{◌∙◌}
-use Rattle.bus.specs.ReplyLaws.{kept, written-refused, written-length}
-use Rattle.bus.specs.Rewrite.{rewriteReply, rewriteBuffer}
-use Rattle.bus.specs.RewriteLaws.{rewrite-few}
+use Rattle.bus.specs.ReplyLaws.{kept, written_refused, written_length}
+use Rattle.bus.specs.Rewrite.{rewrite_reply, rewrite_buffer}
+use Rattle.bus.specs.RewriteLaws.{rewrite_few}
 use borrow.Author.Rules.{rules}
 use Rattle.bus.proofs.tables.bus_rewrite.Statement.{statement}
 use Rattle.bus.proofs.tables.bus_rewrite.Tie as tie
 
 returns : tie.Need-returns
-unfolding rewriteReply rewriteBuffer
+unfolding rewrite_reply rewrite_buffer
 returns c = (
-  kept _ c.refusal.type-inv ∙ c.refusal.ensures ∙ written-refused _ _ c.before.before.before.before.before.rewrite.ensures.0
+  kept _ c.refusal.type-inv ∙ c.refusal.ensures ∙ written_refused _ _ c.before.before.before.before.before.rewrite.ensures.0
       c.before.if1.true,
   c.before.before.before.before.before.rewrite.ensures.1,
 )
 
 value-requires : tie.Need-value-requires
-value-requires c κs = rw c.before.before.before.before.rewrite.ensures.0 (rewrite-few _ _ _)
+value-requires c κs = rw c.before.before.before.before.rewrite.ensures.0 (rewrite_few _ _ _)
 
 returns-2 : tie.Need-returns-2
-unfolding rewriteReply rewriteBuffer
+unfolding rewrite_reply rewrite_buffer
 returns-2 c = (
-  kept _ c.value.type-inv ∙ c.value.ensures ∙ written-length _ _ c.before.before.before.before.before.rewrite.ensures.0
+  kept _ c.value.type-inv ∙ c.value.ensures ∙ written_length _ _ c.before.before.before.before.before.rewrite.ensures.0
       c.before.if1.false,
   c.before.before.before.before.before.rewrite.ensures.1,
 )

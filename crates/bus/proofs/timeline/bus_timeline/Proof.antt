@@ -2,7 +2,7 @@
 use mathlib.Core.Path.{◌∙◌}
 use native.Mathlib.Omega.{arith}
 use Rattle.bus.specs.ReplyLaws.{kept}
-use Rattle.bus.specs.TimelineLaws.{known, places-there, timeline-refused, timeline-written}
+use Rattle.bus.specs.TimelineLaws.{known, places_there, timeline_refused, timeline_written}
 use borrow.Author.Rules.{rules}
 use Rattle.bus.proofs.timeline.bus_timeline.Statement.{statement}
 use Rattle.bus.proofs.timeline.bus_timeline.Tie as tie
@@ -11,7 +11,7 @@ returns : tie.Need-returns
 returns c =
     let known = c.before.before.before in
     let a = known.before.before.before.before.args in
-    let law = timeline-refused a.request.now a.table.now a.records.now known.known.result known.known.ensures c.before.if1.true in
+    let law = timeline_refused a.request.now a.table.now a.records.now known.known.result known.known.ensures c.before.if1.true in
     (kept _ c.refusal.type-inv ∙ c.refusal.ensures ∙ law.0, law.1)
 
 write-records-requires : tie.Need-write-records-requires
@@ -19,7 +19,7 @@ write-records-requires c κs =
     let at = c.before.before.before in
     let a = at.before.before.before.before.args in (
       (known a.request.now a.table.now a.records.now at.known.result at.known.ensures).few,
-      places-there a.request.now a.table.now a.records.now at.known.result at.known.ensures,
+      places_there a.request.now a.table.now a.records.now at.known.result at.known.ensures,
     )
 
 value-requires : tie.Need-value-requires
@@ -34,7 +34,7 @@ returns-2 c =
     let test = wrote.before.before in
     let known = test.before.before in
     let a = known.before.before.before.before.args in
-    let law = timeline-written a.request.now a.table.now a.records.now known.known.result known.known.ensures test.if1.false
+    let law = timeline_written a.request.now a.table.now a.records.now known.known.result known.known.ensures test.if1.false
     _ wrote.write-records.ensures in
     (kept _ c.value.type-inv ∙ c.value.ensures ∙ law.0, law.1)
 

@@ -6,17 +6,17 @@ use native.Mathlib.Nat.{sub-zero}
 use native.Mathlib.Omega.{arith}
 use borrow.Author.Tests.{eq-eqb, ne_eqb}
 use Rattle.cursor.specs.Padded.{firsts}
-use Rattle.checker.specs.Checked.{isThere}
+use Rattle.checker.specs.Checked.{is_there}
 use Rattle.checker.specs.Answers.{named}
-use Rattle.plan_rules.specs.EveryLaws.{SomeLeft, some_next, some-here, some-none}
-use Rattle.checker.specs.NameLaws.{named-there}
+use Rattle.plan_rules.specs.EveryLaws.{SomeLeft, some_next, some_here, some_none}
+use Rattle.checker.specs.NameLaws.{named_there}
 use borrow.Author.Rules.{rules}
 use Rattle.checker.proofs.walk.is_there.Statement.{statement}
 use Rattle.checker.proofs.walk.is_there.Tie as tie
 
 abbrev invariant-loop : tie.invariant-loop
 invariant-loop names frames count task number k y₀ y =
-    (y ≤ count) × (count ≤ 128) × SomeLeft (isThere (named names count) (firsts count 0 frames) task number k) count y
+    (y ≤ count) × (count ≤ 128) × SomeLeft (is_there (named names count) (firsts count 0 frames) task number k) count y
 
 abbrev decreases-loop : tie.decreases-loop
 decreases-loop names frames count task number k y₀ y = count - y
@@ -30,8 +30,8 @@ returns c =
     let a = test.before.before.args in
     let l = test.before.loop in
     let turn = test.loop-test.true in
-    let here = named-there a.names.now a.frames.now a.count l.y turn a.task a.number a.k in
-    some-here _ a.count l.y turn
+    let here = named_there a.names.now a.frames.now a.count l.y turn a.task a.number a.k in
+    some_here _ a.count l.y turn
     (here ∙ rw (eq-eqb _ _ c.before.before.before.before.if1.true, eq-eqb _ _ c.before.before.if2.true, eq-eqb _ _ c.if3.true))
     ∙ l.invariant.2
 
@@ -41,7 +41,7 @@ loop-again c =
     let a = test.before.before.args in
     let l = test.before.loop in
     let turn = test.loop-test.true in
-    let here = named-there a.names.now a.frames.now a.count l.y turn a.task a.number a.k in
+    let here = named_there a.names.now a.frames.now a.count l.y turn a.task a.number a.k in
     let more : l.y + 1 ≤ a.count = omega arith in
     let next = some_next _ a.count l.y turn in (
       more,
@@ -56,7 +56,7 @@ loop-again c =
 returns-2 : tie.Need-returns-2 invariant-loop decreases-loop
 returns-2 c =
     let l = c.before.loop in
-    some-none _ _ l.y c.loop-test.false ∙ l.invariant.2
+    some_none _ _ l.y c.loop-test.false ∙ l.invariant.2
 
 pub is-there-spec : {M : Type 1} → statement M
 is-there-spec =

@@ -5,9 +5,9 @@ use native.Mathlib.Omega.{arith}
 use borrow.Author.Tests.{not-true, not-false}
 use Rattle.cursor.specs.Padded.{firsts}
 use Rattle.table.specs.Table.{entry_of}
-use Rattle.checker.specs.Checked.{rowKept, entryKept}
-use Rattle.checker.specs.Answers.{entriesIn, named}
-use Rattle.checker.specs.WalkLaws.{entries-start, entry_kept, entry-broken, entries-done}
+use Rattle.checker.specs.Checked.{row_kept, entry_kept}
+use Rattle.checker.specs.Answers.{entries_in, named}
+use Rattle.checker.specs.WalkLaws.{entries_start, entry_kept, entry_broken, entries_done}
 use borrow.Author.Rules.{rules}
 use Rattle.checker.proofs.walk.row_kept.Statement.{statement}
 use Rattle.checker.proofs.walk.row_kept.Tie as tie
@@ -15,14 +15,14 @@ use Rattle.checker.proofs.walk.row_kept.Tie as tie
 abbrev invariant-loop : tie.invariant-loop
 invariant-loop table first n height row names frames count at₀ e₀ at e =
     (e ≤ n) × (at ≤ 200000 + 2 * e)
-    × (rowKept (named names count) (firsts count 0 frames) count height row (entriesIn table (n - e) at)
-    ≡ rowKept (named names count) (firsts count 0 frames) count height row (entriesIn table n first))
+    × (row_kept (named names count) (firsts count 0 frames) count height row (entries_in table (n - e) at)
+    ≡ row_kept (named names count) (firsts count 0 frames) count height row (entries_in table n first))
 
 abbrev decreases-loop : tie.decreases-loop
 decreases-loop table first n height row names frames count at₀ e₀ at e = n - e
 
 loop-holds : tie.Need-loop-init invariant-loop decreases-loop
-loop-holds c = (omega arith, omega (arith, c.before.requires.0), entries-start _ _ _ _ _ _ _ _)
+loop-holds c = (omega arith, omega (arith, c.before.requires.0), entries_start _ _ _ _ _ _ _ _)
 
 frame-requires : tie.Need-frame-requires invariant-loop decreases-loop
 frame-requires c κs = let s = c.before.before.before.before.before.before in (s.requires.1, s.requires.2)
@@ -31,7 +31,7 @@ is-there-requires : tie.Need-is-there-requires invariant-loop decreases-loop
 is-there-requires c κs = c.before.before.before.before.before.before.before.before.requires.3
 
 returns : tie.Need-returns invariant-loop decreases-loop
-unfolding entryKept entry_of
+unfolding entry_kept entry_of
 returns c =
     let frame = c.before.before.before in
     let byte = frame.before.before in
@@ -43,10 +43,10 @@ returns c =
     let frames = firsts a.count 0 a.frames.now in
     let e = rw (frame.frame.ensures, frame.before.is_Carried.ensures, c.before.before.number.ensures, read.byte-or-zero.ensures, byte.byte-or-zero2.ensures)
     at (sym c.before.is-there.ensures ∙ not-true _ c.if1.true) in
-    entry-broken jobs frames a.count a.height a.table.now a.row a.n l.e l.at test.loop-test.true e ∙ l.invariant.2
+    entry_broken jobs frames a.count a.height a.table.now a.row a.n l.e l.at test.loop-test.true e ∙ l.invariant.2
 
 loop-again : tie.Need-loop-preserved invariant-loop decreases-loop
-unfolding entryKept entry_of
+unfolding entry_kept entry_of
 loop-again c =
     let frame = c.before.before.before in
     let byte = frame.before.before in
@@ -64,7 +64,7 @@ returns-2 : tie.Need-returns-2 invariant-loop decreases-loop
 returns-2 c =
     let l = c.before.loop in
     let a = c.before.before.before.args in
-    entries-done (named a.names.now a.count) (firsts a.count 0 a.frames.now) a.count a.height a.table.now
+    entries_done (named a.names.now a.count) (firsts a.count 0 a.frames.now) a.count a.height a.table.now
     a.row a.n l.e l.at c.loop-test.false
     ∙ l.invariant.2
 

@@ -5,9 +5,9 @@ use native.Mathlib.Omega.{arith}
 use lib.ListN.{get_or}
 use borrow.Author.Tests.{not-true, not-false}
 use Rattle.cursor.specs.Padded.{firsts}
-use Rattle.checker.specs.Checked.{rowsKept}
-use Rattle.checker.specs.Answers.{rowsIn, rows_of, named}
-use Rattle.checker.specs.WalkLaws.{rows_start, row_kept, row-broken, rows-done}
+use Rattle.checker.specs.Checked.{rows_kept}
+use Rattle.checker.specs.Answers.{rows_in, rows_of, named}
+use Rattle.checker.specs.WalkLaws.{rows_start, row_kept, row_broken, rows_done}
 use borrow.Author.Rules.{rules}
 use Rattle.checker.proofs.walk.rows_kept.Statement.{statement}
 use Rattle.checker.proofs.walk.rows_kept.Tie as tie
@@ -15,8 +15,8 @@ use Rattle.checker.proofs.walk.rows_kept.Tie as tie
 abbrev invariant-loop : tie.invariant-loop
 invariant-loop table height names frames count at₀ row₀ at row =
     (row ≤ height) × (height ≤ 256) × (at ≤ 7 + row * 511)
-    × (rowsKept (named names count) (firsts count 0 frames) count height row (rowsIn table (height - row) at)
-    ≡ rowsKept (named names count) (firsts count 0 frames) count height 0 (rows_of table height))
+    × (rows_kept (named names count) (firsts count 0 frames) count height row (rows_in table (height - row) at)
+    ≡ rows_kept (named names count) (firsts count 0 frames) count height 0 (rows_of table height))
 
 abbrev decreases-loop : tie.decreases-loop
 decreases-loop table height names frames count at₀ row₀ at row = height - row
@@ -37,7 +37,7 @@ returns c =
     let jobs = named a.names.now a.count in
     let frames = firsts a.count 0 a.frames.now in
     let row = rw c.before.before.byte-or-zero.ensures at (sym c.before.row_kept.ensures ∙ not-true _ c.if1.true) in
-    row-broken jobs frames a.count a.height a.table.now l.row l.at test.loop-test.true row ∙ l.invariant.3
+    row_broken jobs frames a.count a.height a.table.now l.row l.at test.loop-test.true row ∙ l.invariant.3
 
 loop-again : tie.Need-loop-preserved invariant-loop decreases-loop
 loop-again c =
@@ -55,7 +55,7 @@ returns-2 : tie.Need-returns-2 invariant-loop decreases-loop
 returns-2 c =
     let l = c.before.loop in
     let a = c.before.before.before.args in
-    rows-done (named a.names.now a.count) (firsts a.count 0 a.frames.now) a.count a.height a.table.now
+    rows_done (named a.names.now a.count) (firsts a.count 0 a.frames.now) a.count a.height a.table.now
     l.row l.at c.loop-test.false
     ∙ l.invariant.3
 

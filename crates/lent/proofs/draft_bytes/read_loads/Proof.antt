@@ -2,7 +2,7 @@
 use Prim.Native.Nat.{◌≤◌, ◌-◌}
 use native.Mathlib.Omega.{arith}
 use lib.ListN.{length}
-use Rattle.lent.specs.WordLaws.{WordsRead, read-start, read_more, read-end}
+use Rattle.lent.specs.WordLaws.{WordsRead, read_start, read_more, read_end}
 use borrow.Author.Rules.{rules}
 use Rattle.lent.proofs.draft_bytes.read_loads.Statement.{statement}
 use Rattle.lent.proofs.draft_bytes.read_loads.Tie as tie
@@ -14,7 +14,7 @@ abbrev decreases-loop : tie.decreases-loop
 decreases-loop draft loads₀ row₀ loads row = 256 - row
 
 loop-holds : tie.Need-loop-init invariant-loop decreases-loop
-loop-holds c = (omega arith, c.before.requires, read-start _ 258 256)
+loop-holds c = (omega arith, c.before.requires, read_start _ 258 256)
 
 loop-again : tie.Need-loop-preserved invariant-loop decreases-loop
 loop-again c =
@@ -22,7 +22,7 @@ loop-again c =
     (omega arith, l.invariant.1, rw c.word.ensures (read_more _ 258 256 _ _ l.invariant.2 c.before.before.before.loop-test.true))
 
 returns : tie.Need-returns invariant-loop decreases-loop
-returns c = read-end _ 258 256 _ _ c.before.loop.invariant.2 c.loop-test.false
+returns c = read_end _ 258 256 _ _ c.before.loop.invariant.2 c.loop-test.false
 
 pub read-loads-spec : {M : Type 1} → statement M
 read-loads-spec =

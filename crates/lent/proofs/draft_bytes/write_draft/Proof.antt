@@ -1,6 +1,6 @@
 -- A word, the frames behind it and the loads behind these are the draft's bytes.
 use mathlib.Core.Path.{◌∙◌}
-use Rattle.lent.specs.DraftByteLaws.{draft-stored}
+use Rattle.lent.specs.DraftByteLaws.{draft_stored}
 use borrow.Author.Rules.{rules}
 use Rattle.lent.proofs.draft_bytes.write_draft.Statement.{statement}
 use Rattle.lent.proofs.draft_bytes.write_draft.Tie as tie
@@ -11,7 +11,7 @@ returns c =
     let frames = loads.before.before.before.before.before in
     let put = frames.before.before.before.before.before in
     let s = put.before.before.before in
-    loads.write-loads.ensures ∙ rw (frames.write-frames.ensures, put.put_word.ensures) (draft-stored s.args.new s.args.draft.now s.requires)
+    loads.write-loads.ensures ∙ rw (frames.write-frames.ensures, put.put_word.ensures) (draft_stored s.args.new s.args.draft.now s.requires)
 
 pub write-draft-spec : {M : Type 1} → statement M
 write-draft-spec =

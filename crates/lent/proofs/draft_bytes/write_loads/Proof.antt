@@ -2,7 +2,7 @@
 use Prim.Native.Nat.{◌≤◌, ◌-◌}
 use native.Mathlib.Omega.{arith}
 use lib.ListN.{length}
-use Rattle.lent.specs.WordLaws.{WordsStored, stored-start, stored_more, stored-end}
+use Rattle.lent.specs.WordLaws.{WordsStored, stored_start, stored_more, stored_end}
 use borrow.Author.Rules.{rules}
 use Rattle.lent.proofs.draft_bytes.write_loads.Statement.{statement}
 use Rattle.lent.proofs.draft_bytes.write_loads.Tie as tie
@@ -14,7 +14,7 @@ abbrev decreases-loop : tie.decreases-loop
 decreases-loop draft₀ loads row₀ draft row = 256 - row
 
 loop-holds : tie.Need-loop-init invariant-loop decreases-loop
-loop-holds c = (omega arith, c.before.requires, stored-start _ _ 258 256 (omega (arith, c.before.requires)))
+loop-holds c = (omega arith, c.before.requires, stored_start _ _ 258 256 (omega (arith, c.before.requires)))
 
 loop-again : tie.Need-loop-preserved invariant-loop decreases-loop
 loop-again c =
@@ -27,7 +27,7 @@ same_length : tie.Need-same-length invariant-loop decreases-loop
 same_length c = c.before.loop.invariant.2.long
 
 returns : tie.Need-returns invariant-loop decreases-loop
-returns c = stored-end _ _ 258 256 _ _ c.before.loop.invariant.2 c.loop-test.false
+returns c = stored_end _ _ 258 256 _ _ c.before.loop.invariant.2 c.loop-test.false
 
 pub write-loads-spec : {M : Type 1} → statement M
 write-loads-spec =

@@ -4,14 +4,14 @@ use mathlib.Core.Path.{◌≡◌}
 use native.Mathlib.Omega.{arith}
 use lib.ListN.{length-set}
 use Rattle.cursor.specs.Pieces.{PartWay}
-use Rattle.lent.specs.Entries.{entryBytes}
-use Rattle.lent.specs.EntryLaws.{pairs_start, pairs-room, pairs-more, pairs_end}
+use Rattle.lent.specs.Entries.{entry_bytes}
+use Rattle.lent.specs.EntryLaws.{pairs_start, pairs_room, pairs_more, pairs_end}
 use borrow.Author.Rules.{rules}
 use Rattle.lent.proofs.entries.write_pairs.Statement.{statement}
 use Rattle.lent.proofs.entries.write_pairs.Tie as tie
 
 abbrev invariant-loop : tie.invariant-loop
-invariant-loop entries₀ tasks jobs at₀ i₀ entries at i = (i ≤ 16) × (at ≡ i + i) × PartWay (entryBytes tasks jobs 16 0) entries₀ entries (entryBytes tasks jobs (16 - i) i) at
+invariant-loop entries₀ tasks jobs at₀ i₀ entries at i = (i ≤ 16) × (at ≡ i + i) × PartWay (entry_bytes tasks jobs 16 0) entries₀ entries (entry_bytes tasks jobs (16 - i) i) at
 
 abbrev decreases-loop : tie.decreases-loop
 decreases-loop entries₀ tasks jobs at₀ i₀ entries at i = 16 - i
@@ -20,19 +20,19 @@ loop-holds : tie.Need-loop-init invariant-loop decreases-loop
 loop-holds c = (omega arith, omega arith, pairs_start _ _ c.args.entries.now c.requires)
 
 slice-write-entries : tie.Need-slice-write-entries invariant-loop decreases-loop
-slice-write-entries c = omega (arith, pairs-room _ _ _ _ _ _ c.before.loop.invariant.2 c.loop-test.true)
+slice-write-entries c = omega (arith, pairs_room _ _ _ _ _ _ c.before.loop.invariant.2 c.loop-test.true)
 
 add-entries : tie.Need-overflow-add-entries invariant-loop decreases-loop
 add-entries c = omega (arith, c.before.loop.invariant.1)
 
 slice-write-entries-2 : tie.Need-slice-write-entries-2 invariant-loop decreases-loop
-slice-write-entries-2 c = simp length-set (omega (arith, pairs-room _ _ _ _ _ _ c.before.loop.invariant.2 c.loop-test.true))
+slice-write-entries-2 c = simp length-set (omega (arith, pairs_room _ _ _ _ _ _ c.before.loop.invariant.2 c.loop-test.true))
 
 add_at : tie.Need-overflow-add-at invariant-loop decreases-loop
 add_at c = omega (arith, c.before.loop.invariant.1)
 
 loop-again : tie.Need-loop-preserved invariant-loop decreases-loop
-loop-again c = (omega arith, omega (arith, c.before.loop.invariant.1), pairs-more _ _ _ _ _ _ c.before.loop.invariant.2 c.loop-test.true)
+loop-again c = (omega arith, omega (arith, c.before.loop.invariant.1), pairs_more _ _ _ _ _ _ c.before.loop.invariant.2 c.loop-test.true)
 
 same_length : tie.Need-same-length invariant-loop decreases-loop
 same_length c = c.before.loop.invariant.2.long

@@ -1,7 +1,7 @@
 -- The state, and four stores behind it.
 use native.Mathlib.Omega.{arith}
 use lib.ListN.{length-set}
-use Rattle.lent.specs.HeaterByteLaws.{heater-stored}
+use Rattle.lent.specs.HeaterByteLaws.{heater_stored}
 use borrow.Author.Rules.{rules}
 use Rattle.lent.proofs.heater_bytes.write_heater.Statement.{statement}
 use Rattle.lent.proofs.heater_bytes.write_heater.Tie as tie
@@ -26,7 +26,7 @@ returns c =
     let w = c.before.before.before.before in
     let start = w.before.before.before in
     let a = start.args in
-    heater-stored a.link a.toggled a.answered a.heater.now _ w.write-state.ensures (omega (arith, w.write-state.auto.0, start.requires))
+    heater_stored a.link a.toggled a.answered a.heater.now _ w.write-state.ensures (omega (arith, w.write-state.auto.0, start.requires))
 
 pub write-heater-spec : {M : Type 1} → statement M
 write-heater-spec =

@@ -1,6 +1,6 @@
 -- Four words, each behind the one before, are the bytes of the counts.
 use borrow.Author.Rules.{rules}
-use Rattle.lent.specs.NumberLaws.{counts-stored}
+use Rattle.lent.specs.NumberLaws.{counts_stored}
 use Rattle.lent.proofs.numbers.write_phases.Statement.{statement}
 use Rattle.lent.proofs.numbers.write_phases.Tie as tie
 
@@ -12,7 +12,7 @@ returns c =
     let first = second.before.before.before.before in
     let s = first.before.before.before in
     rw (fourth.put-word4.ensures, third.put-word3.ensures, second.put-word2.ensures, first.put_word.ensures)
-    (counts-stored s.args.found s.args.counts.now s.requires)
+    (counts_stored s.args.found s.args.counts.now s.requires)
 
 pub write-phases-spec : {M : Type 1} → statement M
 write-phases-spec =

@@ -2,7 +2,7 @@
 use mathlib.Core.Path.{◌∙◌}
 use native.Mathlib.Omega.{arith}
 use lib.ListN.{length-set}
-use Rattle.lent.specs.RecordLaws.{record-stored}
+use Rattle.lent.specs.RecordLaws.{record_stored}
 use borrow.Author.Rules.{rules}
 use Rattle.lent.proofs.records.write_record.Statement.{statement}
 use Rattle.lent.proofs.records.write_record.Tie as tie
@@ -23,7 +23,7 @@ returns c =
     let two = three.before.before.before.before in
     let one = two.before.before.before.before in
     let s = one.before.before.before in
-    rw (three.put-word3.ensures, two.put-word2.ensures, one.put_word.ensures) (record-stored s.args.out.now s.args.job s.requires)
+    rw (three.put-word3.ensures, two.put-word2.ensures, one.put_word.ensures) (record_stored s.args.out.now s.args.job s.requires)
 
 pub write-record-spec : {M : Type 1} → statement M
 write-record-spec =

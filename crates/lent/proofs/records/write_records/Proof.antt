@@ -5,7 +5,7 @@ use mathlib.Core.Path.{◌≡◌}
 use native.Mathlib.Omega.{arith}
 use lib.ListN.{length, length-drop}
 use Rattle.cursor.specs.Parts.{rest_part, rest_put}
-use Rattle.lent.specs.RecordLaws.{RecordsPart, records-start, record-room, record-placed, records-end}
+use Rattle.lent.specs.RecordLaws.{RecordsPart, records_start, record_room, record_placed, records_end}
 use Rattle.lent.proofs.records.write_records.Statement.{statement}
 use Rattle.lent.proofs.records.write_records.Tie as tie
 
@@ -16,13 +16,13 @@ abbrev decreases-loop : tie.decreases-loop
 decreases-loop out₀ known n at₀ y₀ out at y = known.count - y
 
 loop-holds : tie.Need-loop-init invariant-loop decreases-loop
-loop-holds c = (omega arith, c.before.requires.0, omega arith, records-start c.before.args.known c.before.args.out.now c.before.requires.1)
+loop-holds c = (omega arith, c.before.requires.0, omega arith, records_start c.before.args.known c.before.args.out.now c.before.requires.1)
 
 -- a record has eight places
 room : (c : tie.After-record-at invariant-loop decreases-loop) → let l = c.before.before.loop in l.at + 8 ≤ length l.out
 room c =
     let l = c.before.before.loop in
-    record-room _ _ _ _ _ l.invariant.3 c.before.loop-test.true
+    record_room _ _ _ _ _ l.invariant.3 c.before.loop-test.true
 
 sub-write-record : tie.Need-overflow-sub-write-record invariant-loop decreases-loop
 sub-write-record c = omega (arith, room c)
@@ -39,14 +39,14 @@ loop-again c =
     let test = wrote.before.before.before in
     let l = test.before.loop in
     let more = test.loop-test.true in
-    let placed = rw (rest_part, wrote.before.before.record-at.ensures) at wrote.write-record.ensures in
-    (omega arith, l.invariant.1, omega arith, rw rest_put (record-placed _ _ _ _ _ l.invariant.3 more _ placed))
+    let placed = rw (rest_part, wrote.before.before.record_at.ensures) at wrote.write-record.ensures in
+    (omega arith, l.invariant.1, omega arith, rw rest_put (record_placed _ _ _ _ _ l.invariant.3 more _ placed))
 
 same_length : tie.Need-same-length invariant-loop decreases-loop
 same_length c = c.before.loop.invariant.3.long
 
 returns : tie.Need-returns invariant-loop decreases-loop
-returns c = records-end _ _ _ _ _ c.before.loop.invariant.3 c.loop-test.false
+returns c = records_end _ _ _ _ _ c.before.loop.invariant.3 c.loop-test.false
 
 pub write-records-spec : {M : Type 1} → statement M
 write-records-spec =

@@ -2,7 +2,7 @@
 use mathlib.Core.Path.{◌∙◌}
 use native.Mathlib.Omega.{arith}
 use lib.ListN.{length-set}
-use Rattle.lent.specs.StateLaws.{state-stored}
+use Rattle.lent.specs.StateLaws.{state_stored}
 use borrow.Author.Rules.{rules}
 use Rattle.lent.proofs.state.write_state.Statement.{statement}
 use Rattle.lent.proofs.state.write_state.Tie as tie
@@ -23,7 +23,7 @@ returns c =
     let w = c.before.before in
     let put = w.before.before.before.before.before.before in
     let s = put.before.before.before in
-    w.write-counts.ensures ∙ rw put.Store-word.ensures (state-stored s.args.new s.args.state.now s.requires)
+    w.write-counts.ensures ∙ rw put.Store-word.ensures (state_stored s.args.new s.args.state.now s.requires)
 
 pub write-state-spec : {M : Type 1} → statement M
 write-state-spec =

@@ -2,7 +2,7 @@
 use native.Mathlib.Omega.{arith}
 use lib.ListN.{length-set}
 use borrow.Author.Rules.{rules}
-use Rattle.cursor.specs.WordBytesLaws.{bytes-stored}
+use Rattle.cursor.specs.WordBytesLaws.{bytes_stored}
 use Rattle.lent.proofs.words.store_word.Statement.{statement}
 use Rattle.lent.proofs.words.store_word.Tie as tie
 
@@ -10,7 +10,7 @@ slice-write-bytes-2 : tie.Need-slice-write-bytes-2
 slice-write-bytes-2 c = simp length-set (omega (arith, c.requires))
 
 returns : tie.Need-returns
-returns c = bytes-stored _ c.args.at c.args.w
+returns c = bytes_stored _ c.args.at c.args.w
 
 pub store-word-spec : {M : Type 1} → statement M
 store-word-spec =

@@ -1,7 +1,7 @@
 -- The four texts that are put, one behind the other, are the name.
 use borrow.Author.Rules.{rules}
-use Rattle.text.specs.TextLaws.{put-none, put-more, put-append}
-use Rattle.plan_listing.specs.ListingLaws.{named-bytes}
+use Rattle.text.specs.TextLaws.{put_none, put_more, put_append}
+use Rattle.plan_listing.specs.ListingLaws.{named_bytes}
 use Rattle.plan_listing.proofs.entry.put_name.Statement.{statement}
 use Rattle.plan_listing.proofs.entry.put_name.Tie as tie
 
@@ -11,8 +11,8 @@ returns c =
     let dot = number.before.before.before.before.before in
     let task = dot.before.before.before.before in
     let space = task.before.before.before.before in
-    rw (named-bytes, number.put-number2.ensures, number.before.number.ensures, dot.put2.ensures, task.put-number.ensures, space.put.ensures)
-    (simp (put-append, put-more, put-none))
+    rw (named_bytes, number.put-number2.ensures, number.before.number.ensures, dot.put2.ensures, task.put-number.ensures, space.put.ensures)
+    (simp (put_append, put_more, put_none))
 
 pub put-name-spec : {M : Type 1} → statement M
 put-name-spec =

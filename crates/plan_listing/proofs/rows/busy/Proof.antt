@@ -7,15 +7,15 @@ use native.Mathlib.Nat.{sub-zero, zero-add}
 use native.Mathlib.Omega.{arith}
 use lib.ListN.{get_or}
 use Rattle.table.specs.AnswerLaws.{entries_at}
-use Rattle.plan_listing.specs.Listing.{busyTicks}
-use Rattle.plan_listing.specs.ListingLaws.{ticks-are, busy-turn, busy-end}
+use Rattle.plan_listing.specs.Listing.{busy_ticks}
+use Rattle.plan_listing.specs.ListingLaws.{ticks_are, busy_turn, busy_end}
 use Rattle.plan_listing.proofs.rows.busy.Statement.{statement}
 use Rattle.plan_listing.proofs.rows.busy.Tie as tie
 
 abbrev invariant-loop : tie.invariant-loop
 invariant-loop tasks n entries sum₀ i₀ sum i =
     (i ≤ n) × (n ≤ 16) × (sum ≤ i * 65535)
-    × ((jobs : List ℕ) → sum + busyTicks tasks (entries_at entries jobs (n - i) i) ≡ busyTicks tasks (entries_at entries jobs n 0))
+    × ((jobs : List ℕ) → sum + busy_ticks tasks (entries_at entries jobs (n - i) i) ≡ busy_ticks tasks (entries_at entries jobs n 0))
 
 abbrev decreases-loop : tie.decreases-loop
 decreases-loop tasks n entries sum₀ i₀ sum i = n - i
@@ -33,14 +33,14 @@ loop-again c =
       omega arith,
       l.invariant.1,
       omega (arith, c.cost.type-inv, l.invariant.2),
-      λ jobs. omega (arith, c.cost.ensures, ticks-are s.tasks (get_or s.row.tasks l.i 0) c.before.before.before.before.requires.1, busy-turn s.row.tasks jobs s.row.count l.i s.tasks more, l.invariant.3 jobs),
+      λ jobs. omega (arith, c.cost.ensures, ticks_are s.tasks (get_or s.row.tasks l.i 0) c.before.before.before.before.requires.1, busy_turn s.row.tasks jobs s.row.count l.i s.tasks more, l.invariant.3 jobs),
     )
 
 returns : tie.Need-returns invariant-loop decreases-loop
 returns c =
     let s = c.before.before.before.args in
     let l = c.before.loop in
-    omega (arith, busy-end s.row.tasks s.row.jobs s.row.count l.i s.tasks c.loop-test.false, l.invariant.3 s.row.jobs)
+    omega (arith, busy_end s.row.tasks s.row.jobs s.row.count l.i s.tasks c.loop-test.false, l.invariant.3 s.row.jobs)
 
 pub busy-spec : {M : Type 1} → statement M
 busy-spec =

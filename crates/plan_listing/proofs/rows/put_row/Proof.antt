@@ -1,5 +1,5 @@
 -- The parts of the line, in their order.
-use Rattle.text.specs.TextLaws.{put-none, put-more, put-append}
+use Rattle.text.specs.TextLaws.{put_none, put_more, put_append}
 use Rattle.plan_listing.specs.Listing.{row_line}
 use borrow.Author.Rules.{rules}
 use Rattle.plan_listing.proofs.rows.put_row.Statement.{statement}
@@ -14,7 +14,7 @@ returns c =
     let space = ticks.before.before.before.before.before in
     let number = space.before.before.before.before in
     rw (end.put2.ensures, entries.put_entries.ensures, ticks.put-number2.ensures, ticks.before.busy.ensures, space.put.ensures, number.put-number.ensures)
-    (simp (put-append, put-more, put-none))
+    (simp (put_append, put_more, put_none))
 
 pub put-row-spec : {M : Type 1} → statement M
 put-row-spec =

@@ -6,18 +6,18 @@ use native.Mathlib.Omega.{arith}
 use lib.ListN.{length, drop}
 use Rattle.cursor.specs.Fields.{Bytes}
 use Rattle.table.specs.Table.{decode}
-use Rattle.table.specs.RowsLeft.{RowsLeft, rows-begin}
-use Rattle.text.specs.Text.{filledTo, putAllOf}
+use Rattle.table.specs.RowsLeft.{RowsLeft, rows_begin}
+use Rattle.text.specs.Text.{filled_to, put_all_of}
 use Rattle.plan_listing.specs.Listing.{row_lines}
-use Rattle.plan_listing.specs.Answers.{tableIn}
-use Rattle.plan_listing.specs.ListingLaws.{rows-turn, rows_end, row-taken}
+use Rattle.plan_listing.specs.Answers.{table_in}
+use Rattle.plan_listing.specs.ListingLaws.{rows_turn, rows_end, row_taken}
 use Rattle.plan_listing.proofs.rows.put_rows.Statement.{statement}
 use Rattle.plan_listing.proofs.rows.put_rows.Tie as tie
 
 abbrev invariant-loop : tie.invariant-loop
 invariant-loop out₀ at table height tasks end₀ here₀ k₀ out end here k =
     (k ≤ height) × (length out ≡ length out₀) × RowsLeft table here.at k
-    × (putAllOf (filledTo end out) (row_lines tasks k (drop k (tableIn (decode table)).rows)) ≡ putAllOf (filledTo at out₀) (row_lines tasks 0 (tableIn (decode table)).rows))
+    × (put_all_of (filled_to end out) (row_lines tasks k (drop k (table_in (decode table)).rows)) ≡ put_all_of (filled_to at out₀) (row_lines tasks 0 (table_in (decode table)).rows))
 
 abbrev decreases-loop : tie.decreases-loop
 decreases-loop out₀ at table height tasks end₀ here₀ k₀ out end here k = height - k
@@ -26,7 +26,7 @@ bytes : (c : tie.After-shared-slice-known invariant-loop decreases-loop) → Byt
 bytes c = λ i. omega (arith, c.shared-slice-known.given i)
 
 loop-holds : tie.Need-loop-init invariant-loop decreases-loop
-loop-holds c = (omega arith, refl, rw c.first-row.ensures (rows-begin _), refl)
+loop-holds c = (omega arith, refl, rw c.first_row_lem.ensures (rows_begin _), refl)
 
 put-row-requires : tie.Need-put-row-requires invariant-loop decreases-loop
 put-row-requires c κs =
@@ -34,8 +34,8 @@ put-row-requires c κs =
     let known = c.before.before.before.before.before.before in
     let s = known.before.before in
     let taken = c.before.before.next_row in
-    let below : l.k < length (tableIn (decode s.args.table.now)).rows = omega (arith, c.before.before.before.loop-test.true, s.requires.0) in
-    ((row-taken s.args.table.now l.here.at l.k l.invariant.2 (bytes known) taken.result taken.ensures below).0.few, s.requires.1)
+    let below : l.k < length (table_in (decode s.args.table.now)).rows = omega (arith, c.before.before.before.loop-test.true, s.requires.0) in
+    ((row_taken s.args.table.now l.here.at l.k l.invariant.2 (bytes known) taken.result taken.ensures below).0.few, s.requires.1)
 
 loop-again : tie.Need-loop-preserved invariant-loop decreases-loop
 loop-again c =
@@ -46,16 +46,16 @@ loop-again c =
     let more = turn.before.before.before.loop-test.true in
     let taken = turn.before.before.next_row in
     let put = c.before.before.put-row in
-    let rows = (tableIn (decode s.args.table.now)).rows in
+    let rows = (table_in (decode s.args.table.now)).rows in
     let below : l.k < length rows = omega (arith, more, s.requires.0) in
-    let read = row-taken s.args.table.now l.here.at l.k l.invariant.2 (bytes known) taken.result taken.ensures below in
-    (omega (arith, more), put.auto.0 ∙ l.invariant.1, read.1, rw (put.ensures, read.0.entries) (rows-turn s.args.tasks rows l.k _ below) ∙ l.invariant.3)
+    let read = row_taken s.args.table.now l.here.at l.k l.invariant.2 (bytes known) taken.result taken.ensures below in
+    (omega (arith, more), put.auto.0 ∙ l.invariant.1, read.1, rw (put.ensures, read.0.entries) (rows_turn s.args.tasks rows l.k _ below) ∙ l.invariant.3)
 
 returns : tie.Need-returns invariant-loop decreases-loop
 returns c =
     let s = c.before.before.before.before.before in
     let l = c.before.loop in
-    let rows = (tableIn (decode s.args.table.now)).rows in
+    let rows = (table_in (decode s.args.table.now)).rows in
     sym (rows_end s.args.tasks rows l.k _ (omega (arith, c.loop-test.false, s.requires.0))) ∙ l.invariant.3
 
 pub put-rows-spec : {M : Type 1} → statement M

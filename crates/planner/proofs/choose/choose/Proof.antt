@@ -2,21 +2,21 @@
 use Prim.Native.Nat.{◌-◌}
 use mathlib.Core.Path.{◌∙◌}
 use native.Mathlib.Omega.{arith}
-use Rattle.model.specs.Answers.{instanceOf}
+use Rattle.model.specs.Answers.{instance_of}
 use Rattle.planner.specs.TriedLaws.{searchable}
-use Rattle.planner.specs.ChoiceLaws.{Searching, searching-start, left_less, none-with, one-with, out-with, passed}
+use Rattle.planner.specs.ChoiceLaws.{Searching, searching_start, left_less, none_with, one_with, out_with, passed}
 use borrow.Author.Rules.{rules}
 use Rattle.planner.proofs.choose.choose.Statement.{statement}
 use Rattle.planner.proofs.choose.choose.Tie as tie
 
 abbrev invariant-loop : tie.invariant-loop
-invariant-loop cycle allowed cost links some₀ left₀ rows₀ some left rows = Searching (instanceOf cycle) allowed left rows some
+invariant-loop cycle allowed cost links some₀ left₀ rows₀ some left rows = Searching (instance_of cycle) allowed left rows some
 
 abbrev decreases-loop : tie.decreases-loop
 decreases-loop cycle allowed cost links some₀ left₀ rows₀ some left rows = 257 - rows
 
 loop-holds : tie.Need-loop-init invariant-loop decreases-loop
-loop-holds c = searching-start c.before.before.before.args.allowed c.next-tried.ensures
+loop-holds c = searching_start c.before.before.before.args.allowed c.next-tried.ensures
 
 plan-with-requires : tie.Need-plan-with-requires invariant-loop decreases-loop
 plan-with-requires c κs =
@@ -31,7 +31,7 @@ returns : tie.Need-returns invariant-loop decreases-loop
 returns c =
     let planned = c.before.before.before in
     let test = planned.before.before in
-    c.none-chosen.ensures ∙ out-with test.before.loop.invariant test.loop-test.true planned.plan-with.ensures c.before.if1.true
+    c.none_chosen_lem.ensures ∙ out_with test.before.loop.invariant test.loop-test.true planned.plan-with.ensures c.before.if1.true
 
 sub-t12 : tie.Need-overflow-sub-t12 invariant-loop decreases-loop
 sub-t12 c =
@@ -43,7 +43,7 @@ returns-2 : tie.Need-returns-2 invariant-loop decreases-loop
 returns-2 c =
     let planned = c.before.before.before.before.before in
     let test = planned.before.before in
-    one-with test.before.loop.invariant test.loop-test.true planned.plan-with.ensures c.before.before.before.if1.false c.before.if2.true
+    one_with test.before.loop.invariant test.loop-test.true planned.plan-with.ensures c.before.before.before.if1.false c.before.if2.true
 
 loop-less : tie.Need-loop-smaller invariant-loop decreases-loop
 loop-less c =
@@ -54,7 +54,7 @@ loop-again : tie.Need-loop-preserved invariant-loop decreases-loop
 loop-again c =
     let planned = c.before.before.before.before.before in
     let test = planned.before.before in
-    none-with test.before.loop.invariant test.loop-test.true planned.plan-with.ensures c.before.before.before.if1.false c.before.if2.false
+    none_with test.before.loop.invariant test.loop-test.true planned.plan-with.ensures c.before.before.before.if1.false c.before.if2.false
     c.next-tried2.ensures
 
 returns-3 : tie.Need-returns-3 invariant-loop decreases-loop

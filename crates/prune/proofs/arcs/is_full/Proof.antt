@@ -1,7 +1,7 @@
 -- What is over by this step is none.
 use native.Mathlib.Omega.{arith}
 use mathlib.Core.Bool.{false≢true}
-use Rattle.prune.proofs.ArcLaws.{none-of-over}
+use Rattle.prune.proofs.ArcLaws.{none_of_over}
 use borrow.Author.Rules.{rules}
 use Rattle.prune.proofs.arcs.is_full.Statement.{statement}
 use Rattle.prune.proofs.arcs.is_full.Tie as tie
@@ -16,8 +16,8 @@ some-over-requires : tie.Need-some-over-requires
 some-over-requires c κs = (
   (
     c.before.before.before.before.before.before.before.requires.0.few,
-    c.before.before.before.before.before.before.before.requires.0.proper.some-row,
-    c.before.before.before.before.before.before.before.requires.0.few-rows,
+    c.before.before.before.before.before.before.before.requires.0.proper.some_row,
+    c.before.before.before.before.before.before.before.requires.0.few_rows,
   ),
   c.before.before.weights-of.ensures.1,
 )
@@ -26,7 +26,7 @@ returns-2 : tie.Need-returns-2
 returns-2 c =
     let s = c.before.before.before.before.before.before.before.before in
     let weights-of = c.before.before.before.weights-of in
-    λ e. none-of-over s.requires.0 s.args.k (omega (arith, c.before.before.before.before.if1.false)) weights-of.ensures.0 c.before.room_of.ensures (c.some-over.ensures e)
+    λ e. none_of_over s.requires.0 s.args.k (omega (arith, c.before.before.before.before.if1.false)) weights-of.ensures.0 c.before.room_of.ensures (c.some-over.ensures e)
 
 pub is-full-spec : {M : Type 1} → statement M
 is-full-spec =

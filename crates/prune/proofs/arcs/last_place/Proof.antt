@@ -2,7 +2,7 @@
 use native.Mathlib.Omega.{arith}
 use Prim.Native.Nat.{◌+◌, ◌-◌}
 use native.Mathlib.Nat.{mod-lt}
-use Rattle.prune.proofs.ArcLaws.{last-round, last-near}
+use Rattle.prune.proofs.ArcLaws.{last_round, last_near}
 use borrow.Author.Rules.{rules}
 use Rattle.prune.proofs.arcs.last_place.Statement.{statement}
 use Rattle.prune.proofs.arcs.last_place.Tie as tie
@@ -14,13 +14,13 @@ returns : tie.Need-returns
 returns c =
     let s = c.before.before in
     let span = c.before.span in
-    (last-round s.args.rows s.args.s s.args.l s.args.h (rw (← span.ensures) c.if1.true), omega (arith, s.requires.0))
+    (last_round s.args.rows s.args.s s.args.l s.args.h (rw (← span.ensures) c.if1.true), omega (arith, s.requires.0))
 
 returns-2 : tie.Need-returns-2
 returns-2 c =
     let s = c.before.before in
     let span = c.before.span in
-    (rw span.ensures (last-near s.args.rows s.args.s s.args.l s.args.h (rw (← span.ensures) c.if1.false)), c.if1.false)
+    (rw span.ensures (last_near s.args.rows s.args.s s.args.l s.args.h (rw (← span.ensures) c.if1.false)), c.if1.false)
 
 pub last-place-spec : {M : Type 1} → statement M
 last-place-spec =

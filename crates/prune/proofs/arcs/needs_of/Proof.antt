@@ -2,20 +2,20 @@
 use native.Mathlib.Omega.{arith}
 use Prim.Native.Nat.{◌≤◌, ◌-◌}
 use mathlib.Core.Path.{◌≡◌, refl, sym}
-use Rattle.prune.specs.Arcs.{last_by, weightBy, Needed}
-use Rattle.prune.proofs.ArcLaws.{needed-none, needed-more}
+use Rattle.prune.specs.Arcs.{last_by, weight_by, Needed}
+use Rattle.prune.proofs.ArcLaws.{needed_none, needed_more}
 use borrow.Author.Rules.{rules}
 use Rattle.prune.proofs.arcs.needs_of.Statement.{statement}
 use Rattle.prune.proofs.arcs.needs_of.Tie as tie
 
 abbrev invariant-loop : tie.invariant-loop
-invariant-loop weights low high n rows s need₀ i₀ need i = (i ≤ n) × Needed (last_by rows s low high) (weightBy weights) i need
+invariant-loop weights low high n rows s need₀ i₀ need i = (i ≤ n) × Needed (last_by rows s low high) (weight_by weights) i need
 
 abbrev decreases-loop : tie.decreases-loop
 decreases-loop weights low high n rows s need₀ i₀ need i = n - i
 
 loop-holds : tie.Need-loop-init invariant-loop decreases-loop
-loop-holds c = (omega arith, needed-none (last_by c.args.rows c.args.s c.args.low.now c.args.high.now) (weightBy c.args.weights.now))
+loop-holds c = (omega arith, needed_none (last_by c.args.rows c.args.s c.args.low.now c.args.high.now) (weight_by c.args.weights.now))
 
 mul-last-place : tie.Need-overflow-mul-last-place invariant-loop decreases-loop
 mul-last-place c = omega (arith, c.before.before.requires.0.0, c.loop-test.true)
@@ -68,7 +68,7 @@ loop-again c =
     let loop = c.before.before.before.before.before.loop in
     let test = c.before.before.before.before.loop-test in
     let last-place = c.before.last-place in
-    (omega (arith, test.true), needed-more loop.invariant.1 last-place.ensures.0 refl (omega (arith, last-place.ensures.1, s.requires.0.2)) (s.requires.1.each loop.i test.true))
+    (omega (arith, test.true), needed_more loop.invariant.1 last-place.ensures.0 refl (omega (arith, last-place.ensures.1, s.requires.0.2)) (s.requires.1.each loop.i test.true))
 
 returns : tie.Need-returns invariant-loop decreases-loop
 returns c =

@@ -2,24 +2,24 @@
 use native.Mathlib.Omega.{arith}
 use Prim.Native.Nat.{◌≤◌, ◌<◌, ◌-◌}
 use mathlib.Core.Path.{◌≡◌, sym, ap, ◌∙◌}
-use Rattle.searcher.specs.Arrays.{partIn}
+use Rattle.searcher.specs.Arrays.{part_in}
 use Rattle.prune.specs.Arrays.{Filled}
 use Rattle.exact.specs.Arcs.{step_of}
-use Rattle.prune.specs.Arcs.{stepBy, Light}
+use Rattle.prune.specs.Arcs.{step_by, Light}
 use Rattle.prune.proofs.Laws.{filled_none, filled_more}
-use Rattle.prune.proofs.ArcLaws.{light-none, light-more, step_small}
+use Rattle.prune.proofs.ArcLaws.{light_none, light_more, step_small}
 use borrow.Author.Rules.{rules}
 use Rattle.prune.proofs.arcs.weights_of.Statement.{statement}
 use Rattle.prune.proofs.arcs.weights_of.Tie as tie
 
 abbrev invariant-loop : tie.invariant-loop
-invariant-loop given n f k out₀ i₀ out i = (i ≤ n) × Filled (stepBy f k (partIn given 0)) i out × Light out i
+invariant-loop given n f k out₀ i₀ out i = (i ≤ n) × Filled (step_by f k (part_in given 0)) i out × Light out i
 
 abbrev decreases-loop : tie.decreases-loop
 decreases-loop given n f k out₀ i₀ out i = n - i
 
 loop-holds : tie.Need-loop-init invariant-loop decreases-loop
-loop-holds c = (omega arith, filled_none (stepBy c.args.f c.args.k (partIn c.args.given.now 0)), light-none _)
+loop-holds c = (omega arith, filled_none (step_by c.args.f c.args.k (part_in c.args.given.now 0)), light_none _)
 
 entry-requires : tie.Need-entry-requires invariant-loop decreases-loop
 entry-requires c κs = (omega arith, omega (arith, c.before.before.requires.0, c.loop-test.true))
@@ -48,7 +48,7 @@ loop-again c =
     let same = weight.ensures ∙ ap (step_of s.args.f s.args.k) entry.ensures in (
       omega (arith, test.true),
       filled_more weight.result loop.invariant.1 h same,
-      light-more weight.result loop.invariant.1.size h loop.invariant.2
+      light_more weight.result loop.invariant.1.size h loop.invariant.2
           (omega (arith, weight.ensures, step_small s.args.f s.args.k entry.result s.requires.2 (omega (arith, entry.type-inv)))),
     )
 

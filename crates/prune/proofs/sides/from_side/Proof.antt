@@ -1,5 +1,5 @@
 -- A difference that does not go below 0.
-use Rattle.prune.proofs.Laws.{from-away, from-none, from_some}
+use Rattle.prune.proofs.Laws.{from_away, from_none, from_some}
 use Rattle.prune.proofs.sides.from_side.Statement.{statement}
 use Rattle.prune.proofs.sides.from_side.Tie as tie
 
@@ -7,14 +7,14 @@ returns : tie.Need-returns
 returns c =
     let s = c.before in
     let if1 = c.if1 in
-    from-away s.args.side s.args.v s.args.away if1.true
+    from_away s.args.side s.args.v s.args.away if1.true
 
 returns-2 : tie.Need-returns-2
 returns-2 c =
     let s = c.before.before in
     let if1 = c.before.if1 in
     let if2 = c.if2 in
-    from-none s.args.side s.args.v s.args.away if1.false if2.true
+    from_none s.args.side s.args.v s.args.away if1.false if2.true
 
 returns-3 : tie.Need-returns-3
 returns-3 c =

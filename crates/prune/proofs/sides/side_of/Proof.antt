@@ -1,5 +1,5 @@
 -- Below the rows, from them on, or neither.
-use Rattle.prune.proofs.Laws.{side-first, side_before, side-beyond, side-second}
+use Rattle.prune.proofs.Laws.{side_first, side_before, side_beyond, side_second}
 use borrow.Author.Rules.{rules}
 use Rattle.prune.proofs.sides.side_of.Statement.{statement}
 use Rattle.prune.proofs.sides.side_of.Tie as tie
@@ -8,7 +8,7 @@ returns : tie.Need-returns
 returns c =
     let s = c.before in
     let if1 = c.if1 in
-    side-first s.args.rows s.args.l s.args.h if1.true
+    side_first s.args.rows s.args.l s.args.h if1.true
 
 returns-2 : tie.Need-returns-2
 returns-2 c =
@@ -23,7 +23,7 @@ returns-3 c =
     let if1 = c.before.before.if1 in
     let if2 = c.before.if2 in
     let if3 = c.if3 in
-    side-beyond s.args.rows s.args.l s.args.h if1.false if2.false if3.true
+    side_beyond s.args.rows s.args.l s.args.h if1.false if2.false if3.true
 
 returns-4 : tie.Need-returns-4
 returns-4 c =
@@ -31,7 +31,7 @@ returns-4 c =
     let if1 = c.before.before.if1 in
     let if2 = c.before.if2 in
     let if3 = c.if3 in
-    side-second s.args.rows s.args.l s.args.h if1.false if2.false if3.false
+    side_second s.args.rows s.args.l s.args.h if1.false if2.false if3.false
 
 pub side-of-spec : {M : Type 1} → statement M
 side-of-spec =

@@ -2,14 +2,14 @@
 use native.Mathlib.Omega.{arith}
 use Prim.Native.Nat.{◌≤◌, ◌-◌}
 use mathlib.Core.Path.{◌≡◌, sym}
-use Rattle.prune.specs.Arrays.{Filled, sideBy}
+use Rattle.prune.specs.Arrays.{Filled, side_by}
 use Rattle.prune.proofs.Laws.{filled_none, filled_more}
 use borrow.Author.Rules.{rules}
 use Rattle.prune.proofs.sides.sides_of.Statement.{statement}
 use Rattle.prune.proofs.sides.sides_of.Tie as tie
 
 abbrev invariant-loop : tie.invariant-loop
-invariant-loop low high n rows out₀ i₀ out i = (i ≤ n) × Filled (sideBy rows low high) i out
+invariant-loop low high n rows out₀ i₀ out i = (i ≤ n) × Filled (side_by rows low high) i out
 
 abbrev decreases-loop : tie.decreases-loop
 decreases-loop low high n rows out₀ i₀ out i = n - i
@@ -17,7 +17,7 @@ decreases-loop low high n rows out₀ i₀ out i = n - i
 loop-holds : tie.Need-loop-init invariant-loop decreases-loop
 loop-holds c =
     let s = c in
-    (omega arith, filled_none (sideBy s.args.rows s.args.low.now s.args.high.now))
+    (omega arith, filled_none (side_by s.args.rows s.args.low.now s.args.high.now))
 
 loop-again : tie.Need-loop-preserved invariant-loop decreases-loop
 loop-again c =

@@ -17,7 +17,7 @@ returns c =
     let loop = c.before.before.before.before.loop in
     let test = c.before.before.before.loop-test in
     let if1 = c.if1 in
-    λ e. record { job = loop.i; is-job = test.true; none = if1.true }
+    λ e. record { job = loop.i; is_job = test.true; none = if1.true }
 
 pub is_empty_spec : {M : Type 1} → statement M
 is_empty_spec =

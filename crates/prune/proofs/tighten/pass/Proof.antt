@@ -1,16 +1,16 @@
 -- The jobs one after the other: no placing is left out.
 use native.Mathlib.Omega.{arith}
 use Prim.Native.Nat.{◌≤◌, ◌-◌}
-use Rattle.searcher.specs.Arrays.{jobsIn, problemIn}
+use Rattle.searcher.specs.Arrays.{jobs_in, problem_in}
 use Rattle.prune.specs.Arrays.{domains, Tightened}
-use Rattle.prune.proofs.Laws.{tight-same, tight-more}
+use Rattle.prune.proofs.Laws.{tight_same, tight_more}
 use borrow.Author.Rules.{rules}
 use Rattle.prune.proofs.tighten.pass.Statement.{statement}
 use Rattle.prune.proofs.tighten.pass.Tie as tie
 
 abbrev invariant-loop : tie.invariant-loop
 invariant-loop given links low₀ high₀ n i₀ moved₀ low high i moved =
-    (i ≤ jobsIn given) × Tightened (problemIn given links) (domains low₀ high₀) (domains low high)
+    (i ≤ jobs_in given) × Tightened (problem_in given links) (domains low₀ high₀) (domains low high)
 
 abbrev decreases-loop : tie.decreases-loop
 decreases-loop given links low₀ high₀ n i₀ moved₀ low high i moved = n - i
@@ -29,7 +29,7 @@ loop-again c =
     let test = c.before.before.before.before.loop-test in
     let loop = c.before.before.before.before.before.loop in
     let tie-links = c.before.tie-links in
-    (omega (arith, test.true), tight-more loop.invariant.1 tie-links.ensures)
+    (omega (arith, test.true), tight_more loop.invariant.1 tie-links.ensures)
 
 returns : tie.Need-returns invariant-loop decreases-loop
 returns c =
@@ -39,5 +39,5 @@ returns c =
 pub pass_spec : {M : Type 1} → statement M
 pass_spec =
     tie.close
-    (tie.spec invariant-loop decreases-loop (λ c. search rules) (λ c. search rules) (λ c. omega (arith, c.before.requires.few)) (λ c. (omega arith, tight-same))
+    (tie.spec invariant-loop decreases-loop (λ c. search rules) (λ c. search rules) (λ c. omega (arith, c.before.requires.few)) (λ c. (omega arith, tight_same))
     tie-links-requires (λ c κs. search rules) add-i (λ c. search rules) loop-again returns)

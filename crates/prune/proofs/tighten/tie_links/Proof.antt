@@ -1,16 +1,16 @@
 -- The links of job i one after the other: no placing is left out.
 use native.Mathlib.Omega.{arith}
 use Prim.Native.Nat.{◌-◌}
-use Rattle.searcher.specs.Arrays.{countsIn, problemIn}
+use Rattle.searcher.specs.Arrays.{counts_in, problem_in}
 use Rattle.prune.specs.Arrays.{domains, Tightened}
-use Rattle.prune.proofs.Laws.{links-back, link-tightens, tight-same, tight-more, Ranging, ranging-start, ranging-turn, in-links}
+use Rattle.prune.proofs.Laws.{links_back, link_tightens, tight_same, tight_more, Ranging, ranging_start, ranging_turn, in_links}
 use borrow.Author.Rules.{rules}
 use Rattle.prune.proofs.tighten.tie_links.Statement.{statement}
 use Rattle.prune.proofs.tighten.tie_links.Tie as tie
 
 abbrev invariant-loop : tie.invariant-loop
 invariant-loop given links low₀ high₀ i at₀ end moved₀ low high at moved =
-    Ranging (countsIn given) links i end at × Tightened (problemIn given links) (domains low₀ high₀) (domains low high)
+    Ranging (counts_in given) links i end at × Tightened (problem_in given links) (domains low₀ high₀) (domains low high)
 
 abbrev decreases-loop : tie.decreases-loop
 decreases-loop given links low₀ high₀ i at₀ end moved₀ low high at moved = end - at
@@ -18,17 +18,17 @@ decreases-loop given links low₀ high₀ i at₀ end moved₀ low high at moved
 cast-end : tie.Need-overflow-cast-end invariant-loop decreases-loop
 cast-end c =
     let s = c.before in
-    omega (arith, (links-back s.requires.0 s.args.i s.requires.1).few)
+    omega (arith, (links_back s.requires.0 s.args.i s.requires.1).few)
 
 add-end : tie.Need-overflow-add-end invariant-loop decreases-loop
 add-end c =
     let s = c.before in
-    omega (arith, (links-back s.requires.0 s.args.i s.requires.1).few, s.requires.1, s.requires.0.few)
+    omega (arith, (links_back s.requires.0 s.args.i s.requires.1).few, s.requires.1, s.requires.0.few)
 
 loop-holds : tie.Need-loop-init invariant-loop decreases-loop
 loop-holds c =
     let s = c.before in
-    (ranging-start (links-back s.requires.0 s.args.i s.requires.1), tight-same)
+    (ranging_start (links_back s.requires.0 s.args.i s.requires.1), tight_same)
 
 tie-link-requires : tie.Need-tie-link-requires invariant-loop decreases-loop
 tie-link-requires c κs = omega (
@@ -50,8 +50,8 @@ loop-again c =
     let loop = c.before.before.before.before.before.before.loop in
     let test = c.before.before.before.before.before.loop-test in
     let tie-link = c.before.tie-link in (
-      ranging-turn loop.invariant.0 test.true,
-      tight-more loop.invariant.1 (link-tightens s.requires.0 s.args.i s.requires.1 (in-links loop.invariant.0 test.true) tie-link.ensures),
+      ranging_turn loop.invariant.0 test.true,
+      tight_more loop.invariant.1 (link_tightens s.requires.0 s.args.i s.requires.1 (in_links loop.invariant.0 test.true) tie-link.ensures),
     )
 
 returns : tie.Need-returns invariant-loop decreases-loop

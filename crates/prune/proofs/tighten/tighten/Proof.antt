@@ -1,15 +1,15 @@
 -- Pass after pass: no placing is left out.
 use native.Mathlib.Omega.{arith}
 use Prim.Native.Nat.{◌≤◌, ◌-◌}
-use Rattle.searcher.specs.Arrays.{problemIn}
+use Rattle.searcher.specs.Arrays.{problem_in}
 use Rattle.prune.specs.Arrays.{domains, Tightened}
-use Rattle.prune.proofs.Laws.{tight-same, tight-more}
+use Rattle.prune.proofs.Laws.{tight_same, tight_more}
 use borrow.Author.Rules.{rules}
 use Rattle.prune.proofs.tighten.tighten.Statement.{statement}
 use Rattle.prune.proofs.tighten.tighten.Tie as tie
 
 abbrev invariant-loop : tie.invariant-loop
-invariant-loop given links low₀ high₀ k₀ low high k = (k ≤ 16) × Tightened (problemIn given links) (domains low₀ high₀) (domains low high)
+invariant-loop given links low₀ high₀ k₀ low high k = (k ≤ 16) × Tightened (problem_in given links) (domains low₀ high₀) (domains low high)
 
 abbrev decreases-loop : tie.decreases-loop
 decreases-loop given links low₀ high₀ k₀ low high k = 16 - k
@@ -18,14 +18,14 @@ returns : tie.Need-returns invariant-loop decreases-loop
 returns c =
     let loop = c.before.before.before.before.before.loop in
     let pass = c.before.pass in
-    tight-more loop.invariant.1 pass.ensures
+    tight_more loop.invariant.1 pass.ensures
 
 loop-again : tie.Need-loop-preserved invariant-loop decreases-loop
 loop-again c =
     let test = c.before.before.before.before.loop-test in
     let loop = c.before.before.before.before.before.loop in
     let pass = c.before.pass in
-    (omega (arith, test.true), tight-more loop.invariant.1 pass.ensures)
+    (omega (arith, test.true), tight_more loop.invariant.1 pass.ensures)
 
 returns-2 : tie.Need-returns-2 invariant-loop decreases-loop
 returns-2 c =
@@ -35,5 +35,5 @@ returns-2 c =
 pub tighten-spec : {M : Type 1} → statement M
 tighten-spec =
     tie.close
-    (tie.spec invariant-loop decreases-loop (λ c. (omega arith, tight-same)) (λ c κs. c.before.before.before.before.requires) returns (λ c. search rules)
+    (tie.spec invariant-loop decreases-loop (λ c. (omega arith, tight_same)) (λ c κs. c.before.before.before.before.requires) returns (λ c. search rules)
     (λ c. search rules) loop-again returns-2)

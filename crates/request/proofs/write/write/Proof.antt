@@ -3,21 +3,21 @@ use borrow.Author.Rules.{rules}
 use Prim.Native.Nat.{◌<◌, ◌≤◌}
 use lib.ListN.{length}
 use Rattle.cursor.specs.Padded.{firsts}
-use Rattle.cursor.specs.WrittenLaws.{not_written, all-written}
-use Rattle.request.specs.Request.{noTask, noPair}
-use Rattle.request.specs.Encode.{requestBytes}
-use Rattle.request.specs.WriteLaws.{request-length}
+use Rattle.cursor.specs.WrittenLaws.{not_written, all_written}
+use Rattle.request.specs.Request.{no_task, no_pair}
+use Rattle.request.specs.Encode.{request_bytes}
+use Rattle.request.specs.WriteLaws.{request_length}
 use Rattle.request.proofs.write.write.Statement.{statement}
 use Rattle.request.proofs.write.write.Tie as tie
 
 -- the test is one of the request's length
 short : (c : tie.Then1) → let n = c.before.before.before in let a = n.before.before.args in
-    length a.out.now < length (requestBytes (firsts n.at_most.result noTask a.tasks) (firsts c.before.before.at-most2.result noPair a.pairs) a.g)
-short c = rw (request-length _ _ _ _ _ c.before.before.before.before.before.args.out.now, ← c.before.request-length.ensures) c.if1.true
+    length a.out.now < length (request_bytes (firsts n.at_most.result no_task a.tasks) (firsts c.before.before.at-most2.result no_pair a.pairs) a.g)
+short c = rw (request_length _ _ _ _ _ c.before.before.before.before.before.args.out.now, ← c.before.request_length.ensures) c.if1.true
 
 long : (c : tie.Else1) → let n = c.before.before.before in let a = n.before.before.args in
-    length (requestBytes (firsts n.at_most.result noTask a.tasks) (firsts c.before.before.at-most2.result noPair a.pairs) a.g) ≤ length a.out.now
-long c = rw (request-length _ _ _ _ _ c.before.before.before.before.before.args.out.now, ← c.before.request-length.ensures) c.if1.false
+    length (request_bytes (firsts n.at_most.result no_task a.tasks) (firsts c.before.before.at-most2.result no_pair a.pairs) a.g) ≤ length a.out.now
+long c = rw (request_length _ _ _ _ _ c.before.before.before.before.before.args.out.now, ← c.before.request_length.ensures) c.if1.false
 
 returns : tie.Need-returns
 returns c =
@@ -32,7 +32,7 @@ returns-2 c =
     let wrote = c.before.before in
     let test = wrote.before.before in
     let n = test.before.before.before in
-    rw (← n.at_most.ensures, ← test.before.before.at-most2.ensures) (all-written _ _ (long test) _ _ wrote.write-sections.ensures)
+    rw (← n.at_most.ensures, ← test.before.before.at-most2.ensures) (all_written _ _ (long test) _ _ wrote.write-sections.ensures)
 
 pub write_spec : {M : Type 1} → statement M
 write_spec =

@@ -8,17 +8,17 @@ use borrow.Rule.Slice.PartMut.{put_mid}
 use Rattle.cursor.specs.Padded.{firsts}
 use Rattle.cursor.specs.Pieces.{Placed}
 use Rattle.cursor.specs.Parts.{rest_part, rest_put}
-use Rattle.request.specs.Request.{noTask, noPair}
-use Rattle.request.specs.Encode.{taskBytes, pairBytes, sectionBytes, silentBytes, requestBytes}
-use Rattle.request.specs.WriteLaws.{first-within, second_fits, second-within, third-fits, all_placed}
+use Rattle.request.specs.Request.{no_task, no_pair}
+use Rattle.request.specs.Encode.{task_bytes, pair_bytes, section_bytes, silent_bytes, request_bytes}
+use Rattle.request.specs.WriteLaws.{first_within, second_fits, second_within, third_fits, all_placed}
 use Rattle.request.proofs.write.write_sections.Statement.{statement}
 use Rattle.request.proofs.write.write_sections.Tie as tie
 
 -- the buffer has room for the three sections
 fits : (c : tie.Start) → let a = c.args in
-    length (sectionBytes taskBytes (firsts a.n noTask a.tasks) ++ sectionBytes pairBytes (firsts a.m noPair a.pairs) ++ silentBytes a.g)
+    length (section_bytes task_bytes (firsts a.n no_task a.tasks) ++ section_bytes pair_bytes (firsts a.m no_pair a.pairs) ++ silent_bytes a.g)
     ≤ length a.out.now
-unfolding requestBytes
+unfolding request_bytes
 fits c = c.requires.2
 
 write-tasks-requires : tie.Need-write-tasks-requires
@@ -26,7 +26,7 @@ write-tasks-requires c κs = let s = c.before.before in (s.requires.0, omega (ar
 
 -- the first section is written
 within : (c : tie.After-write-tasks) → c.write-tasks.result ≤ length c.write-tasks.new.0
-within c = first-within _ _ _ _ (fits c.before.before.before) _ _ c.write-tasks.ensures
+within c = first_within _ _ _ _ (fits c.before.before.before) _ _ c.write-tasks.ensures
 
 sub-write-pairs : tie.Need-overflow-sub-write-pairs
 sub-write-pairs c = within c.before.before
@@ -46,7 +46,7 @@ behind : (c : tie.After-write-pairs) → let first = c.before.before.before.befo
     (end ≤ length (put_mid at (length out - at) out c.write-pairs.new.0)) × (end ≤ length first.before.before.before.args.out.now)
 behind c =
     let first = c.before.before.before.before in
-    rw rest_put (second-within _ _ _ _ (fits first.before.before.before) _ _ first.write-tasks.ensures _ _ (rw rest_part at c.write-pairs.ensures))
+    rw rest_put (second_within _ _ _ _ (fits first.before.before.before) _ _ first.write-tasks.ensures _ _ (rw rest_part at c.write-pairs.ensures))
 
 add-behind : tie.Need-overflow-add-behind
 add-behind c =
@@ -64,14 +64,14 @@ write-silent-requires c κs =
     let second = c.before.before.before in
     let first = second.before.before.before.before in
     let wrote = rw rest_part at second.write-pairs.ensures in
-    rw (rest_part, rest_put) (third-fits _ _ _ _ (fits first.before.before.before) _ _ first.write-tasks.ensures _ _ wrote)
+    rw (rest_part, rest_put) (third_fits _ _ _ _ (fits first.before.before.before) _ _ first.write-tasks.ensures _ _ wrote)
 
 -- and the third
 placed : (c : tie.After-write-silent) → let second = c.before.before.before.before in let first = second.before.before.before.before in
     let a = first.before.before.before.args in let at = first.write-tasks.result in let end = at + second.write-pairs.result in
-    Placed (requestBytes (firsts a.n noTask a.tasks) (firsts a.m noPair a.pairs) a.g) a.out.now
+    Placed (request_bytes (firsts a.n no_task a.tasks) (firsts a.m no_pair a.pairs) a.g) a.out.now
     (take end (take at first.write-tasks.new.0 ++ second.write-pairs.new.0) ++ c.write-silent.new.0) (end + c.write-silent.result)
-unfolding requestBytes
+unfolding request_bytes
 placed c =
     let second = c.before.before.before.before in
     let first = second.before.before.before.before in

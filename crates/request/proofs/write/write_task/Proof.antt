@@ -1,5 +1,5 @@
 -- Four words one behind the other are the eight bytes.
-use Rattle.request.specs.WriteLaws.{task-stored}
+use Rattle.request.specs.WriteLaws.{task_stored}
 use borrow.Author.Rules.{rules}
 use Rattle.request.proofs.write.write_task.Statement.{statement}
 use Rattle.request.proofs.write.write_task.Tie as tie
@@ -12,7 +12,7 @@ returns c =
     let one = two.before.before.before.before in
     let s = one.before.before.before in
     rw (four.put-word4.ensures, three.put-word3.ensures, two.put-word2.ensures, one.put_word.ensures)
-    (task-stored s.args.out.now s.args.x s.requires)
+    (task_stored s.args.out.now s.args.x s.requires)
 
 pub write-task-spec : {M : Type 1} → statement M
 write-task-spec =

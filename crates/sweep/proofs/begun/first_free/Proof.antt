@@ -1,7 +1,7 @@
 -- The bits of one word, or of both.
 use native.Mathlib.Omega.{arith}
-use Rattle.sweep.proofs.RunLaws.{n-is}
-use Rattle.sweep.proofs.BitLaws.{low-passed, high-passed, both-passed}
+use Rattle.sweep.proofs.RunLaws.{n_is}
+use Rattle.sweep.proofs.BitLaws.{low_passed, high_passed, both_passed}
 use borrow.Author.Rules.{rules}
 use Rattle.sweep.proofs.begun.first_free.Statement.{statement}
 use Rattle.sweep.proofs.begun.first_free.Tie as tie
@@ -32,8 +32,8 @@ returns c =
     let w = s.args.swept.now in
     let free = c.free-place.ensures in (
       omega (arith, free.0, c.before.before.if1.true),
-      λ y a b h. high-passed g l w s.args.flags.now s.args.p s.requires.1.0 s.requires.1.1.0 s.requires.1.1.3 free.2 y
-          (omega (arith, c.before.before.if1.true)) b (omega (arith, s.requires.0.few)) (omega (arith, n-is g l w)),
+      λ y a b h. high_passed g l w s.args.flags.now s.args.p s.requires.1.0 s.requires.1.1.0 s.requires.1.1.3 free.2 y
+          (omega (arith, c.before.before.if1.true)) b (omega (arith, s.requires.0.few)) (omega (arith, n_is g l w)),
     )
 
 mul-free-place-2 : tie.Need-overflow-mul-free-place-2
@@ -53,8 +53,8 @@ returns-2 c =
     let w = s.args.swept.now in
     let free = c.before.free-place2.ensures in (
       free.0,
-      λ y a b h. low-passed g l w s.args.flags.now s.args.p s.requires.1.0 s.requires.1.1.0 s.requires.1.1.2 free.2 y a b
-          (omega (arith, c.if2.true)) (omega (arith, n-is g l w)),
+      λ y a b h. low_passed g l w s.args.flags.now s.args.p s.requires.1.0 s.requires.1.1.0 s.requires.1.1.2 free.2 y a b
+          (omega (arith, c.if2.true)) (omega (arith, n_is g l w)),
     )
 
 add-free-place-2 : tie.Need-overflow-add-free-place-2
@@ -81,8 +81,8 @@ returns-3 c =
     let free = c.free-place3.ensures in
     let none = c.before.before.before.free-place2.ensures in (
       omega (arith, c.before.before.before.before.before.if1.false),
-      λ y a b h. both-passed g l w s.args.flags.now s.args.p s.requires.1.0 s.requires.1.1.0 s.requires.1.1.2 s.requires.1.1.3 none.2
-          c.before.before.if2.false free.2 y a b (omega (arith, s.requires.0.few)) (omega (arith, n-is g l w)),
+      λ y a b h. both_passed g l w s.args.flags.now s.args.p s.requires.1.0 s.requires.1.1.0 s.requires.1.1.2 s.requires.1.1.3 none.2
+          c.before.before.if2.false free.2 y a b (omega (arith, s.requires.0.few)) (omega (arith, n_is g l w)),
     )
 
 pub first-free-spec : {M : Type 1} → statement M

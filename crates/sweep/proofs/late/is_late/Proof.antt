@@ -4,16 +4,16 @@ use native.Mathlib.Omega.{arith}
 use Prim.Native.Nat.{◌-◌, ◌<◌}
 use mathlib.Core.Path.{sym, ◌∙◌}
 use mathlib.Core.Bool.{false≢true}
-use Rattle.searcher.specs.Arrays.{rowsIn}
-use Rattle.sweep.specs.Arrays.{rulesIn}
-use Rattle.sweep.proofs.RunLaws.{n-is, f-is}
-use Rattle.sweep.proofs.LateLaws.{Comparing, comparing-start, due-small, comparing-more, late-row}
+use Rattle.searcher.specs.Arrays.{rows_in}
+use Rattle.sweep.specs.Arrays.{rules_in}
+use Rattle.sweep.proofs.RunLaws.{n_is, f_is}
+use Rattle.sweep.proofs.LateLaws.{Comparing, comparing_start, due_small, comparing_more, late_row}
 use Rattle.sweep.proofs.late.is_late.Statement.{statement}
 use Rattle.sweep.proofs.late.is_late.Tie as tie
 
 abbrev invariant-loop : tie.invariant-loop
 invariant-loop given links swept flags due p space reach rows stop f e₀ sum₀ room₀ e sum room =
-    Comparing (rulesIn given links swept) (rowsIn given) p flags e sum room
+    Comparing (rules_in given links swept) (rows_in given) p flags e sum room
 
 abbrev decreases-loop : tie.decreases-loop
 decreases-loop given links swept flags due p space reach rows stop f e₀ sum₀ room₀ e sum room = stop - e
@@ -36,35 +36,35 @@ cast_f c = search rules
 loop-holds : tie.Need-loop-init invariant-loop decreases-loop
 loop-holds c =
     let s = c.before.before.before in
-    comparing-start (rulesIn s.args.given.now s.args.links.now s.args.swept.now) s.args.flags.now (omega (arith, s.requires.1.0))
+    comparing_start (rules_in s.args.given.now s.args.links.now s.args.swept.now) s.args.flags.now (omega (arith, s.requires.1.0))
 
 add-e : tie.Need-overflow-add-e invariant-loop decreases-loop
-add-e c = omega (arith, c.loop-test.true, c.before.before.before.stop-row.ensures, c.before.before.before.before.before.requires.0.few-rows)
+add-e c = omega (arith, c.loop-test.true, c.before.before.before.stop-row.ensures, c.before.before.before.before.before.requires.0.few_rows)
 
 cast-sum : tie.Need-overflow-cast-sum invariant-loop decreases-loop
 cast-sum c = search rules
 
 mul-sum : tie.Need-overflow-mul-sum invariant-loop decreases-loop
-mul-sum c = omega (arith, c.loop-test.true, c.before.before.before.stop-row.ensures, c.before.before.before.before.before.requires.0.few-rows)
+mul-sum c = omega (arith, c.loop-test.true, c.before.before.before.stop-row.ensures, c.before.before.before.before.before.requires.0.few_rows)
 
 element-copy-out-sum : tie.Need-element-copy-out-sum invariant-loop decreases-loop
 element-copy-out-sum c =
-    omega (arith, c.loop-test.true, c.before.before.before.stop-row.ensures, c.before.before.before.before.before.requires.0.few-rows)
+    omega (arith, c.loop-test.true, c.before.before.before.stop-row.ensures, c.before.before.before.before.before.requires.0.few_rows)
 
 add-sum : tie.Need-overflow-add-sum invariant-loop decreases-loop
 add-sum c =
     let s = c.before.before.before.before.before.before in
     let v = c.before.before.loop.invariant in
-    let more : c.before.before.loop.e < rowsIn s.args.given.now =
+    let more : c.before.before.loop.e < rows_in s.args.given.now =
     omega (arith, c.before.loop-test.true, c.before.before.before.before.stop-row.ensures) in
     omega (
       arith,
-      v.need-small,
+      v.need_small,
       v.most,
-      s.requires.0.few-rows,
+      s.requires.0.few_rows,
       more,
-      due-small v more s.requires.0.few-rows (n-is s.args.given.now s.args.links.now s.args.swept.now) s.requires.0.few s.requires.1.1
-          (c.before.before.before.entry.ensures ∙ sym (f-is s.args.given.now s.args.links.now s.args.swept.now)) (omega (arith, c.before.before.before.entry.type-inv)),
+      due_small v more s.requires.0.few_rows (n_is s.args.given.now s.args.links.now s.args.swept.now) s.requires.0.few s.requires.1.1
+          (c.before.before.before.entry.ensures ∙ sym (f_is s.args.given.now s.args.links.now s.args.swept.now)) (omega (arith, c.before.before.before.entry.type-inv)),
     )
 
 add-room : tie.Need-overflow-add-room invariant-loop decreases-loop
@@ -72,7 +72,7 @@ add-room c = let v = c.before.before.loop.invariant in omega (
   arith,
   v.room_small,
   v.most,
-  c.before.before.before.before.before.before.requires.0.few-rows,
+  c.before.before.before.before.before.before.requires.0.few_rows,
   c.before.loop-test.true,
   c.before.before.before.before.stop-row.ensures,
   c.before.before.before.entry.type-inv,
@@ -81,10 +81,10 @@ add-room c = let v = c.before.before.loop.invariant in omega (
 returns : tie.Need-returns invariant-loop decreases-loop
 returns c =
     let s = c.before.before.before.before.before.before.before in
-    let more : c.before.before.before.loop.e < rowsIn s.args.given.now =
+    let more : c.before.before.before.loop.e < rows_in s.args.given.now =
     omega (arith, c.before.before.loop-test.true, c.before.before.before.before.before.stop-row.ensures) in
-    λ e. late-row (comparing-more c.before.before.before.loop.invariant more s.requires.0.few-rows (n-is s.args.given.now s.args.links.now s.args.swept.now)
-    s.requires.0.few s.requires.1.1 (c.before.before.before.before.entry.ensures ∙ sym (f-is s.args.given.now s.args.links.now s.args.swept.now))
+    λ e. late_row (comparing_more c.before.before.before.loop.invariant more s.requires.0.few_rows (n_is s.args.given.now s.args.links.now s.args.swept.now)
+    s.requires.0.few s.requires.1.1 (c.before.before.before.before.entry.ensures ∙ sym (f_is s.args.given.now s.args.links.now s.args.swept.now))
     (omega (arith, c.before.before.before.before.entry.type-inv))) s.requires.1.0 c.if1.true
 
 loop-less : tie.Need-loop-smaller invariant-loop decreases-loop
@@ -93,11 +93,11 @@ loop-less c = omega (arith, c.before.before.loop-test.true)
 loop-again : tie.Need-loop-preserved invariant-loop decreases-loop
 loop-again c =
     let s = c.before.before.before.before.before.before.before in
-    let more : c.before.before.before.loop.e < rowsIn s.args.given.now =
+    let more : c.before.before.before.loop.e < rows_in s.args.given.now =
     omega (arith, c.before.before.loop-test.true, c.before.before.before.before.before.stop-row.ensures) in
-    comparing-more c.before.before.before.loop.invariant more s.requires.0.few-rows (n-is s.args.given.now s.args.links.now
+    comparing_more c.before.before.before.loop.invariant more s.requires.0.few_rows (n_is s.args.given.now s.args.links.now
     s.args.swept.now) s.requires.0.few
-    s.requires.1.1 (c.before.before.before.before.entry.ensures ∙ sym (f-is s.args.given.now s.args.links.now s.args.swept.now)) (omega (
+    s.requires.1.1 (c.before.before.before.before.entry.ensures ∙ sym (f_is s.args.given.now s.args.links.now s.args.swept.now)) (omega (
       arith,
       c.before.before.before.before.entry.type-inv,
     ))

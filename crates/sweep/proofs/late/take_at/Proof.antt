@@ -1,5 +1,5 @@
 -- There is a place, or none.
-use Rattle.sweep.proofs.LateLaws.{not_taken, is-taken}
+use Rattle.sweep.proofs.LateLaws.{not_taken, is_taken}
 use borrow.Author.Rules.{rules}
 use Rattle.sweep.proofs.late.take_at.Statement.{statement}
 use Rattle.sweep.proofs.late.take_at.Tie as tie
@@ -23,7 +23,7 @@ later-requires : tie.Need-later-requires
 later-requires c κs = search rules
 
 returns-2 : tie.Need-returns-2
-returns-2 c = let s = c.before.before.before in is-taken s.args.due.now s.args.e s.args.c c.before.before.if1.false
+returns-2 c = let s = c.before.before.before in is_taken s.args.due.now s.args.e s.args.c c.before.before.if1.false
 
 pub take-at-spec : {M : Type 1} → statement M
 take-at-spec =

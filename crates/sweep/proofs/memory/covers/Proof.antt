@@ -4,7 +4,7 @@ use mathlib.Core.Path.{◌≡◌, ◌∙◌}
 use mathlib.Core.Bool.{false≢true}
 use Prim.Native.Nat.{◌+◌}
 use borrow.Author.Tests.{eqb-true}
-use Rattle.sweep.specs.Memo.{mark-at, word_in}
+use Rattle.sweep.specs.Memo.{mark_at, word_in}
 use borrow.Author.Rules.{rules}
 use Rattle.sweep.proofs.memory.covers.Statement.{statement}
 use Rattle.sweep.proofs.memory.covers.Tie as tie
@@ -46,9 +46,9 @@ returns-3 c =
     let v = s.args.words.now in
     let n : 10240 + s.args.s ≡ 5120 + (5120 + s.args.s) = omega arith in
     λ e. record {
-      row = mark-at m v s.requires.2 s.args.s s.requires.1 ∙ c.before.before.before.if1.false;
-      low-in = rw (word_in m v s.requires.2 s.args.s) c.before.if2.false;
-      high-in = rw (n, word_in m v s.requires.2 (5120 + s.args.s)) (eqb-true _ _ e);
+      row = mark_at m v s.requires.2 s.args.s s.requires.1 ∙ c.before.before.before.if1.false;
+      low_in = rw (word_in m v s.requires.2 s.args.s) c.before.if2.false;
+      high_in = rw (n, word_in m v s.requires.2 (5120 + s.args.s)) (eqb-true _ _ e);
     }
 
 pub covers-spec : {M : Type 1} → statement M

@@ -3,7 +3,7 @@ use native.Mathlib.Omega.{arith}
 use mathlib.Core.Path.{◌≡◌}
 use mathlib.Core.List.{◌++◌}
 use lib.ListN.{length}
-use Rattle.sweep.specs.Memo.{memo-size, noted-both}
+use Rattle.sweep.specs.Memo.{memo_size, noted_both}
 use borrow.Author.Rules.{rules}
 use Rattle.sweep.proofs.memory.note.Statement.{statement}
 use Rattle.sweep.proofs.memory.note.Tie as tie
@@ -33,8 +33,8 @@ returns c =
     let s = c.before.before.before.before.before.before.before.before.before.before.before.before.before.before in
     let store = c.before.before.before.before.before.before.before.before.before.store in
     let store2 = c.before.before.store2 in
-    let size : length (s.args.marks.now ++ s.args.words.now) ≡ 15360 = memo-size s.args.marks.now s.args.words.now s.requires.1 s.requires.2 in (
-      noted-both size (omega (arith, c.before.before.before.before.before.before.before.before.before.before.before.before.slot.ensures)) c.before.before.before.before.before.free-slot.ensures store.ensures.0 (memo-size store.new.0 store.new.1.0 store.ensures.1 store.ensures.2)
+    let size : length (s.args.marks.now ++ s.args.words.now) ≡ 15360 = memo_size s.args.marks.now s.args.words.now s.requires.1 s.requires.2 in (
+      noted_both size (omega (arith, c.before.before.before.before.before.before.before.before.before.before.before.before.slot.ensures)) c.before.before.before.before.before.free-slot.ensures store.ensures.0 (memo_size store.new.0 store.new.1.0 store.ensures.1 store.ensures.2)
           store2.ensures.0,
       store2.ensures.1,
       store2.ensures.2,

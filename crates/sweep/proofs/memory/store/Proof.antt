@@ -3,7 +3,7 @@ use native.Mathlib.Omega.{arith}
 use mathlib.Core.Path.{◌∙◌}
 use Prim.Native.Nat.{◌+◌}
 use lib.ListN.{set, length-set}
-use Rattle.sweep.specs.Memo.{stored-in}
+use Rattle.sweep.specs.Memo.{stored_in}
 use borrow.Author.Rules.{rules}
 use Rattle.sweep.proofs.memory.store.Statement.{statement}
 use Rattle.sweep.proofs.memory.store.Tie as tie
@@ -38,7 +38,7 @@ same_length c = search rules
 returns : tie.Need-returns
 returns c =
     let s = c in (
-      stored-in s.args.marks.now s.args.words.now s.requires.2 s.args.p s.args.low s.args.high s.args.s s.requires.1,
+      stored_in s.args.marks.now s.args.words.now s.requires.2 s.args.p s.args.low s.args.high s.args.s s.requires.1,
       length-set s.args.marks.now s.args.s (s.args.p + 1) ∙ s.requires.2,
       length-set (set s.args.words.now s.args.s s.args.low) (5120 + s.args.s) s.args.high
           ∙ length-set s.args.words.now s.args.s s.args.low ∙ s.requires.3,

@@ -5,20 +5,20 @@ use mathlib.Core.Bool.{true}
 use mathlib.Core.Logic.{inl, inr}
 use Prim.Native.Nat.{◌-◌}
 use lib.ListN.{set}
-use Rattle.exact.specs.Words.{word-other, word_more, word_size}
+use Rattle.exact.specs.Words.{word_other, word_more, word_size}
 use Rattle.sweep.proofs.BitLaws.{one_shl}
 use borrow.Author.Rules.{rules}
 use Rattle.sweep.proofs.memory.with_flag.Statement.{statement}
 use Rattle.sweep.proofs.memory.with_flag.Tie as tie
 
 returns : tie.Need-returns
-returns c = c.before.requires.3 ∙ sym (word-other c.before.args.flags.now c.before.args.i c.before.args.a (inl c.if1.true))
+returns c = c.before.requires.3 ∙ sym (word_other c.before.args.flags.now c.before.args.i c.before.args.a (inl c.if1.true))
 
 cast-j : tie.Need-overflow-cast-j
 cast-j c = omega (arith, c.before.requires.0)
 
 returns-2 : tie.Need-returns-2
-returns-2 c = c.before.before.requires.3 ∙ sym (word-other c.before.before.args.flags.now c.before.before.args.i c.before.before.args.a (inr (omega
+returns-2 c = c.before.before.requires.3 ∙ sym (word_other c.before.before.args.flags.now c.before.before.args.i c.before.before.args.a (inr (omega
     (arith, c.if2.true, c.before.if1.false))))
 
 cast-result : tie.Need-overflow-cast-result

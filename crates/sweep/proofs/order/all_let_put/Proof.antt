@@ -3,16 +3,16 @@ use native.Mathlib.Omega.{arith}
 use Prim.Native.Nat.{◌-◌}
 use mathlib.Core.Path.{sym, ◌∙◌}
 use borrow.Author.Tests.{not-true, not-false}
-use Rattle.searcher.specs.Arrays.{countsIn}
-use Rattle.exact.specs.Sided.{put-by}
-use Rattle.sweep.specs.Arrays.{sidesIn}
-use Rattle.sweep.proofs.Laws.{Linking, linking-start, linking-turn, linking-not, linking-stop}
+use Rattle.searcher.specs.Arrays.{counts_in}
+use Rattle.exact.specs.Sided.{put_by}
+use Rattle.sweep.specs.Arrays.{sides_in}
+use Rattle.sweep.proofs.Laws.{Linking, linking_start, linking_turn, linking_not, linking_stop}
 use borrow.Author.Rules.{rules}
 use Rattle.sweep.proofs.order.all_let_put.Statement.{statement}
 use Rattle.sweep.proofs.order.all_let_put.Tie as tie
 
 abbrev invariant-loop : tie.invariant-loop
-invariant-loop given links swept flags i at₀ end at = Linking (put-by (sidesIn swept) flags i) (countsIn given) links i end at
+invariant-loop given links swept flags i at₀ end at = Linking (put_by (sides_in swept) flags i) (counts_in given) links i end at
 
 abbrev decreases-loop : tie.decreases-loop
 decreases-loop given links swept flags i at₀ end at = end - at
@@ -20,7 +20,7 @@ decreases-loop given links swept flags i at₀ end at = end - at
 loop-holds : tie.Need-loop-init invariant-loop decreases-loop
 loop-holds c =
     let s = c.before in
-    linking-start (put-by (sidesIn s.args.swept.now) s.args.flags.now s.args.i) s.requires
+    linking_start (put_by (sides_in s.args.swept.now) s.args.flags.now s.args.i) s.requires
 
 returns : tie.Need-returns invariant-loop decreases-loop
 returns c =
@@ -29,7 +29,7 @@ returns c =
     let test = c.before.before.before.loop-test in
     let lets-put = c.before.lets-put in
     let if1 = c.if1 in
-    linking-not (put-by (sidesIn s.args.swept.now) s.args.flags.now s.args.i) s.requires loop.invariant test.true
+    linking_not (put_by (sides_in s.args.swept.now) s.args.flags.now s.args.i) s.requires loop.invariant test.true
     (sym lets-put.ensures ∙ not-true lets-put.result if1.true)
 
 loop-again : tie.Need-loop-preserved invariant-loop decreases-loop
@@ -39,7 +39,7 @@ loop-again c =
     let test = c.before.before.before.loop-test in
     let lets-put = c.before.lets-put in
     let if1 = c.if1 in
-    linking-turn (put-by (sidesIn s.args.swept.now) s.args.flags.now s.args.i) s.requires loop.invariant test.true
+    linking_turn (put_by (sides_in s.args.swept.now) s.args.flags.now s.args.i) s.requires loop.invariant test.true
     (sym lets-put.ensures ∙ not-false lets-put.result if1.false)
 
 returns-2 : tie.Need-returns-2 invariant-loop decreases-loop
@@ -47,13 +47,13 @@ returns-2 c =
     let s = c.before.before.before in
     let loop = c.before.loop in
     let test = c.loop-test in
-    linking-stop (put-by (sidesIn s.args.swept.now) s.args.flags.now s.args.i) s.requires loop.invariant test.false
+    linking_stop (put_by (sides_in s.args.swept.now) s.args.flags.now s.args.i) s.requires loop.invariant test.false
 
 pub all-let-put-spec : {M : Type 1} → statement M
 all-let-put-spec =
     tie.close
-    (tie.spec invariant-loop decreases-loop (λ c. omega (arith, c.requires.is-job)) (λ c. omega (arith, c.requires.is-job)) (λ c. search rules) (λ c. c.requires.is-job)
-    (λ c. omega (arith, c.before.requires.few)) (λ c. omega (arith, c.before.requires.few, c.before.requires.is-job)) loop-holds
-    (λ c. omega (arith, c.before.loop.invariant.short, c.loop-test.true)) (λ c κs. c.before.before.before.before.requires.is-job) returns
+    (tie.spec invariant-loop decreases-loop (λ c. omega (arith, c.requires.is_job)) (λ c. omega (arith, c.requires.is_job)) (λ c. search rules) (λ c. c.requires.is_job)
+    (λ c. omega (arith, c.before.requires.few)) (λ c. omega (arith, c.before.requires.few, c.before.requires.is_job)) loop-holds
+    (λ c. omega (arith, c.before.loop.invariant.short, c.loop-test.true)) (λ c κs. c.before.before.before.before.requires.is_job) returns
     (λ c. omega (arith, c.before.before.before.before.loop.invariant.short, c.before.before.before.loop-test.true)) (λ c. search rules)
     loop-again returns-2)

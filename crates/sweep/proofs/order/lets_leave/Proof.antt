@@ -1,6 +1,6 @@
 -- A link below 128, or to another side, says nothing; any other asks for the flag.
-use Rattle.sweep.proofs.Laws.{leave-other, leave-apart, leave-by-flag}
-use Rattle.sweep.specs.Arrays.{sidesIn}
+use Rattle.sweep.proofs.Laws.{leave_other, leave_apart, leave_by_flag}
+use Rattle.sweep.specs.Arrays.{sides_in}
 use borrow.Author.Rules.{rules}
 use Rattle.sweep.proofs.order.lets_leave.Statement.{statement}
 use Rattle.sweep.proofs.order.lets_leave.Tie as tie
@@ -9,21 +9,21 @@ returns : tie.Need-returns
 returns c =
     let s = c.before in
     let if1 = c.if1 in
-    leave-other (sidesIn s.args.swept.now) s.args.flags.now s.args.i s.args.l if1.true
+    leave_other (sides_in s.args.swept.now) s.args.flags.now s.args.i s.args.l if1.true
 
 returns-2 : tie.Need-returns-2
 returns-2 c =
     let s = c.before.before.before.before in
     let if1 = c.before.before.before.if1 in
     let if2 = c.if2 in
-    leave-apart (sidesIn s.args.swept.now) s.args.flags.now s.args.i s.args.l if1.false if2.true
+    leave_apart (sides_in s.args.swept.now) s.args.flags.now s.args.i s.args.l if1.false if2.true
 
 returns-3 : tie.Need-returns-3
 returns-3 c =
     let s = c.before.before.before.before.before in
     let if1 = c.before.before.before.before.if1 in
     let if2 = c.before.if2 in
-    leave-by-flag (sidesIn s.args.swept.now) s.args.flags.now s.args.i s.args.l if1.false if2.false
+    leave_by_flag (sides_in s.args.swept.now) s.args.flags.now s.args.i s.args.l if1.false if2.false
 
 pub lets-leave-spec : {M : Type 1} → statement M
 lets-leave-spec =

@@ -3,16 +3,16 @@ use Prim.Native.Nat.{◌*◌, ◌≤◌}
 use native.Mathlib.Omega.{arith}
 use native.Mathlib.Nat.{mul-le-mul}
 use borrow.Author.Tests.{lt-leb, le-leb}
-use Rattle.table.specs.Table.{heightFits}
+use Rattle.table.specs.Table.{height_fits}
 use Rattle.table.proofs.read.height_fits.Statement.{statement}
 use Rattle.table.proofs.read.height_fits.Tie as tie
 
 returns : tie.Need-returns
-unfolding heightFits
+unfolding height_fits
 returns c = rw (lt-leb _ _ c.if1.true)
 
 returns-2 : tie.Need-returns-2
-unfolding heightFits
+unfolding height_fits
 returns-2 c = rw (le-leb _ _ c.before.if1.false, lt-leb _ _ c.if2.true)
 
 mul-result : tie.Need-overflow-mul-result
@@ -24,7 +24,7 @@ mul-result c =
     omega arith
 
 returns-3 : tie.Need-returns-3
-unfolding heightFits
+unfolding height_fits
 returns-3 c = rw (le-leb _ _ c.before.if1.false, le-leb _ _ c.if2.false)
 
 pub height-fits-spec : {M : Type 1} → statement M

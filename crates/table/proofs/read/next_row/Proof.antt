@@ -1,7 +1,7 @@
 -- The two ways out are the two cases of the row that begins at the place.
 use mathlib.Core.Path.{refl}
 use Rattle.table.specs.Answers.{row_at}
-use Rattle.table.specs.ReadLaws.{row-taken}
+use Rattle.table.specs.ReadLaws.{row_taken}
 use borrow.Author.Rules.{rules}
 use Rattle.table.proofs.read.next_row.Statement.{statement}
 use Rattle.table.proofs.read.next_row.Tie as tie
@@ -18,7 +18,7 @@ returns c =
 returns-2 : tie.Need-returns-2
 returns-2 c =
     let here = rw c.before.count.given.1 at c.before.before.before.read-row.ensures in
-    row-taken _ _ _ _ _ _ here
+    row_taken _ _ _ _ _ _ here
 
 pub next-row-spec : {M : Type 1} → statement M
 next-row-spec =

@@ -4,9 +4,9 @@ use Prim.Native.Nat.{◌≤◌, ◌-◌}
 use mathlib.Core.Path.{sym, ◌∙◌}
 use native.Mathlib.Omega.{arith}
 use borrow.Author.Tests.{lt-leb, le-leb}
-use Rattle.cursor.specs.FieldLaws.{ByteTaken, byte-taken, byte-missing}
-use Rattle.table.specs.Table.{rowFrom}
-use Rattle.table.specs.ReadLaws.{EntriesSoFar, entries-start, entries-more, entries-refused, entries-row}
+use Rattle.cursor.specs.FieldLaws.{ByteTaken, byte_taken, byte_missing}
+use Rattle.table.specs.Table.{row_from}
+use Rattle.table.specs.ReadLaws.{EntriesSoFar, entries_start, entries_more, entries_refused, entries_row}
 use Rattle.table.proofs.read.read_row.Statement.{statement}
 use Rattle.table.proofs.read.read_row.Tie as tie
 
@@ -26,22 +26,22 @@ enum_told : tie.Need-enum-told invariant-loop decreases-loop
 enum_told c = c.match.keys2
 
 -- the count is read
-count-read : (c : tie.After-count invariant-loop decreases-loop) → let count = c.count.given.0 in let a = c.before.before.before.before.args in
+count_read : (c : tie.After-count invariant-loop decreases-loop) → let count = c.count.given.0 in let a = c.before.before.before.before.args in
     ByteTaken 12 a.s.now a.first.at count.0 count.1.0
-count-read c = byte-taken 12 _ _ _ _ (sym c.before.before.byte.ensures ∙ c.count.given.1)
+count_read c = byte_taken 12 _ _ _ _ (sym c.before.before.byte.ensures ∙ c.count.given.1)
 
 returns : tie.Need-returns invariant-loop decreases-loop
-unfolding rowFrom
-returns c = rw (byte-missing 12 _ _ (sym c.before.before.byte.ensures ∙ c.enum_told.given.1)).0
+unfolding row_from
+returns c = rw (byte_missing 12 _ _ (sym c.before.before.byte.ensures ∙ c.enum_told.given.1)).0
 
 returns-2 : tie.Need-returns-2 invariant-loop decreases-loop
-unfolding rowFrom
-returns-2 c = rw ((count-read c.before.before).field, lt-leb _ _ c.if1.true)
+unfolding row_from
+returns-2 c = rw ((count_read c.before.before).field, lt-leb _ _ c.if1.true)
 
 loop-holds : tie.Need-loop-init invariant-loop decreases-loop
 loop-holds c =
     let pre = c.before.before.before.before.before.before.requires in
-    (search rules, c.if1.false, rw (pre.0, pre.1) (entries-start _ _ _))
+    (search rules, c.if1.false, rw (pre.0, pre.1) (entries_start _ _ _))
 
 read-entry-requires : tie.Need-read-entry-requires invariant-loop decreases-loop
 read-entry-requires c κs = tt
@@ -53,12 +53,12 @@ enum-told-2 : tie.Need-enum-told-2 invariant-loop decreases-loop
 enum-told-2 c = c.match2.keys2
 
 returns-3 : tie.Need-returns-3 invariant-loop decreases-loop
-unfolding rowFrom
+unfolding row_from
 returns-3 c =
     let l = c.before.before.before.before in
     let none = rw c.enum-told2.given.1 at c.before.before.read-entry.ensures in
-    rw ((count-read l.before.before.before).field, le-leb _ _ l.before.if1.false)
-    (entries-refused _ _ _ _ _ _ _ _ l.loop.invariant.2 c.before.before.before.loop-test.true none)
+    rw ((count_read l.before.before.before).field, le-leb _ _ l.before.if1.false)
+    (entries_refused _ _ _ _ _ _ _ _ l.loop.invariant.2 c.before.before.before.loop-test.true none)
 
 add_low : tie.Need-overflow-add-low invariant-loop decreases-loop
 add_low c =
@@ -69,13 +69,13 @@ loop-again : tie.Need-loop-preserved invariant-loop decreases-loop
 loop-again c =
     let entry = rw c.before.task.given.1 at c.before.before.before.read-entry.ensures in
     let so = c.before.before.before.before.before.loop.invariant in
-    (search rules, so.1, entries-more _ _ _ _ _ _ _ _ so.2 _ _ _ c.before.before.before.before.loop-test.true so.1 entry)
+    (search rules, so.1, entries_more _ _ _ _ _ _ _ _ so.2 _ _ _ c.before.before.before.before.loop-test.true so.1 entry)
 
 returns-4 : tie.Need-returns-4 invariant-loop decreases-loop
 returns-4 c =
     let so = c.before.loop.invariant in
-    let count = count-read c.before.before.before.before in
-    entries-row _ _ _ _ _ _ _ _ so.2 _ c.loop-test.false so.0 so.1 count.field count.moved
+    let count = count_read c.before.before.before.before in
+    entries_row _ _ _ _ _ _ _ _ so.2 _ c.loop-test.false so.0 so.1 count.field count.moved
 
 pub read-row-spec : {M : Type 1} → statement M
 read-row-spec =

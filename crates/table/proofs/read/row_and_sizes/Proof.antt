@@ -2,7 +2,7 @@
 use native.Mathlib.Omega.{arith}
 use Rattle.cursor.specs.Parts.{rest_part}
 use Rattle.table.specs.Table.{decode}
-use Rattle.table.specs.Answers.{tableRead, sizesOf, rowAnswer}
+use Rattle.table.specs.Answers.{table_read, sizes_of, row_answer}
 use Rattle.table.proofs.read.row_and_sizes.Statement.{statement}
 use Rattle.table.proofs.read.row_and_sizes.Tie as tie
 
@@ -19,7 +19,7 @@ no-table-requires : tie.Need-no-table-requires
 no-table-requires c κs = tt
 
 returns : tie.Need-returns
-unfolding decode sizesOf rowAnswer
+unfolding decode sizes_of row_answer
 returns c =
     let none = rw c.before.enum_told.given.1 at c.before.before.before.read-sizes.ensures in
     (rw (c.no_table.ensures, none), rw (c.no_table.ensures, none))
@@ -38,7 +38,7 @@ read-rows-requires : tie.Need-read-rows-requires
 read-rows-requires c κs = tt
 
 returns-2 : tie.Need-returns-2
-unfolding decode tableRead
+unfolding decode table_read
 returns-2 c =
     let read = rw c.before.before.before.f.given.1 at c.before.before.before.before.before.read-sizes.ensures in
     let answer = rw rest_part at c.read-rows.ensures in
