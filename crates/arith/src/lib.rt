@@ -1,3 +1,4 @@
+#![tactic(auto)]
 // Greatest common divisor, least common multiple, and the smaller of two.
 ghost use Rattle.std.specs.Prelude.{◌≡◌, min};
 ghost use Rattle.arith.specs.Gcd.{gcd_of};

@@ -1,6 +1,7 @@
+#![tactic(auto)]
 // Checks the table in a file against the request in another: `check_table REQUEST TABLE` prints `accepted` or `refused N`. A file that
 // cannot be read is named on standard error.
-#[derive(Drop)]
+#[derive(Clone, Copy)]
 enum FileRead {
     FileBytes(usize),
     Unread,

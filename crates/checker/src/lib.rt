@@ -1,3 +1,4 @@
+#![tactic(auto)]
 // The check of a table against its request: whether it describes a plan, and which.
 mod walk;
 
@@ -14,7 +15,7 @@ use cycle::Cycle;
 
 // What the check read: the request's cycle, and the frame length and the jobs' frames in planning order; or the number of the refusal, and zeros
 // behind the cycle.
-#[derive(Drop)]
+#[derive(Clone, Copy)]
 pub struct Read {
     pub refusal: u8,
     pub cycle: Cycle,
@@ -24,7 +25,7 @@ pub struct Read {
 
 // What the check finds in a table: the frame length and the jobs' frames in planning order; or the number of the refusal, and zeros. The cycle
 // is not in it, so that it is not copied.
-#[derive(Drop)]
+#[derive(Clone, Copy)]
 struct Found {
     refusal: u8,
     f: u16,

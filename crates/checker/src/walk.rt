@@ -9,14 +9,14 @@ ghost use Rattle.checker.specs.Answers.{frames_answer, entries_in, rows_of, name
 use cycle::Job;
 
 // The row of a job's entry, and its carry.
-#[derive(Drop)]
+#[derive(Clone, Copy)]
 enum Position {
     At(u16, bool),
     Nowhere,
 }
 
 // The frames of all jobs, or that some job has none.
-#[derive(Drop)]
+#[derive(Clone, Copy)]
 pub(super) struct Frames {
     pub all: bool,
     pub frames: [u16; 128],

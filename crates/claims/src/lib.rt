@@ -1,1 +1,2 @@
+#![tactic(auto)]
 // Every public promise, stated once: claims, in specs/. No function.

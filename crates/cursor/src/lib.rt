@@ -1,27 +1,28 @@
+#![tactic(auto)]
 // A cursor over a byte string: it takes one field and gives itself on, one field further. And a field put into a buffer.
 ghost use Rattle.std.specs.Prelude.{◌≡◌};
 ghost use Rattle.std.proofs.lemmas.List.Edits.{sets};
 ghost use Rattle.cursor.specs.Fields.{byte_at, word_at, word_bytes};
 
-#[derive(Drop)]
+#[derive(Clone, Copy)]
 pub struct Cursor {
     pub at: usize,
 }
 
-#[derive(Drop)]
+#[derive(Clone, Copy)]
 pub enum ByteRead {
     Byte(u8, Cursor),
     NoByte,
 }
 
-#[derive(Drop)]
+#[derive(Clone, Copy)]
 pub enum WordRead {
     Word(u16, Cursor),
     NoWord,
 }
 
 // What a writer answers: the number of bytes written; or the number of the refusal, and 0.
-#[derive(Drop)]
+#[derive(Clone, Copy)]
 pub struct Written {
     pub refusal: u8,
     pub length: usize,

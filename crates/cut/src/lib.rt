@@ -1,3 +1,4 @@
+#![tactic(auto)]
 // Cutting a long transfer: a task is replaced by two pieces of it, one behind the other, which run in order.
 ghost use Rattle.std.specs.Prelude.{◌≡◌, ◌+◌, ◌≤◌, ◌<◌, get_or};
 ghost use Rattle.cursor.specs.Padded.{padded, firsts};

@@ -1,3 +1,4 @@
+#![tactic(auto)]
 // The exact planner: every request within the limits is decided, with no allowance. A request becomes the table of its chosen plan, or the
 // number that says why there is none: what the full search comes to. The plain search goes first, for a few tries; where they do not suffice, the
 // exact search is made, of the same lengths.

@@ -1,3 +1,4 @@
+#![tactic(auto)]
 // The dispatcher: the entries of the next frame, the first-cycle mark and each task's count of overruns. It stands above the readers of tables and requests.
 ghost use Rattle.std.specs.Prelude.{◌≡◌, ◌≤◌, ◌<◌};
 ghost use Rattle.request.specs.Request.{reading};
@@ -8,7 +9,7 @@ ghost use Rattle.dispatcher.specs.Dispatch.{fresh_state, uncarried, framed, move
 use table::Row;
 
 // The row that is served next, the mark of the first cycle and, for each of 16 tasks, the count of its overruns.
-#[derive(Drop)]
+#[derive(Clone, Copy)]
 pub struct State {
     pub row: u16,
     pub first: bool,
@@ -16,7 +17,7 @@ pub struct State {
 }
 
 // The entries to serve in 16 places, filled from the first, as task bytes and job bytes; and the state for the next call.
-#[derive(Drop)]
+#[derive(Clone, Copy)]
 pub struct Frame {
     pub refusal: u8,
     pub count: usize,
@@ -26,7 +27,7 @@ pub struct Frame {
 }
 
 // Whether the report was above C, and the state for the next call; or the number of its refusal, and the state as it was.
-#[derive(Drop)]
+#[derive(Clone, Copy)]
 pub struct Reported {
     pub refusal: u8,
     pub over: bool,

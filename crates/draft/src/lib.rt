@@ -1,3 +1,4 @@
+#![tactic(auto)]
 // Moving a job by hand: a draft of a table is started from an accepted table, jobs are lifted and put elsewhere, and the draft is written as a table again,
 // with numbers 26 to 28. A job is named by its place in planning order.
 ghost use Rattle.std.specs.Prelude.{◌≡◌, true, false, not, ◌≤◌, ◌<◌, ◌%◌, ◌/◌, min, get_or};
@@ -15,7 +16,7 @@ use cursor::Written;
 use cycle::{Cycle, Job};
 
 // The frame length; for each job in planning order its frame, or 65535 where it is lifted; and the load of each row. Unused places are kept.
-#[derive(Drop)]
+#[derive(Clone, Copy)]
 pub struct Draft {
     pub f: u16,
     pub frames: [u16; 128],
@@ -23,14 +24,14 @@ pub struct Draft {
 }
 
 // A refusal, or 0; and the draft after the call.
-#[derive(Drop)]
+#[derive(Clone, Copy)]
 pub struct Drafted {
     pub refusal: u8,
     pub draft: Draft,
 }
 
 // The placed jobs in planning order, with their frames.
-#[derive(Drop)]
+#[derive(Clone, Copy)]
 struct Placing {
     count: usize,
     jobs: [Job; 128],

@@ -1,1 +1,2 @@
+#![tactic(auto)]
 // Drafts after every list of moves: theorems, in specs/. No function.

@@ -1,3 +1,4 @@
+#![tactic(auto)]
 // The search for the first placing, pruned: a frame is also passed over where no placing begins with the jobs placed so far. What it finds is what
 // the search finds. `place_job` tries the frames of one job; `try_frame` tests one of them, asks whether it is pruned, and hands over to
 // `place_job` for the next. Data as for the search.
@@ -14,7 +15,7 @@ ghost use Rattle.exact_searcher.specs.Arrays.{low_by, high_by, PlacedSoFar, Sear
 use searcher::Given;
 
 // The frame of each job; or none, if there is no placing.
-#[derive(Drop)]
+#[derive(Clone, Copy)]
 pub struct FirstPlacing {
     pub found: bool,
     pub frames: [u16; 128],

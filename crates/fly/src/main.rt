@@ -1,3 +1,4 @@
+#![tactic(auto)]
 // Reads a request from standard input, plans it and serves three cycles of the plan frame by frame. For each frame it prints a line
 // `frame m start t` with the entries served as task.job@q, where q is the cycle of the job. Without a plan it prints `refused N`.
 use libc::STDIN_FILENO;

@@ -1,3 +1,4 @@
+#![tactic(auto)]
 // What `fly` prints, put as bytes into a lent buffer from its front: as much as there is room for. Bytes behind it keep their old content, and the answer
 // is where it ends.
 ghost use Rattle.std.specs.Prelude.{◌*◌, ◌/◌, ◌-◌, ◌≤◌, ◌<◌, ◌≡◌, cond};

@@ -1,3 +1,4 @@
+#![tactic(auto)]
 // The heater link: a command goes out with each served entry of task a, a reply with each of task b, and either may be lost. It stands above the dispatcher
 // and the check, and knows only their promises.
 ghost use Rattle.std.specs.Prelude.{◌≡◌, not, cond, ◌&&◌, ◌≤◌};
@@ -10,7 +11,7 @@ use dispatcher::{Frame, State};
 use request::Pair;
 
 // The dispatcher's state; the bit that the master sends, and the bit that the board last obeyed: false is 0, true is 1.
-#[derive(Drop)]
+#[derive(Clone, Copy)]
 pub struct Link {
     pub state: State,
     pub master: bool,
@@ -18,7 +19,7 @@ pub struct Link {
 }
 
 // Which of the two are lost in a frame, where they are served.
-#[derive(Drop)]
+#[derive(Clone, Copy)]
 pub struct Losses {
     pub command: bool,
     pub reply: bool,
@@ -26,7 +27,7 @@ pub struct Losses {
 
 // The entries served, as next-frame answers them; whether the board toggled and whether the command was answered in this call; and the link for the next
 // one. Or the number of the refusal, no entries, neither, and the link as it was.
-#[derive(Drop)]
+#[derive(Clone, Copy)]
 pub struct Exchange {
     pub refusal: u8,
     pub count: usize,

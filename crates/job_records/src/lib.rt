@@ -1,3 +1,4 @@
+#![tactic(auto)]
 // The timeline of an accepted table: a record for each job of the cycle, in planning order.
 ghost use Rattle.std.specs.Prelude.{◌≡◌, ◌<◌, length};
 ghost use Rattle.job_records.specs.Timeline.{Timeline, refusal, filling, filled_answer, filled_records};
@@ -6,7 +7,7 @@ ghost use Rattle.job_records.specs.Known.{known_answer, record_here};
 use cycle::Job;
 
 // Task, job, release, due time and frame, which is counted from time 0.
-#[derive(Drop)]
+#[derive(Clone, Copy)]
 pub struct JobRecord {
     pub task: u8,
     pub job: u8,
@@ -16,14 +17,14 @@ pub struct JobRecord {
 }
 
 // How many records were filled; or the number of the refusal, and 0.
-#[derive(Drop)]
+#[derive(Clone, Copy)]
 pub struct RecordsFilled {
     pub refusal: u8,
     pub count: usize,
 }
 
 // The jobs that a list is filled with, in planning order, and their frames, with zeros in the unused places; or the number of the refusal, a count of 0 and zeros.
-#[derive(Drop)]
+#[derive(Clone, Copy)]
 pub struct JobsKnown {
     pub refusal: u8,
     pub count: usize,

@@ -1,3 +1,4 @@
+#![tactic(auto)]
 // Joining two requests: the tasks and pairs of the first and then those of the second, whose numbers are raised by the first's number of tasks.
 ghost use Rattle.std.specs.Prelude.{◌≡◌, ◌++◌, map, ◌+◌, ◌≤◌};
 ghost use Rattle.cursor.specs.Padded.{padded, firsts};

@@ -1,3 +1,4 @@
+#![tactic(auto)]
 // The plausible frame lengths of a request.
 ghost use Rattle.std.specs.Prelude.{◌≡◌, ◌≤◌, ◌<◌};
 ghost use Rattle.cursor.specs.Padded.{firsts};

@@ -1,3 +1,4 @@
+#![tactic(auto)]
 // Time for a one-off transfer: the earliest frame whose row leaves enough of its length unused, with numbers 21 and 22.
 ghost use Rattle.std.specs.Prelude.{◌≡◌, ◌≤◌, ◌*◌};
 ghost use Rattle.table.specs.Answers.{entries_said};
@@ -11,7 +12,7 @@ use cycle::Cycle;
 use table::{Row, Sizes};
 
 // The frame, counted from time 0; or the number of the refusal, and 0.
-#[derive(Drop)]
+#[derive(Clone, Copy)]
 pub struct FrameFound {
     pub refusal: u8,
     pub frame: u16,

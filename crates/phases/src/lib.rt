@@ -1,3 +1,4 @@
+#![tactic(auto)]
 // Which phases of a task still fit: how many of them lead to a table, and how many to each refusal of the planner.
 ghost use Rattle.std.specs.Prelude.{◌≡◌, ◌<◌};
 ghost use Rattle.cycle.specs.PhaseLaws.{request_with};
@@ -7,7 +8,7 @@ ghost use Rattle.phases.specs.Counting.{Room, one_more, Countable, period_in, ph
 use request::{Request, Task};
 
 // A refusal, or 0; and how many phases of the task lead to a table, to 9, to 10 and to 23.
-#[derive(Drop)]
+#[derive(Clone, Copy)]
 pub struct PhaseCounts {
     pub refusal: u8,
     pub tables: u16,

@@ -1,3 +1,4 @@
+#![tactic(auto)]
 // Reads a request from standard input and prints its plan: a line `frame f cycle H rows F`, and a line for each row with its number,
 // its busy ticks and its entries as task.job, a carried one followed by `+`. Without a plan it prints `refused N`.
 use libc::STDIN_FILENO;

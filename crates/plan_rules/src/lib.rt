@@ -1,3 +1,4 @@
+#![tactic(auto)]
 // The rules of a plan, on the frames of its jobs: window, capacity and order.
 ghost use Rattle.std.specs.Prelude.{◌≡◌, ◌≤◌, ◌<◌, min, leb};
 ghost use Rattle.cursor.specs.Padded.{firsts};

@@ -1,3 +1,4 @@
+#![tactic(auto)]
 // Reads a request from standard input and writes the table of its plan to standard output. Without a plan it prints `refused N` on
 // standard error and nothing on standard output.
 ghost use Rattle.std.specs.Prelude.{◌≡◌};

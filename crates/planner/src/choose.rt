@@ -13,7 +13,7 @@ use problem::JobLinks;
 use searcher::{Given, Placed};
 
 // The frame length and the frame of each job of the chosen plan; or 9, 10 or 23. And the tries that were made.
-#[derive(Drop)]
+#[derive(Clone, Copy)]
 pub struct ChosenPlan {
     pub refusal: u8,
     pub f: u16,

@@ -1,3 +1,4 @@
+#![tactic(auto)]
 // The planner: a request becomes the table of its chosen plan, or a number that says why there is none, within an allowance of tries.
 pub mod choose;
 
@@ -10,7 +11,7 @@ pub const PROGRAM_TRIES: u64 = 10_000_000;
 
 // A refusal, or 0 and the table's length; and the tries that were made: one try is one job tested in one frame of its window, passed over or
 // not.
-#[derive(Drop)]
+#[derive(Clone, Copy)]
 pub struct Searched {
     pub refusal: u8,
     pub length: usize,

@@ -1,3 +1,4 @@
+#![tactic(auto)]
 // The jobs of a cycle as the search takes them: the cost of each, the frames of its window, and its links with the jobs before it.
 ghost use Rattle.std.specs.Prelude.{◌≡◌, map, ◌≤◌, ◌<◌, min, get_or};
 ghost use Rattle.cursor.specs.Padded.{padded, firsts};
@@ -12,13 +13,13 @@ use cycle::{Cycle, Job};
 use request::{Pair, Task};
 
 // How many links each job has, and the links, 16 places for those of each job.
-#[derive(Drop)]
+#[derive(Clone, Copy)]
 pub struct JobLinks {
     pub counts: [u16; 128],
     pub places: [u8; 2048],
 }
 
-#[derive(Drop)]
+#[derive(Clone, Copy)]
 enum LinkFound {
     Link(u8),
     NoLink,

@@ -1,3 +1,4 @@
+#![tactic(auto)]
 // Runs the reading of requests on byte strings of every kind that 1 to 8 and 17 refuse, and prints the number that each gets
 // (0: none). The file `stdout` beside src/ has the numbers that they must get.
 use libc::STDOUT_FILENO;

@@ -1,3 +1,4 @@
+#![tactic(auto)]
 // The request file: a team's periodic tasks, the pairs of tasks that keep order and the silent ticks after every transfer.
 // Sections stand in a fixed order, each after its count; every count and record is judged as it is met.
 pub mod write;
@@ -9,7 +10,7 @@ ghost use Rattle.request.specs.Answers.{task_read, pair_read, task_number, pair_
 use cursor::{ByteRead, Cursor, WordRead};
 
 // A periodic task: worst transfer time C, period T, deadline D after release, phase P.
-#[derive(Drop)]
+#[derive(Clone, Copy)]
 pub struct Task {
     pub c: u16,
     pub t: u16,
@@ -18,7 +19,7 @@ pub struct Task {
 }
 
 // Task a runs before task b.
-#[derive(Drop)]
+#[derive(Clone, Copy)]
 pub struct Pair {
     pub a: u8,
     pub b: u8,
@@ -26,7 +27,7 @@ pub struct Pair {
 
 // A readable request (refusal 0) has n tasks and m pairs, from the first place on, and g silent ticks after every transfer; one that is
 // refused has the number and none.
-#[derive(Drop)]
+#[derive(Clone, Copy)]
 pub struct Request {
     pub refusal: u8,
     pub n: usize,
@@ -36,20 +37,20 @@ pub struct Request {
     pub g: u8,
 }
 
-#[derive(Drop)]
+#[derive(Clone, Copy)]
 pub enum TaskRead {
     OneTask(Task, Cursor),
     NoTask(u8),
 }
 
-#[derive(Drop)]
+#[derive(Clone, Copy)]
 pub enum PairRead {
     OnePair(Pair, Cursor),
     NoPair(u8),
 }
 
 // A section that was read: its records and where the next section begins.
-#[derive(Drop)]
+#[derive(Clone, Copy)]
 struct TaskSection {
     refusal: u8,
     n: usize,
@@ -57,7 +58,7 @@ struct TaskSection {
     end: usize,
 }
 
-#[derive(Drop)]
+#[derive(Clone, Copy)]
 struct PairSection {
     refusal: u8,
     m: usize,
@@ -65,7 +66,7 @@ struct PairSection {
     end: usize,
 }
 
-#[derive(Drop)]
+#[derive(Clone, Copy)]
 struct SilentSection {
     refusal: u8,
     g: u8,

@@ -1,3 +1,4 @@
+#![tactic(auto)]
 // Rewriting: a table is checked against its request, and the plan read from it is written again.
 ghost use Rattle.std.specs.Prelude.{◌≡◌};
 ghost use Rattle.plan_writer.specs.Outcome.{outcome_answer, outcome_buffer};

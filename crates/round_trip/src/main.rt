@@ -1,3 +1,4 @@
+#![tactic(auto)]
 // Plans the requests of the bench sheet that have a plan, checks each table and rewrites it, and prints what the check gives (0: accepted)
 // and whether the bytes are the same. The file `stdout` beside src/ has what it must print.
 use libc::STDOUT_FILENO;

@@ -1,3 +1,4 @@
+#![tactic(auto)]
 // The search for a placing: each job gets a frame of its window, so that no row is loaded with more than the frame's length and every link is
 // kept. `place_job` tries the frames of one job, with the row as a running number; `try_frame` tests one of them by `may_stand`, puts the job there
 // and hands over to `place_job` for the next. The load of each row is kept as jobs are put and taken back. Jobs are numbered in the order of placing.
@@ -15,7 +16,7 @@ ghost use Rattle.searcher.specs.Arrays.{Small, Placeable, problem_of, jobs_in, c
 
 // What is given: for each of n jobs its cost, its window from `first` up to and without `end`, how many links it has, and 16 places for them; the number
 // of rows, and the length f of a frame.
-#[derive(Drop)]
+#[derive(Clone, Copy)]
 pub struct Given {
     pub cost: [u32; 128],
     pub first: [u16; 128],
@@ -29,7 +30,7 @@ pub struct Given {
 
 // 1, and the frame of each job; 0, where there is no placing; or 2, where finding out takes more tries than are allowed. And how many tries are
 // left of those allowed.
-#[derive(Drop)]
+#[derive(Clone, Copy)]
 pub struct Placed {
     pub answer: u8,
     pub left: u64,

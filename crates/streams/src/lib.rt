@@ -1,3 +1,4 @@
+#![tactic(auto)]
 // What a program reads and prints: what cannot be read or written is named on standard error, with the system's reason.
 use libc::STDOUT_FILENO;
 

@@ -1,3 +1,4 @@
+#![tactic(auto)]
 // The row sweep: the jobs are put into rows, a row after the other and in a row a job after the other; each is put into the row or left out of
 // it. Where `sweep` answers false, there is no way to do so; an answer true says nothing. `run` goes through the jobs of a row and on through
 // the rows, and `put` puts one job into the row and runs on from there, so calls are no deeper than there are jobs.

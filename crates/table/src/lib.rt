@@ -1,3 +1,4 @@
+#![tactic(auto)]
 // The table file: its sizes and its rows are read, and it is written. Every refusal has its number, and 0 is none.
 pub mod job;
 pub mod read;
@@ -6,7 +7,7 @@ pub mod write;
 use cursor::Cursor;
 
 // f, H and F.
-#[derive(Drop)]
+#[derive(Clone, Copy)]
 pub struct Sizes {
     pub refusal: u8,
     pub f: u16,
@@ -15,7 +16,7 @@ pub struct Sizes {
 }
 
 // A row's entries in 16 places, filled from the first: task bytes and job bytes.
-#[derive(Drop)]
+#[derive(Clone, Copy)]
 pub struct Row {
     pub refusal: u8,
     pub count: usize,
@@ -24,21 +25,21 @@ pub struct Row {
 }
 
 // The sizes and one row, of one reading.
-#[derive(Drop)]
+#[derive(Clone, Copy)]
 pub struct TableRead {
     pub sizes: Sizes,
     pub row: Row,
 }
 
 // A row, and the cursor behind it.
-#[derive(Drop)]
+#[derive(Clone, Copy)]
 pub struct TakenRow {
     pub row: Row,
     pub next: Cursor,
 }
 
 // Entries in a given order, `count` of them and at most 128, each with its row: row k of the table holds those whose row is k.
-#[derive(Drop)]
+#[derive(Clone, Copy)]
 pub struct Layout {
     pub f: u16,
     pub h: u16,

@@ -8,21 +8,21 @@ use crate::{Row, Sizes, TableRead, TakenRow};
 use cursor::{ByteRead, Cursor, WordRead};
 
 // An entry's task byte and job byte.
-#[derive(Drop)]
+#[derive(Clone, Copy)]
 enum EntryRead {
     EntryBytes(u8, u8, Cursor),
     NoEntry,
 }
 
 // A row's number of entries.
-#[derive(Drop)]
+#[derive(Clone, Copy)]
 enum RowRead {
     RowEntries(usize, Cursor),
     NoRow,
 }
 
 // f and H.
-#[derive(Drop)]
+#[derive(Clone, Copy)]
 enum SizesRead {
     TwoSizes(u16, u16, Cursor),
     NoSizes,

@@ -1,3 +1,4 @@
+#![tactic(auto)]
 // Text put into a lent buffer, byte by byte: each call answers the place behind what it put. Where the buffer is full, the rest is left out.
 ghost use Rattle.std.specs.Prelude.{◌+◌, ◌<◌, ◌≡◌};
 ghost use Rattle.text.specs.Text.{filled_to, put_of, put_all_of, decimal_of};

@@ -1,3 +1,4 @@
+#![tactic(auto)]
 // Reads a request from standard input, plans it and prints a line for each job of the cycle, in planning order: its task, job, release, due time and frame. The
 // last line is `busy B`, the sum of C over the jobs. Without a plan it prints `refused N`.
 use libc::STDIN_FILENO;

@@ -1,3 +1,4 @@
+#![tactic(auto)]
 // The bus timer: the dispatcher shown as eight registers. It stands above the dispatcher.
 ghost use Rattle.std.specs.Prelude.{◌≡◌, ◌≤◌, ◌<◌, ◌||◌, not, ◌&&◌};
 ghost use Rattle.request.specs.Request.{reading};
@@ -9,21 +10,21 @@ ghost use Rattle.timer.specs.Registers.{served_once, none_served, serving, marke
 use dispatcher::{Frame, State};
 
 // Register 0: bit 0 run, bit 1 interrupt enable.
-#[derive(Drop)]
+#[derive(Clone, Copy)]
 pub struct Control {
     pub run: bool,
     pub enable: bool,
 }
 
 // Register 1: bit 0 frame due, bit 1 overrun, bit 2 frame missed.
-#[derive(Drop)]
+#[derive(Clone, Copy)]
 pub struct Status {
     pub due: bool,
     pub overrun: bool,
     pub missed: bool,
 }
 
-#[derive(Drop)]
+#[derive(Clone, Copy)]
 pub struct Timer {
     pub state: State,
     pub control: Control,
@@ -31,21 +32,21 @@ pub struct Timer {
 }
 
 // A register's byte; or 29, and 0.
-#[derive(Drop)]
+#[derive(Clone, Copy)]
 pub struct RegisterRead {
     pub refusal: u8,
     pub value: u8,
 }
 
 // The timer after a write or a report; or the number of its refusal, and the timer as it was.
-#[derive(Drop)]
+#[derive(Clone, Copy)]
 pub struct Changed {
     pub refusal: u8,
     pub timer: Timer,
 }
 
 // The entries to serve in 16 places, filled from the first, as task bytes and job bytes; and the timer for the next call.
-#[derive(Drop)]
+#[derive(Clone, Copy)]
 pub struct FrameServed {
     pub refusal: u8,
     pub count: usize,
