@@ -127,9 +127,9 @@ module _ (bytes : List ℕ) where
   line_no_timer e = rw e
 
   module _ (is : is_timer bytes ≡ true) where
-    pub line_on : line_on (timer_of bytes) ≡ true → pos 1 ≡ timer_line_reply bytes
+    pub line_on_lem : line_on (timer_of bytes) ≡ true → pos 1 ≡ timer_line_reply bytes
     unfolding timer_line_reply
-    line_on e = rw (is, e)
+    line_on_lem e = rw (is, e)
 
     pub line_off : line_on (timer_of bytes) ≡ false → pos 0 ≡ timer_line_reply bytes
     unfolding timer_line_reply

@@ -121,10 +121,10 @@ module _ (jobs : List Job) (frames : List ℕ) (count height : ℕ) (s : List �
       unfolding entries_in
       entry_first h = rw (less_one n e h)
 
-      pub entry_kept : e < n → entry_kept jobs frames count height row (entry_of (get_or s at 0) (get_or s (at + 1) 0)) ≡ true
+      pub entry_kept_lem : e < n → entry_kept jobs frames count height row (entry_of (get_or s at 0) (get_or s (at + 1) 0)) ≡ true
           → row_kept jobs frames count height row (entries_in s (n - (e + 1)) (at + 2)) ≡ row_kept jobs frames count height row (entries_in s (n - e) at)
       unfolding row_kept
-      entry_kept h q = sym (entry_first h ∙ rw q)
+      entry_kept_lem h q = sym (entry_first h ∙ rw q)
 
       pub entry_broken : e < n → entry_kept jobs frames count height row (entry_of (get_or s at 0) (get_or s (at + 1) 0)) ≡ false
           → false ≡ row_kept jobs frames count height row (entries_in s (n - e) at)
@@ -144,11 +144,11 @@ module _ (jobs : List Job) (frames : List ℕ) (count height : ℕ) (s : List �
     unfolding rows_in
     row_first h = rw (less_one height row h)
 
-    pub row_kept : row < height → row_kept jobs frames count height row (entries_in s (get_or s at 0) (at + 1)) ≡ true
+    pub row_kept_lem : row < height → row_kept jobs frames count height row (entries_in s (get_or s at 0) (at + 1)) ≡ true
         → rows_kept jobs frames count height (row + 1) (rows_in s (height - (row + 1)) (at + 1 + 2 * get_or s at 0))
         ≡ rows_kept jobs frames count height row (rows_in s (height - row) at)
     unfolding rows_kept
-    row_kept h q = sym (row_first h ∙ rw q)
+    row_kept_lem h q = sym (row_first h ∙ rw q)
 
     pub row_broken : row < height → row_kept jobs frames count height row (entries_in s (get_or s at 0) (at + 1)) ≡ false
         → false ≡ rows_kept jobs frames count height row (rows_in s (height - row) at)

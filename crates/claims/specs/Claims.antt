@@ -3,7 +3,7 @@
 mod Cited
 use Cited.*
 mod Contracts
-use Contracts.{EveryContract, Tested, contracts-met, tested-met}
+use Contracts.{EveryContract, Tested, contracts_met, tested_met}
 
 -- of the tasks of every request that can be read
 abbrev pub OfReadable : (List Task → Type 0) → Type 0
@@ -33,7 +33,7 @@ OneWritten Says = (x y : Written) (b c : List ℕ) → Says x b → Says y c →
 -- DEMAND 1: every entry point ends, stays inside its buffers, refuses by the papers' numbers, and leaves a lent buffer unchanged when it refuses.
 -- 01: "every public call states an equation for its answer and for the bytes and state afterwards, refusals included; this paper leaves no answer free."
 pub demand_1 : {M : Type 1} → EveryContract M
-demand_1 = contracts-met
+demand_1 = contracts_met
 
 -- DEMAND 2: reading, cycle, jobs, lengths, table, check and dispatcher are the papers'.
 pub record Demand2 : Type 0 where
@@ -137,7 +137,7 @@ demand_3 = record {
 
 -- 02. R-3: "whenever a job is tested in a frame, each kept load equals the sum of C + g over the jobs then placed in its row": what the test asks.
 pub tested_with_kept_loads : {M : Type 1} → Tested M
-tested_with_kept_loads = tested-met
+tested_with_kept_loads = tested_met
 
 pub record Requests : Type 0 where
   -- R-1: "In capacity, and in f ≥ C, each C counts as C + g.": a request is planned as the one with every C as C + g and with no silent ticks

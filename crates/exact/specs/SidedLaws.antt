@@ -29,7 +29,7 @@ all_in_from t (l ∷ ls) h = rw (h l (Memᴰ.head refl)) (all_in_from t ls (λ k
 
 all_in_says : (t : ℕ → Bool) (ls : List ℕ) → all_in t ls ≡ true → (l : ℕ) → Memᴰ l ls → t l ≡ true
 unfolding all_in
-all_in_says t [] e l m = absurd (Memᴰ.not_nil m)
+all_in_says t [] e l m = absurd (Memᴰ.not-nil m)
 all_in_says t (k ∷ ls) e l m =
     let b = both_true (t k) (all_in t ls) e in
     ⊎_elim (λ q. rw q b.0) (all_in_says t ls b.1 l) (Memᴰ.cases_cons m)

@@ -25,6 +25,7 @@ not_both b p q = absurd (let z : ◌≡◌ {A = ℕ} 0 1 = cc in omega arith)
 -- Leaving carried entries out
 
 among_uncarried : (e : Entry) (es : List Entry) → Among e es → e.carried ≡ false → Among e (uncarried es)
+among_uncarried e [] m n = elim m [ ]
 among_uncarried e (x ∷ xs) (inl q) n = rw (uncarried_kept x xs (ap (λ (y : Entry). y.carried) (sym q) ∙ n)) (inl q)
 among_uncarried e (x ∷ xs) (inr m) n = go x.carried refl (among_uncarried e xs m n)
   where
@@ -74,6 +75,7 @@ pub record PlaceIn (e : Entry) (es : List Entry) : Type 0 where
   pub is : get_or es place no_entry ≡ e
 
 pub place_in : (e : Entry) (es : List Entry) → Among e es → PlaceIn e es
+place_in e [] m = elim m [ ]
 place_in e (x ∷ xs) (inl q) = record { place = 0; filled = omega arith; is = sym q }
 place_in e (x ∷ xs) (inr m) = let w = place_in e xs m in record { place = suc w.place; filled = omega (arith, w.filled); is = w.is }
 
@@ -207,6 +209,7 @@ module _ (now i j q : ℕ) where
 
   pub runs_once : (low : ℕ) (es : List Entry) → RisingFrom low es → (e : Entry) → Among e es → stands_for now i j q e ≡ true → runs_in now i j q es ≡ 1
   unfolding runs_in
+  runs_once low [] r e m w = elim m [ ]
   runs_once low (y ∷ ys) r e m w = go (stands_for now i j q y) refl m (λ k. runs_once (y.task + 1) ys (rising_first low y ys r).rest e k w)
     where
       go : (b : Bool) → stands_for now i j q y ≡ b → Among e (y ∷ ys) → (Among e ys → runs_in now i j q ys ≡ 1) → bit b + runs_in now i j q ys ≡ 1

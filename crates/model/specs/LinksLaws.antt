@@ -89,7 +89,7 @@ in_link_if y z link l m = go (ltb z y) refl m
   where
     go : (b : Bool) → ltb z y ≡ b → Memᴰ l (cond b (link ∷ []) []) → (z < y) × (l ≡ link)
     go true e m = (ltb-true z y e, Memᴰ.eq_of_singleton m)
-    go false e m = absurd (Memᴰ.not_nil m)
+    go false e m = absurd (Memᴰ.not-nil m)
 
 link_if_lem : (y z link : ℕ) → z < y → Memᴰ link (link_if y z link)
 unfolding link_if
@@ -126,7 +126,7 @@ module _ (jobs : List Job) (y : ℕ) (pair : Pair) where
       go false e true q m =
           let v = in_link_if y second (second + 128) l m in
           to_second second v.1 v.0 (eqb-true _ _ q) (place_before_has jobs pair.b job.number y v.0)
-      go false e false q m = absurd (Memᴰ.not_nil m)
+      go false e false q m = absurd (Memᴰ.not-nil m)
 
   -- the pair's second job has a link to the first, and the first to the second
   pub link_to_first : (z : ℕ) → z < y → job.task ≡ pair.b → HasJob jobs z pair.a job.number
@@ -165,7 +165,7 @@ module _ (jobs : List Job) (y : ℕ) where
   in_links_by : (pairs : List Pair) (l : ℕ) → Memᴰ l (links_by jobs y pairs)
       → (u : ℕ) × (u < length pairs) × Memᴰ l (link_by jobs y (get_or pairs u no_pair))
   unfolding links_by
-  in_links_by [] l m = absurd (Memᴰ.not_nil m)
+  in_links_by [] l m = absurd (Memᴰ.not-nil m)
   in_links_by (pair ∷ pairs) l m = go (Memᴰ.append_cases (link_by jobs y pair) m) (in_links_by pairs l)
     where
       go : Memᴰ l (link_by jobs y pair) ⊎ Memᴰ l (links_by jobs y pairs)

@@ -4,6 +4,7 @@ use Rattle.std.specs.Prelude.{ℕ, zero, suc, ◌+◌, ◌/◌, ◌≤◌, ◌<�
 use Rattle.std.proofs.Common.{sym, ◌∙◌, arith, length-set, le-ltb}
 use Rattle.std.proofs.Math.Path.{ap}
 use mathlib.Core.List.{List, [], ◌∷◌, flat_map}
+use Rattle.arith.specs.Lcm.{lcm_of}
 use Rattle.request.specs.Request.{readable, reading, no_task, period_of}
 use Rattle.request.specs.declared.Task.{Task}
 use Rattle.request.specs.declared.Pair.{Pair}
@@ -20,7 +21,7 @@ lcm_phase : (h : ℕ) (tasks : List Task) (i p : ℕ) → lcm_with h (tasks_with
 unfolding lcm_with
 lcm_phase h [] i p = refl
 lcm_phase h (x ∷ tasks) zero p = refl
-lcm_phase h (x ∷ tasks) (suc i) p = lcm_phase _ tasks i p
+lcm_phase h (x ∷ tasks) (suc i) p = lcm_phase (lcm_of h x.t) tasks i p
 
 -- the number of jobs goes by the periods
 jobs_same : (h : ℕ) (tasks tasks' : List Task) → ((m : ℕ) → period_of tasks m ≡ period_of tasks' m)

@@ -30,7 +30,7 @@ says_keeps p k l v = go (ltb l 128) refl
 
 pub all_kept_says : (p : List ℕ) (k : ℕ) (ls : List ℕ) → all_kept p k ls ≡ true → (l : ℕ) → Memᴰ l ls → LinkKept p k l
 unfolding all_kept
-all_kept_says p k [] e l m = absurd (Memᴰ.not_nil m)
+all_kept_says p k [] e l m = absurd (Memᴰ.not-nil m)
 all_kept_says p k (y ∷ ls) e l m =
     let b = both_true (keeps p k y) (all_kept p k ls) e in
     ⊎_elim (λ q. rw q (keeps_says p k y b.0)) (all_kept_says p k ls b.1 l) (Memᴰ.cases_cons m)

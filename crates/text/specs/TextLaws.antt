@@ -1,6 +1,6 @@
 -- Putting two texts one after the other; what a buffer holds after a text was put into it from the front; and the two laws of the
 -- decimal digits: a number below 10 is one digit, and any other has the digits of its tenth and then its last one.
-use Rattle.std.specs.Prelude.{ℕ, zero, suc, ◌+◌, ◌-◌, ◌/◌, ◌%◌, ◌≤◌, ◌<◌, ◌^◌, min, ◌≡◌, refl, List, [], ◌∷◌, ◌++◌, Bool, true, false, ltb, length, drop, get_or}
+use Rattle.std.specs.Prelude.{ℕ, zero, suc, ◌+◌, ◌/◌, ◌%◌, ◌≤◌, ◌<◌, ◌^◌, min, ◌≡◌, refl, List, [], ◌∷◌, ◌++◌, Bool, true, false, ltb, length, drop, get_or}
 use Rattle.std.proofs.Common.{sym, ap, ◌∙◌, arith, le_refl, zero-add, pow-suc, add-one, lt-ltb, le-ltb, ltb-true, ltb-false, length-append, length-take, length-drop, drop_of_length-le, drop-cons, take_all, length-take-le}
 use Rattle.std.proofs.Math.Seq.{drop-nil, take-nil, set-append_seam, append_snoc}
 use Rattle.text.specs.Text.{Filled, filled_to, put_of, put_all_of, laid, PutIn, decimal_steps, decimal_of}

@@ -6,7 +6,7 @@ use Rattle.timer.specs.Registers.{line_on}
 use Rattle.lent.specs.TimerBytes.{is_timer, timer_of}
 use Rattle.lent.specs.TimerByteLaws.{timer_long}
 use Rattle.bus.specs.ReplyLaws.{kept}
-use Rattle.bus.specs.TimerLaws.{line_no_timer, line_on, line_off}
+use Rattle.bus.specs.TimerLaws.{line_no_timer, line_on_lem, line_off}
 use borrow.Author.Rules.{rules}
 use Rattle.bus.proofs.registers.bus_timer_line.Statement.{statement}
 use Rattle.bus.proofs.registers.bus_timer_line.Tie as tie
@@ -28,7 +28,7 @@ line_is : (c : tie.After-line) → c.line.result ≡ line_on (timer_of c.before.
 line_is c = rw c.before.read-timer.ensures at c.line.ensures
 
 returns-2 : tie.Need-returns-2
-returns-2 c = let l = c.before in line_on _ (a-timer l.before.before) (sym (line_is l) ∙ c.if2.true)
+returns-2 c = let l = c.before in line_on_lem _ (a-timer l.before.before) (sym (line_is l) ∙ c.if2.true)
 
 returns-3 : tie.Need-returns-3
 returns-3 c = let l = c.before in line_off _ (a-timer l.before.before) (sym (line_is l) ∙ c.if2.false)

@@ -1,0 +1,26 @@
+-- The number is that of the request, or that of the table.
+use Rattle.std.proofs.Common.{sym, ◌∙◌, ap, rules}
+use Rattle.cycle.specs.Cycle.{Cycle}
+use Rattle.table.specs.Table.{decode}
+use Rattle.model.specs.WithinLaws.{read_within, read_refused}
+use Rattle.checker.specs.Checked.{checked, verdict_number}
+use Rattle.checker.specs.Answers.{cycle_in}
+use Rattle.checker.specs.ReadLaws.{request_refused, found_number}
+use Rattle.checker.proofs.check.Goals as goal
+
+pub returns-then-cycle-ne0 : goal.returns-then-cycle-ne0
+returns-then-cycle-ne0 c =
+    let a = c.args in
+    let is = read_refused a.request.now _ c.read-cycle.ensures c.if-cycle-ne0.true in
+    sym (ap verdict_number (request_refused a.request.now _ (decode a.table.now) is))
+
+pub judge-found-requires : goal.judge-found-requires
+judge-found-requires c =
+    (read_within c.args.request.now _ c.read-cycle.ensures c.if-cycle-ne0.false).limits
+
+pub returns : goal.returns
+returns c =
+    let a = c.args in
+    let w = read_within a.request.now _ c.read-cycle.ensures c.if-cycle-ne0.false in
+    ap (λ r. r.refusal) c.judge-found.ensures ∙ found_number (checked (cycle_in c.read-cycle.result) (decode a.table.now))
+    ∙ sym (ap (λ (x : Cycle). verdict_number (checked x (decode a.table.now))) w.within)

@@ -1,0 +1,42 @@
+-- Each way out is one case of the definition.
+use Rattle.std.proofs.Common.{sym, ◌∙◌, arith, rules}
+use borrow.Author.Tests.{not-true, not-false}
+use Rattle.model.specs.WithinLaws.{read_within, read_refused}
+use Rattle.draft.specs.MoveLaws.{movable, in_range, put_refused, put_not, put_placed, put_done}
+use Rattle.draft.proofs.put.Goals as goal
+
+pub returns-then-cycle-ne0 : goal.returns-then-cycle-ne0
+returns-then-cycle-ne0 c = c.kept.ensures ∙ put_refused _ _ _ _ _ (read_refused _ _ c.read-cycle.ensures c.if-cycle-ne0.true)
+
+pub returns-then-not-can_move : goal.returns-then-not-can_move
+returns-then-not-can_move c =
+    let t = read_within _ _ c.read-cycle.ensures c.if-cycle-ne0.false in
+    c.kept-then-not-can_move.ensures ∙ put_not _ _ _ _ t _ (sym c.can_move.ensures ∙ c.if-not-can_move.true)
+
+pub offset_bounds-frames-y : goal.offset_bounds-frames-y
+offset_bounds-frames-y c =
+    let t = read_within _ _ c.read-cycle.ensures c.if-cycle-ne0.false in
+    let can = sym c.can_move.ensures ∙ c.if-not-can_move.false in
+    omega (arith, in_range _ _ _ (movable _ _ _ _ t can))
+
+pub bounds-frames-y : goal.bounds-frames-y
+bounds-frames-y c =
+    let t = read_within _ _ c.read-cycle.ensures c.if-cycle-ne0.false in
+    in_range _ _ _ (movable _ _ _ _ t (sym c.can_move.ensures ∙ c.if-not-can_move.false))
+
+pub returns-then-frames-y : goal.returns-then-frames-y
+returns-then-frames-y c =
+    let t = read_within _ _ c.read-cycle.ensures c.if-cycle-ne0.false in
+    let can = sym c.can_move.ensures ∙ c.if-not-can_move.false in
+    c.kept-then-frames-y.ensures ∙ put_placed _ _ _ _ t can _ c.if-frames-y.true
+
+pub put_there-requires : goal.put_there-requires
+put_there-requires c =
+    let t = read_within _ _ c.read-cycle.ensures c.if-cycle-ne0.false in
+    movable _ _ _ _ t (sym c.can_move.ensures ∙ c.if-not-can_move.false)
+
+pub returns : goal.returns
+returns c =
+    let t = read_within _ _ c.read-cycle.ensures c.if-cycle-ne0.false in
+    let can = sym c.can_move.ensures ∙ c.if-not-can_move.false in
+    c.put_there.ensures ∙ put_done _ _ _ _ t can _ c.if-frames-y.false

@@ -1,0 +1,18 @@
+-- The loop keeps that the pairs left decide.
+use Rattle.std.proofs.Common.{◌≤◌, ◌-◌, sym, ◌∙◌, arith, rules}
+use native.Mathlib.Nat.{sub-zero}
+use borrow.Author.Tests.{not-true, not-false}
+use Rattle.cursor.specs.Padded.{firsts}
+use Rattle.cycle.specs.Planned.{no_job}
+use Rattle.request.specs.Request.{no_pair}
+use Rattle.plan_rules.specs.Rules.{pair_kept}
+use Rattle.plan_rules.specs.EveryLaws.{AllLeft, all_next, all_fails, all_done}
+use Rattle.plan_rules.specs.LoopLaws.{pair_at_lem}
+use Rattle.plan_rules.proofs.pairs_kept.Given as goal
+
+abbrev pub invariant-loop-u : goal.invariant-loop-u
+invariant-loop-u l =
+    (l.u ≤ l.m) × (l.m ≤ 16) × AllLeft (pair_kept (firsts l.count no_job l.jobs) (firsts l.count 0 l.frames) l.count (firsts l.m no_pair l.pairs)) l.m l.u
+
+abbrev pub decreases-loop-u : goal.decreases-loop-u
+decreases-loop-u l = l.m - l.u

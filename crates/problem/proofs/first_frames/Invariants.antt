@@ -1,0 +1,11 @@
+-- The loop keeps that the first frames of the jobs passed stand in the first places.
+use Rattle.std.proofs.Common.{◌≤◌, ◌<◌, ◌-◌, ◌≡◌, ◌∙◌, arith, rules}
+use Rattle.model.specs.Chosen.{first_frame_of}
+use Rattle.problem.specs.JobLaws.{numbers, no_number, one_number, all_numbers}
+use Rattle.problem.proofs.first_frames.Given as goal
+
+abbrev pub invariant-loop-y : goal.invariant-loop-y
+invariant-loop-y l = (l.y ≤ l.count) × (l.out ≡ numbers (first_frame_of l.f) l.jobs l.y)
+
+abbrev pub decreases-loop-y : goal.decreases-loop-y
+decreases-loop-y l = l.count - l.y

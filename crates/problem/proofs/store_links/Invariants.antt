@@ -1,0 +1,11 @@
+-- The loop keeps that the links by the pairs passed are stored and counted.
+use Rattle.std.proofs.Common.{◌≤◌, ◌<◌, ◌-◌, ◌+◌, ◌*◌, ◌≡◌, ⊎_elim, arith, rules}
+use Rattle.problem.specs.Answers.{Stored}
+use Rattle.problem.specs.LinkLaws.{links_so, no_links, no_link_more, one_link_more}
+use Rattle.problem.proofs.store_links.Given as goal
+
+abbrev pub invariant-loop-u : goal.invariant-loop-u
+invariant-loop-u l = (l.u ≤ l.m) × (l.count ≤ l.u) × Stored l.y (links_so l.jobs l.y l.pairs l.u) l.initial.places l.places l.count
+
+abbrev pub decreases-loop-u : goal.decreases-loop-u
+decreases-loop-u l = l.m - l.u

@@ -1,0 +1,12 @@
+-- The loop keeps that the count and the pairs before pair i are in their places and those from i on are to come.
+use Rattle.std.proofs.Common.{rules, ◌≤◌, ◌-◌, ◌+◌, ◌*◌, ◌≡◌, arith, length, length-set}
+use Rattle.request.specs.Request.{no_pair}
+use Rattle.request.specs.Encode.{pair_bytes}
+use Rattle.request.specs.WriteLaws.{pair_wide, SectionPart, count_room, section_start, section_room, section_more, section_end, pair_stored}
+use Rattle.request.proofs.write.write_pairs.Given as goal
+
+abbrev pub invariant-loop-i : goal.invariant-loop-i
+invariant-loop-i l = (l.i ≤ l.m) × (l.m ≤ 16) × (l.at ≡ 1 + 2 * l.i) × SectionPart pair_bytes 2 pair_wide no_pair l.pairs l.m l.initial.out l.out l.at l.i
+
+abbrev pub decreases-loop-i : goal.decreases-loop-i
+decreases-loop-i l = l.m - l.i
