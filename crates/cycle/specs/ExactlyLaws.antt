@@ -1,6 +1,6 @@
 -- Why the statement of the cycle determines it: one H, one count of jobs, one list in planning order, one cycle in an answer.
-use Rattle.std.specs.Prelude.{ℕ, zero, suc, ◌+◌, ◌≤◌, ◌<◌, ◌≡◌, refl, true, ◌⊎◌, length, get_or, take, drop}
-use Rattle.std.proofs.Common.{sym, ap, subst₂, ◌∙◌, inl, inr, ⊎_elim, eq-or-lt_of_le, le_antisymm, add-one, arith, drop_of_length-le, drop-cons, ext_get_or}
+use Rattle.std.specs.Prelude.{ℕ, zero, suc, ◌+◌, ◌≤◌, ◌<◌, ◌≡◌, true, length, get_or, take, drop}
+use Rattle.std.proofs.Common.{sym, ap, subst₂, ◌∙◌, ⊎_elim, eq-or-lt_of_le, le_antisymm, add-one, arith, drop_of_length-le, drop-cons, ext_get_or}
 use mathlib.Core.List.{List, flat_map}
 use Rattle.cursor.specs.ChoiceLaws.{lt_or_ge}
 use Rattle.cursor.specs.ParsedLaws.{never}

@@ -1,6 +1,6 @@
 -- What the hyperperiod is, the least common multiple of the periods; and what a request within the limits keeps: its cycle is a whole number of
 -- periods of each task, so every job is released within the cycle, and due within the next one.
-use Rattle.std.specs.Prelude.{ℕ, zero, suc, ◌+◌, ◌*◌, ◌/◌, ◌≤◌, ◌<◌, ◌≡◌, refl, Bool, true, false, cond, List, [], ◌∷◌, ◌↔◌, ◌⊎◌, ltb}
+use Rattle.std.specs.Prelude.{ℕ, zero, suc, ◌+◌, ◌*◌, ◌/◌, ◌≤◌, ◌<◌, ◌≡◌, refl, Bool, true, false, cond, List, [], ◌∷◌, ◌↔◌, ltb}
 use Rattle.std.specs.Int.{◌∣◌}
 use Rattle.std.proofs.Common.{subst, inl, inr, ⊎_elim, mul-le-mul_right, lt_of_mul-lt-mul_right, arith, ltb-false}
 use Rattle.std.proofs.Math.Nat.{dvd_refl, dvd_trans, one-dvd, le_of_dvd, div-mul_cancel}

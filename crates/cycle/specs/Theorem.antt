@@ -1,6 +1,6 @@
 -- Which answer a request's bytes get as a cycle, exactly: the theorem. One of the conditions holds, each gives its answer, and no two hold.
 use Prim.Native.Nat.{ℕ, ◌≤◌, ◌<◌}
-use Rattle.std.specs.Prelude.{◌≡◌, Bool, true, false, cond, List, ◌↔◌, ◌⊎◌, length, ltb}
+use Rattle.std.specs.Prelude.{◌≡◌, Bool, true, false, cond, List, ◌↔◌, length, ltb}
 use Rattle.std.proofs.Math.Path.{refl}
 use Rattle.std.proofs.Common.{sym, ap, subst, ◌∙◌, inl, inr, arith, ltb-true, ltb-false}
 use Rattle.cursor.specs.ParsedLaws.{never}
@@ -9,7 +9,7 @@ use Rattle.request.specs.Readable.{UnreadNumber}
 use Rattle.request.specs.ReadableLaws.{readable_kept, unreadable_number}
 use Rattle.request.specs.declared.Task.{Task}
 use Rattle.request.specs.declared.Pair.{Pair}
-use Rattle.cycle.specs.Cycle.{Cycle, cycle, no_cycle, hyperperiod, all_jobs, planned, limited, after_reading, cycle_of}
+use Rattle.cycle.specs.Cycle.{Cycle, cycle, no_cycle, hyperperiod, all_jobs, planned, after_reading, cycle_of}
 use Rattle.cycle.specs.Planned.{InPlanningOrder}
 use Rattle.cycle.specs.PlannedLaws.{Periodic, planned_in_order}
 use Rattle.cycle.specs.LimitLaws.{readable_periodic}

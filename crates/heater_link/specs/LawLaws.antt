@@ -1,5 +1,5 @@
 -- The law speaks of what happened, and not of how it is told: two accounts of the same frames keep it both or neither.
-use Rattle.std.specs.Prelude.{ℕ, ◌↔◌, ◌⊎◌}
+use Rattle.std.specs.Prelude.{ℕ, ◌↔◌}
 use Rattle.std.proofs.Common.{inl, inr, ⊎_elim}
 use Rattle.heater_link.specs.Law.{Unanswered, FirstReply, FirstCopy, UnderWay, Lawful}
 

@@ -2,9 +2,9 @@
 -- Number a task's jobs through all cycles: the window of job n opens at P + n·T and is no longer than T, so no frame lies in two of
 -- them. One cycle later is H / T jobs and H / f frames later, so two jobs in equal rows become two such numbers with one frame.
 use Rattle.std.specs.Prelude.{◌≡◌, ◌↔◌, ℕ, ◌+◌, ◌*◌, ◌/◌, ◌%◌, ◌≤◌, ◌<◌}
-use Rattle.std.proofs.Common.{sym, ap, ◌∙◌, mod-eq_of_lt, div-add-mod', mul-le-mul_right, lt_of_mul-lt-mul_right, div-lt_iff_lt-mul, arith}
+use Rattle.std.proofs.Common.{sym, ap, ◌∙◌, mod-eq_of_lt, div-add-mod', mul-le-mul_right, lt_of_mul-lt-mul_right, arith}
 use Rattle.std.specs.Int.{◌∣◌}
-use Rattle.std.proofs.Math.Nat.{mod-eq-sub-mod, div-mul_cancel, eq_of_mul-eq-mul_right, add-mul-mod_self_right, add-mul-div_right, le_of_dvd, pos_of_dvd_of_pos}
+use Rattle.std.proofs.Math.Nat.{eq_of_mul-eq-mul_right, add-mul-mod_self_right, add-mul-div_right, pos_of_dvd_of_pos}
 use Rattle.arith.specs.Residue.{congruent, periods_frames}
 use Rattle.model.specs.Plan.{InWindow}
 

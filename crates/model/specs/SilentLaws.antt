@@ -1,5 +1,5 @@
 -- The silent ticks count as if every C were C + g: the costs and the frame rules are those of the lengthened request, and so is all that rests on them.
-use Rattle.std.specs.Prelude.{◌≡◌, Bool, false, cond, ◌&&◌, List, [], ◌∷◌, map, get_or, leb}
+use Rattle.std.specs.Prelude.{◌≡◌, Bool, false, ◌&&◌, List, [], ◌∷◌, map, leb}
 use Rattle.std.proofs.Math.Path.{refl, sym, ap}
 use Rattle.std.proofs.Common.{subst, ◌∙◌, arith}
 use Rattle.std.proofs.Math.Bool.{true}
@@ -10,12 +10,11 @@ use Rattle.std.proofs.Math.Dec.{ltb, eqb}
 use Rattle.cursor.specs.PaddedLaws.{map_at}
 use Rattle.request.specs.Request.{no_task}
 use Rattle.request.specs.declared.Task.{Task}
-use Rattle.search.specs.Placing.{Problem, plan_walk, row_sum}
-use Rattle.search.specs.Search.{Walk}
+use Rattle.search.specs.Placing.{row_sum}
 use Rattle.model.specs.Plan.{Instance, task_at, job_at, rows_at, slot, costs, IsPlan}
 use Rattle.model.specs.PlanLaws.{costs_length, cost_at_lem}
 use Rattle.model.specs.Plausible.{phase_rule, common_rule, frame_rule, frame_rules, plausible_by, plausible}
-use Rattle.model.specs.Chosen.{problem_at, is_tried_by, go_on_lengths, walk_lengths_by, choose_walk_by, ChoiceWalk, choose}
+use Rattle.model.specs.Chosen.{problem_at, is_tried_by, walk_lengths_by, choose_walk_by, ChoiceWalk, choose}
 use Rattle.model.specs.Links.{links_of_job, all_links, link_counts, link_places}
 use Rattle.model.specs.Good.{Good}
 use Rattle.model.specs.GoodLaws.{job_facts}

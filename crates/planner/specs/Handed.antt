@@ -6,7 +6,7 @@ use Rattle.model.specs.Plan.{Instance, IsPlan, rows_at}
 use Rattle.model.specs.Plausible.{plausible}
 use Rattle.model.specs.Chosen.{IsChosen, NoPlan, full_tries}
 use Rattle.model.specs.Described.{Describes}
-use Rattle.plan_writer.specs.Outcome.{refusal, outcome_buffer}
+use Rattle.plan_writer.specs.Outcome.{outcome_buffer}
 use Rattle.planner.specs.Outcome.{outcome_within, searched_answer}
 
 -- "A buffer is long enough if it holds the chosen table, which has 7 + F + 2·(number of jobs) bytes; without a plan, any length is."

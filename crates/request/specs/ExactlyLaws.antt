@@ -9,26 +9,9 @@ use Rattle.std.proofs.Math.Seq.{get_or-append_seam}
 use borrow.Author.Tests.{lt-ltb, le-ltb}
 use Rattle.cursor.specs.Parsed.{Parsed, got, refused, then, records}
 use Rattle.cursor.specs.ChoiceLaws.{lt_or_ge}
-use Rattle.cursor.specs.Fields.{byte_of, word_of}
-use Rattle.cursor.specs.FieldLaws.{byte_here, byte_none, word_here, word_none}
+use Rattle.cursor.specs.FieldLaws.{byte_here, byte_none}
 use Rattle.request.specs.Request.{section}
-use Rattle.request.specs.Exactly.{
-  Place,
-  task_count_lem,
-  pair_count_lem,
-  silent_count,
-  silent_ticks,
-  the_end,
-  task,
-  pair,
-  byte,
-  second,
-  third,
-  field,
-  Kept,
-  Gives,
-  Stops,
-}
+use Rattle.request.specs.Exactly.{Place, task_count_lem, pair_count_lem, silent_count, silent_ticks, the_end, task, pair, byte, second, third, field, Kept, Stops}
 
 module _ (s : List ℕ) where
   -- The place whose bytes a byte is one of.

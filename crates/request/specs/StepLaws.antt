@@ -1,6 +1,6 @@
 -- The steps of the reader, section by section: what each record is judged by, and that the sections end where the statement says.
-use Prim.Native.Nat.{ℕ, zero, suc, ◌+◌, ◌*◌, ◌≤◌, ◌<◌}
-use Rattle.std.specs.Prelude.{◌≡◌, Bool, false, cond, List, ◌⊎◌, get_or, drop, leb}
+use Prim.Native.Nat.{ℕ, suc, ◌+◌, ◌*◌, ◌≤◌, ◌<◌}
+use Rattle.std.specs.Prelude.{◌≡◌, Bool, false, cond, List, ◌⊎◌, drop}
 use Rattle.std.proofs.Math.Path.{refl, sym}
 use Rattle.std.proofs.Common.{ap, subst, ◌∙◌, inl, inr}
 use Rattle.std.proofs.Math.Bool.{true}
@@ -13,13 +13,12 @@ use Rattle.cursor.specs.ChoiceLaws.{lt_or_ge}
 use Rattle.cursor.specs.Fields.{byte_of, word_of}
 use Rattle.cursor.specs.FieldLaws.{byte_here, byte_none, word_here, word_none}
 use Rattle.request.specs.Request.{no_task, no_pair, period_of, task_rule, judged_task, task_of, task_count, tasks_of, pair_rule, judged_pair, pair_of, pair_count, pairs_of}
-use Rattle.request.specs.Readable.{TaskKept, PairKept}
+use Rattle.request.specs.Readable.{TaskKept}
 use Rattle.request.specs.ReadableLaws.{rule_kept, pair_rule_kept}
 use Rattle.request.specs.SectionLaws.{count_some}
-use Rattle.request.specs.Exactly.{Place, task_count_lem, pair_count_lem, task, pair, byte, word, n, task_at, second, m, pair_at, third, field, Stops}
+use Rattle.request.specs.Exactly.{task_count_lem, pair_count_lem, task, pair, n, task_at, second, m, pair_at, third, field}
 use Rattle.request.specs.ExactlyLaws.{KeptBelow, none_below, Step, stops, goes, cut_here, broken_here, kept_here, Filled, section_step}
 use Rattle.request.specs.declared.Task.{Task}
-use Rattle.request.specs.declared.Pair.{Pair}
 
 -- A test says that a fact holds, or that it does not.
 pub data Tells (Fact : Type 0) (b : Bool) : Type 0 where

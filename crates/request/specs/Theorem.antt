@@ -1,14 +1,13 @@
 -- Which answer the bytes of a request get, exactly: the theorem. Reading stops at a place, or it says what the bytes say; no two places stop.
 use Prim.Native.Nat.{ℕ, zero, suc, ◌+◌, ◌≤◌, ◌<◌}
-use Rattle.std.specs.Prelude.{◌≡◌, Bool, true, false, cond, ◌⊎◌, length, get_or, take, leb}
+use Rattle.std.specs.Prelude.{◌≡◌, cond, ◌⊎◌, length, take, leb}
 use Rattle.std.proofs.Math.Path.{refl}
 use Rattle.std.proofs.Common.{sym, ap, subst, ◌∙◌, inl, inr, ⊎_elim, eq-or-lt_of_le, add-one, drop_of_length-le, drop-cons, ext_get_or, le-leb}
-use mathlib.Core.List.{List, [], ◌∷◌}
+use mathlib.Core.List.{List, ◌∷◌}
 use native.Mathlib.Omega.{arith}
 use Rattle.std.proofs.Math.ListN.{drop, get_or-eq_default}
 use Rattle.std.proofs.lemmas.Bool.{lt-leb}
 use Rattle.cursor.specs.Parsed.{Parsed, got, refused, then}
-use Rattle.cursor.specs.ParsedLaws.{never}
 use Rattle.cursor.specs.ChoiceLaws.{lt_or_ge}
 use Rattle.cursor.specs.Fields.{byte_of}
 use Rattle.cursor.specs.FieldLaws.{byte_here, byte_none}
@@ -16,30 +15,7 @@ use Rattle.cursor.specs.PaddedLaws.{take_padded}
 use Rattle.request.specs.Request.{Reading, readable, unreadable, reading, tasks_of, pairs_of, silent_of, ended, after_pairs, after_tasks, no_task, no_pair}
 use Rattle.request.specs.Answers.{request_answered}
 use Rattle.request.specs.ReadableLaws.{unreadable_number, unread_pos}
-use Rattle.request.specs.Exactly.{
-  Place,
-  task_count_lem,
-  pair_count_lem,
-  silent_count,
-  silent_ticks,
-  the_end,
-  task,
-  pair,
-  byte,
-  n,
-  task_at,
-  second,
-  m,
-  pair_at,
-  third,
-  field,
-  Cut,
-  Kept,
-  Gives,
-  Stops,
-  Says,
-  ReadExact,
-}
+use Rattle.request.specs.Exactly.{Place, task_count_lem, pair_count_lem, silent_count, silent_ticks, the_end, task, pair, byte, n, task_at, second, m, pair_at, third, field, Kept, Gives, Stops, Says, ReadExact}
 use Rattle.request.specs.ExactlyLaws.{find, find_end, found, KeptBelow, Step, stops, goes, cut_here, broken_here, kept_here, Filled}
 use Rattle.request.specs.StepLaws.{tasks_step, pairs_step}
 use Rattle.request.specs.declared.Task.{Task}

@@ -1,5 +1,5 @@
 -- The number is that of the request, or that of the table.
-use Rattle.std.proofs.Common.{sym, ◌∙◌, ap, rules}
+use Rattle.std.proofs.Common.{sym, ◌∙◌, ap}
 use Rattle.cycle.specs.Cycle.{Cycle}
 use Rattle.table.specs.Table.{decode}
 use Rattle.model.specs.WithinLaws.{read_within, read_refused}

@@ -1,6 +1,5 @@
 -- The reader of the sizes tells whether the table has its form; each way out is one case of the definition.
-use Rattle.std.proofs.Common.{sym, ◌∙◌, ap, arith, rules}
-use borrow.Author.Tests.{not-true, not-false}
+use Rattle.std.proofs.Common.{sym, ◌∙◌, ap, arith}
 use Rattle.cursor.specs.Fields.{Bytes}
 use Rattle.checker.specs.Answers.{found_answer}
 use Rattle.checker.specs.ReadLaws.{table_unread, table_formed, table_malformed, height_few, other_cycle, not_plausible, rows_judged}

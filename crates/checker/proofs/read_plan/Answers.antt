@@ -1,5 +1,5 @@
 -- What is found in the table, with the cycle beside it, is the answer.
-use Rattle.std.proofs.Common.{sym, ◌∙◌, ap, ap₂, rules}
+use Rattle.std.proofs.Common.{sym, ◌∙◌, ap, ap₂}
 use Rattle.cycle.specs.Cycle.{Cycle}
 use Rattle.table.specs.Table.{decode}
 use Rattle.model.specs.WithinLaws.{read_within, read_refused}

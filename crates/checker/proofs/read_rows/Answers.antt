@@ -1,5 +1,5 @@
 -- Each way out is one case of the definition's tests.
-use Rattle.std.proofs.Common.{sym, ◌∙◌, ap, rules}
+use Rattle.std.proofs.Common.{sym, ◌∙◌, ap}
 use borrow.Author.Tests.{not-true, not-false}
 use Rattle.checker.specs.Answers.{found_answer}
 use Rattle.checker.specs.ReadLaws.{job_missing, entry_wrong, rule_broken, plan_read_lem}

@@ -1,5 +1,5 @@
 -- Two stores, of which one behind the end changes nothing.
-use Rattle.std.proofs.Common.{ℕ, suc, ◌%◌, ◌/◌, ◌≡◌, sym, ap, ◌∙◌, List, add-one, arith, set, rules}
+use Rattle.std.proofs.Common.{ℕ, suc, ◌%◌, ◌/◌, ◌≡◌, sym, ap, ◌∙◌, List, add-one, arith, set}
 use lib.Seq.{set_out}
 use Rattle.cursor.specs.Fields.{word_bytes}
 use Rattle.cursor.proofs.put_word.Goals as goal

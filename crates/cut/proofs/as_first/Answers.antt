@@ -1,5 +1,5 @@
 -- A task below i keeps its number; i itself and those above move up.
-use Rattle.std.proofs.Common.{rules, lt-ltb, le-ltb}
+use Rattle.std.proofs.Common.{lt-ltb, le-ltb}
 use Rattle.cut.proofs.as_first.Goals as goal
 
 pub returns-then-a-i : goal.returns-then-a-i

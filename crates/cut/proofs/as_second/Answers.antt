@@ -1,5 +1,5 @@
 -- A task up to i keeps its number; those above move up.
-use Rattle.std.proofs.Common.{rules, le-leb}
+use Rattle.std.proofs.Common.{le-leb}
 use borrow.Author.Tests.{lt-leb}
 use Rattle.cut.proofs.as_second.Goals as goal
 

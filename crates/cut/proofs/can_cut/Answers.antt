@@ -1,5 +1,4 @@
 -- Each way out is one of the test's cases.
-use Rattle.std.proofs.Common.{rules}
 use Rattle.cut.specs.CutLaws.{no_task_lem, no_piece, piece_judged}
 use Rattle.cut.proofs.can_cut.Goals as goal
 

@@ -1,8 +1,7 @@
 -- The request is read, the cut is judged, and the cut request is written; each way out is one of the definition's cases.
-use Rattle.std.proofs.Common.{◌<◌, ◌∙◌, arith, rules}
+use Rattle.std.proofs.Common.{◌<◌, ◌∙◌, arith}
 use Rattle.request.specs.Places.{ReadAs, read_as, counts_few, pairs_few}
 use Rattle.cut.specs.CutLaws.{was_refused, not_cut, tasks_full, pairs_full, can_array, room, was_cut}
-use borrow.Author.Tests.{not-true, not-false}
 use Rattle.cut.proofs.cut.Goals as goal
 use Rattle.cut.proofs.cut.Goals.{Else-x-eq16-2, Else-x-ne0}
 

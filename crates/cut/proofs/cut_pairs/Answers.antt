@@ -1,9 +1,5 @@
 -- The loop keeps that the array holds the pieces' pair, then the old pairs before pair v as the cut has them, and nothing behind.
-use Rattle.std.proofs.Common.{rules, ◌≤◌, ◌<◌, ◌-◌, ◌≡◌, arith}
-use Rattle.cursor.specs.Padded.{padded, firsts}
-use Rattle.request.specs.Request.{no_pair}
-use Rattle.request.specs.Places.{Few}
-use Rattle.cut.specs.Cut.{cut_pairs}
+use Rattle.std.proofs.Common.{◌≡◌, arith}
 use Rattle.cut.specs.CutLaws.{pairs_none, pairs_more}
 use Rattle.cut.proofs.cut_pairs.Goals as goal
 

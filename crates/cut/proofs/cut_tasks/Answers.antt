@@ -1,8 +1,7 @@
 -- The loop keeps that the array holds the cut request's tasks before task k, and nothing behind.
-use Rattle.std.proofs.Common.{rules, ◌≤◌, ◌<◌, ◌-◌, ◌+◌, ◌≡◌, ap, sym, ◌∙◌, arith, get_or}
-use Rattle.cursor.specs.Padded.{padded, firsts}
+use Rattle.std.proofs.Common.{◌+◌, ◌≡◌, ap, sym, ◌∙◌, arith}
+use Rattle.cursor.specs.Padded.{padded}
 use Rattle.request.specs.Request.{no_task}
-use Rattle.cut.specs.Cut.{cut_tasks}
 use Rattle.cut.specs.CutLaws.{firsts_none, firsts_more, firsts_all, tasks_counted}
 use Rattle.cut.proofs.cut_tasks.Goals as goal
 

@@ -1,5 +1,5 @@
 -- Before task i, the first piece, the second piece, behind them: the four cases of a place.
-use Rattle.std.proofs.Common.{rules, ◌∙◌, arith}
+use Rattle.std.proofs.Common.{◌∙◌, arith}
 use Rattle.cut.specs.CutLaws.{task_before, task_first, task_second, task_later}
 use Rattle.cut.proofs.task_at.Goals as goal
 

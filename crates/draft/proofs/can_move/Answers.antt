@@ -1,5 +1,5 @@
 -- A job that is known may be moved where the draft is sound.
-use Rattle.std.proofs.Common.{◌∙◌, arith, rules}
+use Rattle.std.proofs.Common.{◌∙◌, arith}
 use Rattle.draft.specs.MoveLaws.{unknown, sound_decides}
 use Rattle.draft.proofs.can_move.Goals as goal
 

@@ -1,5 +1,4 @@
 -- The cost of a job is that of its task.
-use Rattle.std.proofs.Common.{rules}
 use Rattle.draft.specs.MoveLaws.{cost_is}
 use Rattle.draft.proofs.cost_at.Goals as goal
 

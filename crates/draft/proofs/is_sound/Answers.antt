@@ -1,6 +1,5 @@
 -- A test that fails is one of the definition's; where the rules hold, the loads decide.
-use Rattle.std.proofs.Common.{sym, ◌∙◌, arith, rules}
-use borrow.Author.Tests.{not-true, not-false}
+use Rattle.std.proofs.Common.{sym, ◌∙◌, arith}
 use Rattle.draft.specs.StepLaws.{not_plausible, some_length, rules_broken, count_few, rows_few, rows_fit, loads_decide}
 use Rattle.draft.proofs.is_sound.Goals as goal
 
@@ -30,8 +29,7 @@ row_loads-sums-requires c =
     let can = sym c.plausible.ensures ∙ c.if-not-plausible.false in
     let rules = rw c.with_jobs-part.ensures at c.rules_kept.ensures in
     let kept = sym rules ∙ c.if-not-rules_kept.false in
-    let costs = rw c.with_jobs-part.ensures at c.costs-cost.ensures in
-    (
+    let costs = rw c.with_jobs-part.ensures at c.costs-cost.ensures in (
       count_few a.cycle a.draft can _ c.at_most.ensures _ c.placed-standing.ensures kept,
       rows_fit a.cycle a.draft can _ c.at_most.ensures _ c.placed-standing.ensures kept _ costs
           (omega (arith)),

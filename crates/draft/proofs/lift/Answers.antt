@@ -1,6 +1,5 @@
 -- Each way out is one case of the definition.
-use Rattle.std.proofs.Common.{sym, ◌∙◌, arith, rules, ne_eqb}
-use borrow.Author.Tests.{not-true, not-false}
+use Rattle.std.proofs.Common.{sym, ◌∙◌, arith, ne_eqb}
 use Rattle.model.specs.WithinLaws.{read_within, read_refused}
 use Rattle.draft.specs.MoveLaws.{movable, in_range, lift_refused, lift_not, lift_lifted, lift_done}
 use Rattle.draft.proofs.lift.Goals as goal

@@ -1,7 +1,6 @@
 -- The loop keeps that the jobs left decide.
-use Rattle.std.proofs.Common.{rules, ◌≤◌, ◌-◌, ◌∙◌, ap, not, arith, eq-eqb, ne_eqb}
-use native.Mathlib.Nat.{sub-zero}
-use Rattle.plan_rules.specs.EveryLaws.{AllLeft, all_next, all_fails, all_done}
+use Rattle.std.proofs.Common.{◌≤◌, ◌-◌}
+use Rattle.plan_rules.specs.EveryLaws.{AllLeft}
 use Rattle.draft.specs.Draft.{is_down}
 use Rattle.draft.proofs.none_lifted.Given as goal
 

@@ -1,6 +1,6 @@
 -- The loop keeps that those passed that are not lifted stand in the first places.
-use Rattle.std.proofs.Common.{rules, ◌≤◌, ◌<◌, ◌-◌, ◌≡◌, ⊎_elim, arith}
-use Rattle.draft.specs.PlacedLaws.{Passed, none_passed, few_passed, lifted_passed, placed_passed}
+use Rattle.std.proofs.Common.{◌<◌, ◌≡◌, arith}
+use Rattle.draft.specs.PlacedLaws.{none_passed, few_passed, lifted_passed, placed_passed}
 use Rattle.draft.proofs.placed.Goals as goal
 use Rattle.draft.proofs.placed.Goals.{then-k, else-k}
 
@@ -16,13 +16,13 @@ loop-y-preserved c =
     let so = l.invariant.3 in
     let few = few_passed a.jobs a.frames l.y _ so in
     elim c.if-k.branch [
-      then-k w ↦ (
+      | then-k w ↦ (
         omega arith,
         l.invariant.1,
         omega (arith, few),
         rw (w.their_jobs-is, w.their_frames-is, w.c-is) (placed_passed a.jobs a.frames l.y _ so w.if-k.true room),
       )
-    | else-k w ↦ (
+      | else-k w ↦ (
         omega arith,
         l.invariant.1,
         omega (arith, few),

@@ -1,6 +1,6 @@
 -- The loop keeps that those passed that are not lifted stand in the first places.
-use Rattle.std.proofs.Common.{rules, ◌≤◌, ◌<◌, ◌-◌, ◌≡◌, ⊎_elim, arith}
-use Rattle.draft.specs.PlacedLaws.{Passed, none_passed, few_passed, lifted_passed, placed_passed}
+use Rattle.std.proofs.Common.{◌≤◌, ◌-◌}
+use Rattle.draft.specs.PlacedLaws.{Passed}
 use Rattle.draft.proofs.placed.Given as goal
 
 abbrev pub invariant-loop-y : goal.invariant-loop-y

@@ -1,6 +1,5 @@
 -- Each way out is one case of the definition.
-use Rattle.std.proofs.Common.{sym, ◌∙◌, arith, rules}
-use borrow.Author.Tests.{not-true, not-false}
+use Rattle.std.proofs.Common.{sym, ◌∙◌, arith}
 use Rattle.model.specs.WithinLaws.{read_within, read_refused}
 use Rattle.draft.specs.MoveLaws.{movable, in_range, put_refused, put_not, put_placed, put_done}
 use Rattle.draft.proofs.put.Goals as goal

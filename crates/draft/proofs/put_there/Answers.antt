@@ -1,6 +1,5 @@
 -- Each way out is one case of the definition; where the row has room, the sum fits 16 bits.
-use Rattle.std.proofs.Common.{sym, ◌∙◌, arith, rules}
-use borrow.Author.Tests.{not-true, not-false}
+use Rattle.std.proofs.Common.{sym, ◌∙◌, arith}
 use Rattle.draft.specs.MoveLaws.{in_range, rows_are, outside, full, room_fits, breaks, stands}
 use Rattle.draft.proofs.put_there.Goals as goal
 

@@ -1,8 +1,6 @@
 -- The loop keeps that the jobs passed are added up; no sum exceeds 16 bits, since no row's does.
-use Rattle.std.proofs.Common.{rules, ◌≤◌, ◌<◌, ◌-◌, ◌+◌, ◌%◌, arith, get_or}
-use Rattle.cursor.specs.Padded.{firsts}
-use Rattle.draft.specs.Answers.{RowsFit}
-use Rattle.draft.specs.LoadLaws.{Added, none_added, row_few, sum_fits, one_added, all_added}
+use Rattle.std.proofs.Common.{arith}
+use Rattle.draft.specs.LoadLaws.{none_added, row_few, sum_fits, one_added, all_added}
 use Rattle.draft.proofs.row_loads.Goals as goal
 
 pub loop-y-init : goal.loop-y-init

@@ -1,5 +1,5 @@
 -- A remainder is below its divisor.
-use Rattle.std.proofs.Common.{mod-lt, refl, arith, rules}
+use Rattle.std.proofs.Common.{mod-lt, refl, arith}
 use Rattle.draft.proofs.row_of.Goals as goal
 
 pub overflow_cast-result : goal.overflow_cast-result

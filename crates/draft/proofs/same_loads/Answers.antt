@@ -1,7 +1,7 @@
 -- The loop keeps that the rows left decide.
-use Rattle.std.proofs.Common.{rules, ◌≤◌, ◌-◌, ◌∙◌, arith, eq-eqb, ne_eqb}
+use Rattle.std.proofs.Common.{◌∙◌, arith, eq-eqb, ne_eqb}
 use native.Mathlib.Nat.{sub-zero}
-use Rattle.plan_rules.specs.EveryLaws.{AllLeft, all_next, all_fails, all_done}
+use Rattle.plan_rules.specs.EveryLaws.{all_next, all_fails, all_done}
 use Rattle.draft.specs.Answers.{same_at}
 use Rattle.draft.proofs.same_loads.Goals as goal
 

@@ -1,5 +1,5 @@
 -- The check reads the plan and its cycle, and the rows are added up; each way out is one case of the definition.
-use Rattle.std.proofs.Common.{ap, ◌∙◌, arith, rules}
+use Rattle.std.proofs.Common.{ap, ◌∙◌, arith}
 use Rattle.draft.specs.Draft.{kept}
 use Rattle.draft.specs.MoveLaws.{start_refused, some_f, few, rows_fit, start_done}
 use Rattle.draft.proofs.start.Goals as goal

@@ -1,6 +1,5 @@
 -- Each way out is one case of the definition; the plan is written by the writer of planned tables.
-use Rattle.std.proofs.Common.{sym, ◌∙◌, arith, rules}
-use borrow.Author.Tests.{not-true, not-false}
+use Rattle.std.proofs.Common.{sym, ◌∙◌, arith}
 use Rattle.model.specs.WithinLaws.{read_within, read_refused}
 use Rattle.draft.specs.MoveLaws.{write_refused, write_lifted, write_unsound, write_done}
 use Rattle.draft.proofs.write.Goals as goal

@@ -1,5 +1,5 @@
 -- Both requests are read, the sums are judged, and the joined request is written; each way out is one of the definition's cases.
-use Rattle.std.proofs.Common.{◌+◌, ◌≤◌, sym, ◌∙◌, arith, rules}
+use Rattle.std.proofs.Common.{◌+◌, ◌≤◌, sym, ◌∙◌, arith}
 use Rattle.request.specs.Places.{ReadAs, read_as, counts_few, tasks_filled, pairs_filled, pairs_few}
 use Rattle.join.specs.JoinLaws.{first_refused, second_refused, not_joined, fit_all, was_joined}
 use Rattle.join.proofs.join.Goals as goal

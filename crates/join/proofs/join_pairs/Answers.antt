@@ -1,9 +1,6 @@
 -- The loop keeps that the array holds the first's pairs, then the second's before pair i, raised, and nothing behind.
-use Rattle.std.proofs.Common.{rules, ◌≤◌, ◌-◌, ◌+◌, ◌≡◌, ◌++◌, map, append-nil, arith}
-use Rattle.cursor.specs.Padded.{padded, firsts}
-use Rattle.request.specs.Request.{no_pair}
-use Rattle.request.specs.Places.{Few}
-use Rattle.join.specs.Joined.{raised_by}
+use Rattle.std.proofs.Common.{◌≡◌, append-nil, arith}
+use Rattle.cursor.specs.Padded.{firsts}
 use Rattle.join.specs.JoinLaws.{pair_behind}
 use Rattle.join.proofs.join_pairs.Goals as goal
 

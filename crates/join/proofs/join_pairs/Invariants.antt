@@ -1,10 +1,9 @@
 -- The loop keeps that the array holds the first's pairs, then the second's before pair i, raised, and nothing behind.
-use Rattle.std.proofs.Common.{rules, ◌≤◌, ◌-◌, ◌+◌, ◌≡◌, ◌++◌, map, append-nil, arith}
+use Rattle.std.proofs.Common.{◌≤◌, ◌-◌, ◌+◌, ◌≡◌, ◌++◌, map}
 use Rattle.cursor.specs.Padded.{padded, firsts}
 use Rattle.request.specs.Request.{no_pair}
 use Rattle.request.specs.Places.{Few}
 use Rattle.join.specs.Joined.{raised_by}
-use Rattle.join.specs.JoinLaws.{pair_behind}
 use Rattle.join.proofs.join_pairs.Given as goal
 
 abbrev pub invariant-loop-i : goal.invariant-loop-i

@@ -1,7 +1,6 @@
 -- The loop keeps that the array holds the first's tasks, then the second's before task i, and nothing behind.
-use Rattle.std.proofs.Common.{rules, ◌≤◌, ◌-◌, ◌+◌, ◌≡◌, ◌++◌, append-nil, arith}
-use Rattle.cursor.specs.Padded.{padded, firsts}
-use Rattle.request.specs.Request.{no_task}
+use Rattle.std.proofs.Common.{◌≡◌, append-nil, arith}
+use Rattle.cursor.specs.Padded.{firsts}
 use Rattle.join.specs.JoinLaws.{task_behind}
 use Rattle.join.proofs.join_tasks.Goals as goal
 

@@ -1,8 +1,7 @@
 -- The loop keeps that the array holds the first's tasks, then the second's before task i, and nothing behind.
-use Rattle.std.proofs.Common.{rules, ◌≤◌, ◌-◌, ◌+◌, ◌≡◌, ◌++◌, append-nil, arith}
+use Rattle.std.proofs.Common.{◌≤◌, ◌-◌, ◌+◌, ◌≡◌, ◌++◌}
 use Rattle.cursor.specs.Padded.{padded, firsts}
 use Rattle.request.specs.Request.{no_task}
-use Rattle.join.specs.JoinLaws.{task_behind}
 use Rattle.join.proofs.join_tasks.Given as goal
 
 abbrev pub invariant-loop-i : goal.invariant-loop-i

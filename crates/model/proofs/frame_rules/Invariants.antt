@@ -1,10 +1,8 @@
 -- The loop keeps that the rules of the tasks left decide those of all.
-use Rattle.std.proofs.Common.{◌≤◌, ◌-◌, ◌≡◌, refl, sym, ◌∙◌, arith, drop, rules}
-use borrow.Author.Tests.{not-true, not-false}
+use Rattle.std.proofs.Common.{◌≤◌, ◌-◌, ◌≡◌, drop}
 use Rattle.cursor.specs.Padded.{firsts}
 use Rattle.request.specs.Request.{no_task}
 use Rattle.model.specs.Plausible.{phase_rule, frame_rules}
-use Rattle.model.specs.RuleLaws.{slot_too_long, window_too_short, rule_kept, all_kept}
 use Rattle.model.proofs.frame_rules.Given as goal
 
 abbrev pub invariant-loop-i : goal.invariant-loop-i

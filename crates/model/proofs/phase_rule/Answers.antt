@@ -1,5 +1,5 @@
 -- The tests of the function are the definition's; the gcd of a frame length is not 0.
-use Rattle.std.proofs.Common.{arith, rules}
+use Rattle.std.proofs.Common.{arith}
 use native.Mathlib.Nat.{mod-le}
 use Rattle.arith.specs.GcdLaws.{gcd_pos}
 use Rattle.model.specs.PhaseExact.{rule_multiple, rule_other}

@@ -1,5 +1,5 @@
 -- The tests of the function are the definition's, one by one; the first that fails decides.
-use Rattle.std.proofs.Common.{◌∙◌, arith, lt-ltb, le-ltb, le-leb, eq-eqb, ne_eqb, rules}
+use Rattle.std.proofs.Common.{◌∙◌, arith, lt-ltb, le-ltb, le-leb, eq-eqb, ne_eqb}
 use borrow.Author.Tests.{lt-leb}
 use Rattle.model.specs.Plausible.{plausible_by}
 use Rattle.model.proofs.plausible.Goals as goal

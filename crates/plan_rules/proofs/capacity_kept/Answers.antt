@@ -1,6 +1,6 @@
 -- The loop keeps the load of each row by the jobs passed, none beyond f; a job without room in its row breaks the rule.
-use Rattle.std.proofs.Common.{rules, ◌≤◌, ◌<◌, ◌-◌, ◌%◌, arith, get_or}
-use Rattle.plan_rules.specs.LoopLaws.{Kept, kept_none, row_inside, kept_more, overloaded, all_loaded}
+use Rattle.std.proofs.Common.{◌<◌, ◌%◌, arith, get_or}
+use Rattle.plan_rules.specs.LoopLaws.{kept_none, row_inside, kept_more, overloaded, all_loaded}
 use Rattle.plan_rules.proofs.capacity_kept.Goals as goal
 use Rattle.plan_rules.proofs.capacity_kept.Goals.{In-loop-y}
 

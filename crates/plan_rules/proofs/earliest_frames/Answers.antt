@@ -1,8 +1,8 @@
 -- The loop keeps the earliest frames of the jobs passed.
-use Rattle.std.proofs.Common.{rules, ◌≤◌, ◌<◌, ◌-◌, ◌≡◌, ⊎_elim, arith, get_or}
+use Rattle.std.proofs.Common.{◌<◌, ◌≡◌, arith, get_or}
 use Rattle.cursor.specs.Padded.{firsts}
 use Rattle.cycle.specs.Planned.{no_job}
-use Rattle.plan_rules.specs.Earliest.{Earliest, earliest_none, passed_other, passed_own}
+use Rattle.plan_rules.specs.Earliest.{earliest_none, passed_other, passed_own}
 use Rattle.plan_rules.proofs.earliest_frames.Goals as goal
 use Rattle.plan_rules.proofs.earliest_frames.Goals.{then-job-b, else-job-b}
 
@@ -20,10 +20,10 @@ loop-z-preserved c =
       omega arith,
       l.invariant.1,
       elim c.if-job-b.branch [
-        then-job-b w ↦
-          rw w.earliest-is
-              (passed_own a.jobs a.frames.now a.b a.count l.z turn l.earliest l.invariant.2 w.if-job-b.true small _ w.smaller.ensures)
-      | else-job-b w ↦ rw w.earliest-is (passed_other a.jobs a.frames.now a.b a.count l.z turn l.earliest l.invariant.2 w.if-job-b.false)
+        | then-job-b w ↦
+            rw w.earliest-is
+            (passed_own a.jobs a.frames.now a.b a.count l.z turn l.earliest l.invariant.2 w.if-job-b.true small _ w.smaller.ensures)
+        | else-job-b w ↦ rw w.earliest-is (passed_other a.jobs a.frames.now a.b a.count l.z turn l.earliest l.invariant.2 w.if-job-b.false)
       ],
     )
 

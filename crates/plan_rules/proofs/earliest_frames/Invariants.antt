@@ -1,8 +1,8 @@
 -- The loop keeps the earliest frames of the jobs passed.
-use Rattle.std.proofs.Common.{rules, ◌≤◌, ◌<◌, ◌-◌, ◌≡◌, ⊎_elim, arith, get_or}
+use Rattle.std.proofs.Common.{◌≤◌, ◌-◌}
 use Rattle.cursor.specs.Padded.{firsts}
 use Rattle.cycle.specs.Planned.{no_job}
-use Rattle.plan_rules.specs.Earliest.{Earliest, earliest_none, passed_other, passed_own}
+use Rattle.plan_rules.specs.Earliest.{Earliest}
 use Rattle.plan_rules.proofs.earliest_frames.Given as goal
 
 abbrev pub invariant-loop-z : goal.invariant-loop-z

@@ -1,5 +1,5 @@
 -- The two tests are the definition's; a product of two u16 fits a u32.
-use Rattle.std.proofs.Common.{◌≤◌, ◌<◌, ◌+◌, ◌*◌, mul-le-mul, arith, le-leb, ◌≡◌, rules}
+use Rattle.std.proofs.Common.{◌≤◌, ◌<◌, ◌+◌, ◌*◌, mul-le-mul, arith, le-leb, ◌≡◌}
 use borrow.Author.Tests.{lt-leb}
 use Rattle.plan_rules.specs.Rules.{in_window}
 use Rattle.plan_rules.proofs.in_window.Goals as goal

@@ -1,12 +1,8 @@
 -- The loop keeps that the jobs left decide; a job is compared with the earliest frame of its partner.
-use Rattle.std.proofs.Common.{rules, ◌≤◌, ◌<◌, ◌-◌, sym, ◌∙◌, ⊎_elim, arith, get_or, eq-eqb, ne_eqb}
+use Rattle.std.proofs.Common.{◌<◌, sym, ◌∙◌, arith, get_or, eq-eqb, ne_eqb}
 use native.Mathlib.Nat.{sub-zero}
-use borrow.Author.Tests.{not-true, not-false}
-use Rattle.cursor.specs.Padded.{firsts}
 use Rattle.cycle.specs.Planned.{no_job}
-use Rattle.plan_rules.specs.Rules.{one_kept}
-use Rattle.plan_rules.specs.EveryLaws.{AllLeft, all_next, all_fails, all_done}
-use Rattle.plan_rules.specs.Earliest.{Earliest}
+use Rattle.plan_rules.specs.EveryLaws.{all_next, all_fails, all_done}
 use Rattle.plan_rules.specs.LoopLaws.{one_at}
 use Rattle.plan_rules.proofs.pair_kept.Goals as goal
 use Rattle.plan_rules.proofs.pair_kept.Goals.{then-job-a+else-not-not_after, else-job-a}
@@ -37,11 +33,11 @@ loop-y-preserved c =
       l.invariant.1,
       l.invariant.2,
       elim c.if-job-a.branch [
-        then-job-a+else-not-not_after w ↦
-          all_next _ a.count l.y turn
-          (here ∙ rw (eq-eqb _ _ w.if-job-a.true) (sym (told w.not_after.ensures.1) ∙ sym w.not_after.ensures.0 ∙ w.if-not-not_after.false))
-          ∙ l.invariant.3
-      | else-job-a w ↦ all_next _ a.count l.y turn (here ∙ rw (ne_eqb _ _ w.if-job-a.false)) ∙ l.invariant.3
+        | then-job-a+else-not-not_after w ↦
+            all_next _ a.count l.y turn
+            (here ∙ rw (eq-eqb _ _ w.if-job-a.true) (sym (told w.not_after.ensures.1) ∙ sym w.not_after.ensures.0 ∙ w.if-not-not_after.false))
+            ∙ l.invariant.3
+        | else-job-a w ↦ all_next _ a.count l.y turn (here ∙ rw (ne_eqb _ _ w.if-job-a.false)) ∙ l.invariant.3
       ],
     )
 

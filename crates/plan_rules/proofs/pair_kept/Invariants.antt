@@ -1,13 +1,10 @@
 -- The loop keeps that the jobs left decide; a job is compared with the earliest frame of its partner.
-use Rattle.std.proofs.Common.{rules, ◌≤◌, ◌<◌, ◌-◌, sym, ◌∙◌, ⊎_elim, arith, get_or, eq-eqb, ne_eqb}
-use native.Mathlib.Nat.{sub-zero}
-use borrow.Author.Tests.{not-true, not-false}
+use Rattle.std.proofs.Common.{◌≤◌, ◌-◌}
 use Rattle.cursor.specs.Padded.{firsts}
 use Rattle.cycle.specs.Planned.{no_job}
 use Rattle.plan_rules.specs.Rules.{one_kept}
-use Rattle.plan_rules.specs.EveryLaws.{AllLeft, all_next, all_fails, all_done}
+use Rattle.plan_rules.specs.EveryLaws.{AllLeft}
 use Rattle.plan_rules.specs.Earliest.{Earliest}
-use Rattle.plan_rules.specs.LoopLaws.{one_at}
 use Rattle.plan_rules.proofs.pair_kept.Given as goal
 
 abbrev pub invariant-loop-y : goal.invariant-loop-y

@@ -1,13 +1,10 @@
 -- The loop keeps that the pairs left decide.
-use Rattle.std.proofs.Common.{◌≤◌, ◌-◌, sym, ◌∙◌, arith, rules}
-use native.Mathlib.Nat.{sub-zero}
-use borrow.Author.Tests.{not-true, not-false}
+use Rattle.std.proofs.Common.{◌≤◌, ◌-◌}
 use Rattle.cursor.specs.Padded.{firsts}
 use Rattle.cycle.specs.Planned.{no_job}
 use Rattle.request.specs.Request.{no_pair}
 use Rattle.plan_rules.specs.Rules.{pair_kept}
-use Rattle.plan_rules.specs.EveryLaws.{AllLeft, all_next, all_fails, all_done}
-use Rattle.plan_rules.specs.LoopLaws.{pair_at_lem}
+use Rattle.plan_rules.specs.EveryLaws.{AllLeft}
 use Rattle.plan_rules.proofs.pairs_kept.Given as goal
 
 abbrev pub invariant-loop-u : goal.invariant-loop-u

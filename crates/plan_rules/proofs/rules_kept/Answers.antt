@@ -1,6 +1,5 @@
 -- Each test that fails breaks the rules; where windows and capacity hold, the order decides.
-use Rattle.std.proofs.Common.{◌≤◌, refl, sym, ◌∙◌, arith, rules}
-use borrow.Author.Tests.{not-true, not-false}
+use Rattle.std.proofs.Common.{◌≤◌, refl, sym, ◌∙◌, arith}
 use Rattle.plan_rules.specs.RulesAre.{no_row, many_rows, windows_broken, capacity_broken, order_decides}
 use Rattle.plan_rules.proofs.rules_kept.Goals as goal
 

@@ -1,11 +1,7 @@
 -- The loop keeps that the jobs left decide.
-use Rattle.std.proofs.Common.{◌≤◌, ◌-◌, sym, ◌∙◌, arith, rules}
+use Rattle.std.proofs.Common.{sym, ◌∙◌, arith}
 use native.Mathlib.Nat.{sub-zero}
-use borrow.Author.Tests.{not-true, not-false}
-use Rattle.cursor.specs.Padded.{firsts}
-use Rattle.cycle.specs.Planned.{no_job}
-use Rattle.plan_rules.specs.Rules.{window_kept}
-use Rattle.plan_rules.specs.EveryLaws.{AllLeft, all_next, all_fails, all_done}
+use Rattle.plan_rules.specs.EveryLaws.{all_next, all_fails, all_done}
 use Rattle.plan_rules.specs.LoopLaws.{window_at}
 use Rattle.plan_rules.proofs.windows_kept.Goals as goal
 

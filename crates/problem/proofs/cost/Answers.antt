@@ -1,5 +1,5 @@
 -- A task behind the first n is none.
-use Rattle.std.proofs.Common.{◌∙◌, arith, rules}
+use Rattle.std.proofs.Common.{◌∙◌, arith}
 use Rattle.problem.specs.JobLaws.{slot_unknown, slot_known}
 use Rattle.problem.proofs.cost.Goals as goal
 

@@ -1,9 +1,9 @@
 -- The loop keeps that the costs of the jobs passed stand in the first places.
-use Rattle.std.proofs.Common.{◌≤◌, ◌<◌, ◌-◌, min, ◌≡◌, ◌∙◌, arith, rules}
+use Rattle.std.proofs.Common.{◌<◌, min, ◌∙◌, arith}
 use Rattle.cursor.specs.Padded.{firsts}
 use Rattle.request.specs.Request.{no_task}
 use Rattle.model.specs.Plan.{cost_of, costs}
-use Rattle.problem.specs.JobLaws.{numbers, no_number, one_number, all_numbers}
+use Rattle.problem.specs.JobLaws.{no_number, one_number, all_numbers}
 use Rattle.problem.proofs.costs.Goals as goal
 
 pub loop-y-init : goal.loop-y-init

@@ -1,9 +1,9 @@
 -- The loop keeps that the costs of the jobs passed stand in the first places.
-use Rattle.std.proofs.Common.{◌≤◌, ◌<◌, ◌-◌, min, ◌≡◌, ◌∙◌, arith, rules}
+use Rattle.std.proofs.Common.{◌≤◌, ◌-◌, min, ◌≡◌}
 use Rattle.cursor.specs.Padded.{firsts}
 use Rattle.request.specs.Request.{no_task}
-use Rattle.model.specs.Plan.{cost_of, costs}
-use Rattle.problem.specs.JobLaws.{numbers, no_number, one_number, all_numbers}
+use Rattle.model.specs.Plan.{cost_of}
+use Rattle.problem.specs.JobLaws.{numbers}
 use Rattle.problem.proofs.costs.Given as goal
 
 abbrev pub invariant-loop-y : goal.invariant-loop-y

@@ -1,5 +1,5 @@
 -- Frames of length 0 have the number 0; otherwise the number is the quotient.
-use Rattle.std.proofs.Common.{refl, rules}
+use Rattle.std.proofs.Common.{refl}
 use Rattle.model.specs.Chosen.{end_frame_of}
 use Rattle.problem.specs.JobLaws.{end_of_none}
 use Rattle.problem.proofs.end_frame.Goals as goal

@@ -1,7 +1,7 @@
 -- The loop keeps that the end frames of the jobs passed stand in the first places.
-use Rattle.std.proofs.Common.{◌≤◌, ◌<◌, ◌-◌, ◌≡◌, ◌∙◌, arith, rules}
+use Rattle.std.proofs.Common.{◌<◌, ◌∙◌, arith}
 use Rattle.model.specs.Chosen.{end_frame_of}
-use Rattle.problem.specs.JobLaws.{numbers, no_number, one_number, all_numbers}
+use Rattle.problem.specs.JobLaws.{no_number, one_number, all_numbers}
 use Rattle.problem.proofs.end_frames.Goals as goal
 
 pub loop-y-init : goal.loop-y-init

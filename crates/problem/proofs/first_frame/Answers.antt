@@ -1,5 +1,5 @@
 -- Frames of length 0 have the number 0; otherwise the number is the quotient, which is at most the release.
-use Rattle.std.proofs.Common.{refl, pos_of_ne-zero, arith, rules}
+use Rattle.std.proofs.Common.{refl, pos_of_ne-zero, arith}
 use Rattle.model.specs.Window.{first_from}
 use Rattle.model.specs.Chosen.{first_frame_of}
 use Rattle.problem.specs.JobLaws.{first_of_none, first_frame_le}

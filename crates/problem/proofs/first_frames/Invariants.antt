@@ -1,7 +1,7 @@
 -- The loop keeps that the first frames of the jobs passed stand in the first places.
-use Rattle.std.proofs.Common.{◌≤◌, ◌<◌, ◌-◌, ◌≡◌, ◌∙◌, arith, rules}
+use Rattle.std.proofs.Common.{◌≤◌, ◌-◌, ◌≡◌}
 use Rattle.model.specs.Chosen.{first_frame_of}
-use Rattle.problem.specs.JobLaws.{numbers, no_number, one_number, all_numbers}
+use Rattle.problem.specs.JobLaws.{numbers}
 use Rattle.problem.proofs.first_frames.Given as goal
 
 abbrev pub invariant-loop-y : goal.invariant-loop-y

@@ -1,5 +1,4 @@
 -- The tests of the function are the definition's.
-use Rattle.std.proofs.Common.{rules}
 use Rattle.problem.specs.LinkLaws.{first_linked, first_not_before, second_linked, second_not_before, not_linked}
 use Rattle.problem.proofs.link_by.Goals as goal
 

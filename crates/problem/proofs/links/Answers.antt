@@ -1,6 +1,6 @@
 -- The loop keeps that the links of the jobs passed are counted and stored.
-use Rattle.std.proofs.Common.{◌≤◌, ◌-◌, arith, rules}
-use Rattle.problem.specs.LinkLaws.{LinksSoFar, linking, no_job_linked, job_linked, all_linked}
+use Rattle.std.proofs.Common.{◌≤◌, arith}
+use Rattle.problem.specs.LinkLaws.{no_job_linked, job_linked, all_linked}
 use Rattle.problem.proofs.links.Goals as goal
 
 pub loop-y-init : goal.loop-y-init

@@ -1,6 +1,5 @@
 -- The loop keeps that the scan of the places left decides the whole scan.
-use Rattle.std.proofs.Common.{◌≤◌, ◌-◌, ◌≡◌, ◌∙◌, sym, ⊎_elim, arith, rules}
-use Rattle.model.specs.Links.{place_from, place_before}
+use Rattle.std.proofs.Common.{◌∙◌, sym, arith}
 use Rattle.problem.specs.LinkLaws.{scan_found, scan_other_task, scan_other_number, scan_start, scan_end}
 use Rattle.problem.proofs.place_before.Goals as goal
 use Rattle.problem.proofs.place_before.Goals.{then-job-i+else-job-j, else-job-i}
@@ -20,8 +19,8 @@ loop-z-preserved c =
     let l = c.loop-z in
     let turn = c.loop-z-test.true in
     elim c.if-job-i.branch [
-      then-job-i+else-job-j w ↦ (omega arith, c.requires, scan_other_number a.jobs a.y a.i a.j l.z turn w.if-job-i.true w.if-job-j.false ∙ l.invariant.2)
-    | else-job-i w ↦ (omega arith, c.requires, scan_other_task a.jobs a.y a.i a.j l.z turn w.if-job-i.false ∙ l.invariant.2)
+      | then-job-i+else-job-j w ↦ (omega arith, c.requires, scan_other_number a.jobs a.y a.i a.j l.z turn w.if-job-i.true w.if-job-j.false ∙ l.invariant.2)
+      | else-job-i w ↦ (omega arith, c.requires, scan_other_task a.jobs a.y a.i a.j l.z turn w.if-job-i.false ∙ l.invariant.2)
     ]
 
 pub returns : goal.returns

@@ -1,7 +1,6 @@
 -- The loop keeps that the scan of the places left decides the whole scan.
-use Rattle.std.proofs.Common.{◌≤◌, ◌-◌, ◌≡◌, ◌∙◌, sym, ⊎_elim, arith, rules}
+use Rattle.std.proofs.Common.{◌≤◌, ◌-◌, ◌≡◌}
 use Rattle.model.specs.Links.{place_from, place_before}
-use Rattle.problem.specs.LinkLaws.{scan_found, scan_other_task, scan_other_number, scan_start, scan_end}
 use Rattle.problem.proofs.place_before.Given as goal
 
 abbrev pub invariant-loop-z : goal.invariant-loop-z

@@ -1,7 +1,6 @@
 -- The loop keeps that the links by the pairs passed are stored and counted.
-use Rattle.std.proofs.Common.{◌≤◌, ◌<◌, ◌-◌, ◌+◌, ◌*◌, ◌≡◌, ⊎_elim, arith, rules}
-use Rattle.problem.specs.Answers.{Stored}
-use Rattle.problem.specs.LinkLaws.{links_so, no_links, no_link_more, one_link_more}
+use Rattle.std.proofs.Common.{◌<◌, ◌+◌, ◌*◌, ◌≡◌, arith}
+use Rattle.problem.specs.LinkLaws.{no_links, no_link_more, one_link_more}
 use Rattle.problem.proofs.store_links.Goals as goal
 use Rattle.problem.proofs.store_links.Goals.{in-Link, in-NoLink}
 
@@ -18,12 +17,18 @@ loop-u-preserved c =
     let gave = c.link_by.ensures in
     let room : 16 * a.y + l.count < 2048 = omega (arith, c.requires.0, c.requires.1, l.invariant.1, c.loop-u-test.true) in
     elim c.match-link_by.branch [
-      in-Link w ↦
-        (omega arith, omega arith, rw (w.places-is, w.count-is)
-            (one_link_more a.jobs a.y a.pairs l.u _ l.places l.count l.invariant.2 _ (rw w.in-Link.is at gave) room))
-    | in-NoLink w ↦
-        (omega arith, omega arith, rw (w.places-is, w.count-is)
-            (no_link_more a.jobs a.y a.pairs l.u _ l.places l.count l.invariant.2 (rw w.in-NoLink.is at gave)))
+      | in-Link w ↦ (
+        omega arith,
+        omega arith,
+        rw (w.places-is, w.count-is)
+            (one_link_more a.jobs a.y a.pairs l.u _ l.places l.count l.invariant.2 _ (rw w.in-Link.is at gave) room),
+      )
+      | in-NoLink w ↦ (
+        omega arith,
+        omega arith,
+        rw (w.places-is, w.count-is)
+            (no_link_more a.jobs a.y a.pairs l.u _ l.places l.count l.invariant.2 (rw w.in-NoLink.is at gave)),
+      )
     ]
 
 pub returns : goal.returns

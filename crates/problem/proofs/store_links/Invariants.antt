@@ -1,7 +1,7 @@
 -- The loop keeps that the links by the pairs passed are stored and counted.
-use Rattle.std.proofs.Common.{◌≤◌, ◌<◌, ◌-◌, ◌+◌, ◌*◌, ◌≡◌, ⊎_elim, arith, rules}
+use Rattle.std.proofs.Common.{◌≤◌, ◌-◌}
 use Rattle.problem.specs.Answers.{Stored}
-use Rattle.problem.specs.LinkLaws.{links_so, no_links, no_link_more, one_link_more}
+use Rattle.problem.specs.LinkLaws.{links_so}
 use Rattle.problem.proofs.store_links.Given as goal
 
 abbrev pub invariant-loop-u : goal.invariant-loop-u

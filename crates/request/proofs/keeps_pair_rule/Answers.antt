@@ -1,5 +1,5 @@
 -- The tests of the function are the definition's, one by one; the first that fails decides.
-use Rattle.std.proofs.Common.{◌≤◌, ◌<◌, arith, length, take, length-take, get_or-take, lt-ltb, le-ltb, rules}
+use Rattle.std.proofs.Common.{◌≤◌, ◌<◌, arith, length, take, length-take, get_or-take, lt-ltb, le-ltb}
 use Rattle.request.specs.Request.{pair_rule, no_task}
 use Rattle.request.proofs.keeps_pair_rule.Goals as goal
 

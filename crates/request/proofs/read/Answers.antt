@@ -1,5 +1,5 @@
 -- The first section is read from the front, each other one from the part behind the one before; each way out is one law of the sections.
-use Rattle.std.proofs.Common.{◌∙◌, arith, rules}
+use Rattle.std.proofs.Common.{◌∙◌, arith}
 use Rattle.request.specs.SectionLaws.{FirstSection, first_section, refused_first, SecondSection, refused_second, second_section, refused_third, bytes_follow, all_read}
 use Rattle.cursor.specs.Parts.{rest_part}
 use Rattle.request.proofs.read.Goals as goal

@@ -1,5 +1,5 @@
 -- Two bytes are read, one behind the other: where one is missing the definition is refused with 1, and the two make a pair, which is judged.
-use Rattle.std.proofs.Common.{sym, ◌∙◌, rules}
+use Rattle.std.proofs.Common.{sym, ◌∙◌}
 use Rattle.cursor.specs.FieldLaws.{byte_taken, byte_missing}
 use Rattle.request.specs.Request.{pair_of, judged_pair}
 use Rattle.request.specs.ReadingLaws.{pair_bytes_lem, pair_end}

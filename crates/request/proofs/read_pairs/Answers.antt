@@ -1,10 +1,10 @@
 -- The loop keeps, beside its bounds, where the next record begins and what the definition reads from there on (SoFar): each turn
 -- takes one record off it, a refusal ends it, and at the end the records read are the section's.
-use Rattle.std.proofs.Common.{◌≤◌, ◌-◌, ◌+◌, ◌*◌, ◌≡◌, sym, ◌∙◌, ap, arith, rules, le-leb, take}
+use Rattle.std.proofs.Common.{sym, ◌∙◌, ap, arith, rules, le-leb}
 use borrow.Author.Tests.{lt-leb}
 use Rattle.cursor.specs.FieldLaws.{byte_taken, byte_missing}
-use Rattle.cursor.specs.RecordLaws.{SoFar, none_read, one_read, one_refused}
-use Rattle.request.specs.Request.{no_pair, pair_of, pairs_of}
+use Rattle.cursor.specs.RecordLaws.{none_read, one_read, one_refused}
+use Rattle.request.specs.Request.{pairs_of}
 use Rattle.request.specs.Answers.{pair_answer, pair_section}
 use Rattle.request.specs.ReadingLaws.{pair_taken, pair_refused}
 use Rattle.request.specs.SectionLaws.{section_answer_lem}

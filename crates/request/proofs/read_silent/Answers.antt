@@ -1,5 +1,5 @@
 -- The count is read and judged, and the byte behind it where the count is 1; each way out is one law of the section.
-use Rattle.std.proofs.Common.{sym, ◌∙◌, rules}
+use Rattle.std.proofs.Common.{sym, ◌∙◌}
 use Rattle.cursor.specs.FieldLaws.{byte_taken, byte_missing}
 use Rattle.request.specs.SilentLaws.{silent_none, silent_many, silent_no_byte, silent_missing, silent_above, silent_given}
 use Rattle.request.proofs.read_silent.Goals as goal

@@ -1,5 +1,5 @@
 -- Four words are read, one behind the other: where one is missing the definition is refused with 1, and the four make a task, which is judged.
-use Rattle.std.proofs.Common.{sym, ◌∙◌, rules}
+use Rattle.std.proofs.Common.{sym, ◌∙◌}
 use Rattle.cursor.specs.FieldLaws.{word_taken, word_missing}
 use Rattle.request.specs.Request.{task_of, judged_task}
 use Rattle.request.specs.ReadingLaws.{task_words, task_end}

@@ -1,5 +1,5 @@
 -- Behind the end there is no byte.
-use Rattle.std.proofs.Common.{sym, rules}
+use Rattle.std.proofs.Common.{sym}
 use lib.ListN.{get_or-eq_default}
 use Rattle.checker.proofs.walk.byte_or_zero.Goals as goal
 

@@ -1,10 +1,7 @@
 -- Inside both loops no place is found yet, and the rest of the walk finds what the whole walk finds.
-use Rattle.std.proofs.Common.{◌≤◌, ◌<◌, ◌-◌, ◌+◌, ◌*◌, ◌≡◌, refl, sym, ◌∙◌, rules}
+use Rattle.std.proofs.Common.{◌≡◌, refl, sym, ◌∙◌, rules}
 use Rattle.table.specs.Table.{carried_in}
-use Rattle.checker.specs.declared.walk.Position.TheVariants.{Nowhere}
-use Rattle.checker.specs.Checked.{position_in}
-use Rattle.checker.specs.Answers.{rows_in, rows_of}
-use Rattle.checker.specs.WalkLaws.{walk_in_row, walk_starts, row_starts, walk_ends, row_ends, entry_names, entry_other}
+use Rattle.checker.specs.WalkLaws.{walk_starts, row_starts, walk_ends, row_ends, entry_names, entry_other}
 use Rattle.checker.proofs.walk.find.Goals as goal
 
 pub rows-init : goal.rows-init

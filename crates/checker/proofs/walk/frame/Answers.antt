@@ -1,5 +1,5 @@
 -- The frame of a row, with carry and without.
-use Rattle.std.proofs.Common.{arith, rules}
+use Rattle.std.proofs.Common.{arith}
 use Rattle.checker.specs.Checked.{frame_for}
 use Rattle.checker.proofs.walk.frame.Goals as goal
 

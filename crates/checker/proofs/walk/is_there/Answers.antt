@@ -1,10 +1,7 @@
 -- The loop keeps that the jobs left decide.
-use Rattle.std.proofs.Common.{◌≤◌, ◌-◌, ◌+◌, ◌∙◌, ⊎_elim, arith, eq-eqb, ne_eqb, rules}
+use Rattle.std.proofs.Common.{◌≤◌, ◌+◌, ◌∙◌, arith, eq-eqb, ne_eqb}
 use native.Mathlib.Nat.{sub-zero}
-use Rattle.cursor.specs.Padded.{firsts}
-use Rattle.checker.specs.Checked.{is_there}
-use Rattle.checker.specs.Answers.{named}
-use Rattle.plan_rules.specs.EveryLaws.{SomeLeft, some_next, some_here, some_none}
+use Rattle.plan_rules.specs.EveryLaws.{some_next, some_here, some_none}
 use Rattle.checker.specs.NameLaws.{named_there}
 use Rattle.checker.proofs.walk.is_there.Goals as goal
 use Rattle.checker.proofs.walk.is_there.Goals.{then-names-y+then-names-y-2+else-frames-y, then-names-y+else-names-y-2, else-names-y}
@@ -33,10 +30,10 @@ loop-y-preserved c =
       more,
       l.invariant.1,
       elim c.if-names-y.branch [
-        then-names-y+then-names-y-2+else-frames-y w ↦
-          next (here ∙ rw (eq-eqb _ _ w.if-names-y.true, eq-eqb _ _ w.if-names-y-2.true, ne_eqb _ _ w.if-frames-y.false)) ∙ l.invariant.2
-      | then-names-y+else-names-y-2 w ↦ next (here ∙ rw (eq-eqb _ _ w.if-names-y.true, ne_eqb _ _ w.if-names-y-2.false)) ∙ l.invariant.2
-      | else-names-y w ↦ next (here ∙ rw (ne_eqb _ _ w.if-names-y.false)) ∙ l.invariant.2
+        | then-names-y+then-names-y-2+else-frames-y w ↦
+            next (here ∙ rw (eq-eqb _ _ w.if-names-y.true, eq-eqb _ _ w.if-names-y-2.true, ne_eqb _ _ w.if-frames-y.false)) ∙ l.invariant.2
+        | then-names-y+else-names-y-2 w ↦ next (here ∙ rw (eq-eqb _ _ w.if-names-y.true, ne_eqb _ _ w.if-names-y-2.false)) ∙ l.invariant.2
+        | else-names-y w ↦ next (here ∙ rw (ne_eqb _ _ w.if-names-y.false)) ∙ l.invariant.2
       ],
     )
 

@@ -1,11 +1,9 @@
 -- The loop keeps that the jobs left decide.
-use Rattle.std.proofs.Common.{◌≤◌, ◌-◌, ◌+◌, ◌∙◌, ⊎_elim, arith, eq-eqb, ne_eqb, rules}
-use native.Mathlib.Nat.{sub-zero}
+use Rattle.std.proofs.Common.{◌≤◌, ◌-◌}
 use Rattle.cursor.specs.Padded.{firsts}
 use Rattle.checker.specs.Checked.{is_there}
 use Rattle.checker.specs.Answers.{named}
-use Rattle.plan_rules.specs.EveryLaws.{SomeLeft, some_next, some_here, some_none}
-use Rattle.checker.specs.NameLaws.{named_there}
+use Rattle.plan_rules.specs.EveryLaws.{SomeLeft}
 use Rattle.checker.proofs.walk.is_there.Given as goal
 
 abbrev pub invariant-loop-y : goal.invariant-loop-y

@@ -1,8 +1,7 @@
 -- The loop keeps that the names of the jobs passed stand in the first places.
-use Rattle.std.proofs.Common.{◌≤◌, ◌<◌, ◌-◌, ◌≡◌, sym, arith, rules}
+use Rattle.std.proofs.Common.{◌<◌, ◌≡◌, sym, arith}
 use Rattle.cursor.specs.Padded.{firsts}
 use Rattle.cursor.specs.PaddedLaws.{padded_none}
-use Rattle.cycle.specs.Planned.{no_job}
 use Rattle.checker.specs.Answers.{task_names, job_numbers}
 use Rattle.checker.specs.NameLaws.{one_task, one_number}
 use Rattle.checker.proofs.walk.names.Goals as goal

@@ -1,12 +1,12 @@
 -- The loop keeps that the jobs left decide whether all have a frame, and that the frames of those before are in their places.
-use Rattle.std.proofs.Common.{◌≤◌, ◌-◌, ◌≡◌, sym, ◌∙◌, ap, arith, rules}
+use Rattle.std.proofs.Common.{◌≡◌, sym, ◌∙◌, ap, arith}
 use native.Mathlib.Nat.{sub-zero}
 use Rattle.cycle.specs.Planned.{no_job}
-use Rattle.cursor.specs.Padded.{padded, firsts}
+use Rattle.cursor.specs.Padded.{firsts}
 use Rattle.cursor.specs.PaddedLaws.{padded_none}
-use Rattle.checker.specs.Checked.{is_placed, frames_in}
+use Rattle.checker.specs.Checked.{frames_in}
 use Rattle.checker.specs.Answers.{rows_of, frames_answer}
-use Rattle.plan_rules.specs.EveryLaws.{AllLeft, all_next, all_fails, all_done}
+use Rattle.plan_rules.specs.EveryLaws.{all_next, all_fails, all_done}
 use Rattle.checker.specs.WalkLaws.{found_below}
 use Rattle.checker.specs.LoopLaws.{placed_at, one_read}
 use Rattle.checker.proofs.walk.read_frames.Goals as goal

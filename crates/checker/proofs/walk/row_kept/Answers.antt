@@ -1,10 +1,9 @@
 -- The loop keeps that the entries left decide.
-use Rattle.std.proofs.Common.{◌≤◌, ◌-◌, ◌+◌, ◌*◌, ◌≡◌, sym, ◌∙◌, arith, rules}
-use borrow.Author.Tests.{not-true, not-false}
+use Rattle.std.proofs.Common.{sym, ◌∙◌, arith}
 use Rattle.cursor.specs.Padded.{firsts}
 use Rattle.table.specs.Table.{entry_of}
-use Rattle.checker.specs.Checked.{row_kept, entry_kept}
-use Rattle.checker.specs.Answers.{entries_in, named}
+use Rattle.checker.specs.Checked.{entry_kept}
+use Rattle.checker.specs.Answers.{named}
 use Rattle.checker.specs.WalkLaws.{entries_start, entry_kept_lem, entry_broken, entries_done}
 use Rattle.checker.proofs.walk.row_kept.Goals as goal
 

@@ -1,10 +1,8 @@
 -- The loop keeps that the rows left decide.
-use Rattle.std.proofs.Common.{◌≤◌, ◌-◌, ◌+◌, ◌*◌, ◌≡◌, sym, ◌∙◌, arith, get_or, rules}
-use borrow.Author.Tests.{not-true, not-false}
+use Rattle.std.proofs.Common.{◌≤◌, ◌-◌, ◌+◌, ◌*◌, ◌≡◌}
 use Rattle.cursor.specs.Padded.{firsts}
 use Rattle.checker.specs.Checked.{rows_kept}
 use Rattle.checker.specs.Answers.{rows_in, rows_of, named}
-use Rattle.checker.specs.WalkLaws.{rows_start, row_kept_lem, row_broken, rows_done}
 use Rattle.checker.proofs.walk.rows_kept.Given as goal
 
 abbrev pub invariant-loop-row : goal.invariant-loop-row

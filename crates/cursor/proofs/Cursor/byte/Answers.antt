@@ -1,5 +1,5 @@
 -- Each way out is one case of the definition's test.
-use Rattle.std.proofs.Common.{rules, lt-ltb, le-ltb}
+use Rattle.std.proofs.Common.{lt-ltb, le-ltb}
 use Rattle.cursor.specs.Fields.{byte_at}
 use Rattle.cursor.specs.FieldLaws.{byte_at_lem}
 use Rattle.cursor.proofs.Cursor.byte.Goals as goal

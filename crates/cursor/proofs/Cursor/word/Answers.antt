@@ -1,5 +1,5 @@
 -- The u16 is put together from two answers of `byte`; each way out is one law of the definition.
-use Rattle.std.proofs.Common.{rules, sym, ◌∙◌}
+use Rattle.std.proofs.Common.{sym, ◌∙◌}
 use Rattle.cursor.specs.FieldLaws.{word_no_low, word_no_high, word_of_two}
 use Rattle.cursor.proofs.Cursor.word.Goals as goal
 

@@ -1,8 +1,7 @@
 -- The loop keeps that the choice among the lengths left, with whether one was tried, is the choice among all, and what is left of the tries.
-use Rattle.std.proofs.Common.{◌-◌, ◌∙◌, arith, rules}
+use Rattle.std.proofs.Common.{◌-◌}
 use Rattle.model.specs.Answers.{instance_of}
-use Rattle.planner.specs.TriedLaws.{searchable}
-use Rattle.planner.specs.ChoiceLaws.{Searching, searching_start, left_less, none_with, one_with, out_with, passed}
+use Rattle.planner.specs.ChoiceLaws.{Searching}
 use Rattle.planner.proofs.choose.choose.Given as goal
 
 abbrev pub invariant-loop-rows : goal.invariant-loop-rows

@@ -1,5 +1,5 @@
 -- The tests of the function are the definition's; no length has 0 rows.
-use Rattle.std.proofs.Common.{sym, ◌∙◌, eq-eqb, ne_eqb, rules}
+use Rattle.std.proofs.Common.{sym, ◌∙◌, eq-eqb, ne_eqb}
 use Rattle.model.specs.Chosen.{is_tried_by}
 use Rattle.planner.specs.TriedLaws.{no_rows}
 use Rattle.planner.proofs.choose.is_tried.Goals as goal

@@ -1,7 +1,6 @@
 -- The loop keeps that no length between the two is tried; those behind it have more rows than the cycle has ticks.
-use Rattle.std.proofs.Common.{◌-◌, ◌≤◌, ◌<◌, sym, ◌∙◌, arith, below_more, rules}
-use Rattle.model.specs.Answers.{instance_of}
-use Rattle.planner.specs.TriedLaws.{NoneTried, next_is, no_next}
+use Rattle.std.proofs.Common.{◌<◌, sym, ◌∙◌, arith, below_more, rules}
+use Rattle.planner.specs.TriedLaws.{next_is, no_next}
 use Rattle.planner.proofs.choose.next_tried.Goals as goal
 
 pub loop-next-init : goal.loop-next-init

@@ -1,7 +1,7 @@
 -- The loop keeps that no length between the two is tried; those behind it have more rows than the cycle has ticks.
-use Rattle.std.proofs.Common.{◌-◌, ◌≤◌, ◌<◌, sym, ◌∙◌, arith, below_more, rules}
+use Rattle.std.proofs.Common.{◌-◌, ◌≤◌}
 use Rattle.model.specs.Answers.{instance_of}
-use Rattle.planner.specs.TriedLaws.{NoneTried, next_is, no_next}
+use Rattle.planner.specs.TriedLaws.{NoneTried}
 use Rattle.planner.proofs.choose.next_tried.Given as goal
 
 abbrev pub invariant-loop-next : goal.invariant-loop-next

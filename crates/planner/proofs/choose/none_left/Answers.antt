@@ -1,5 +1,5 @@
 -- Whether some length was tried decides between 10 and 9.
-use Rattle.std.proofs.Common.{◌∙◌, rules}
+use Rattle.std.proofs.Common.{◌∙◌}
 use Rattle.planner.specs.Choices.{choice_answer}
 use Rattle.planner.proofs.choose.none_left.Goals as goal
 

@@ -1,5 +1,5 @@
 -- What is given is the problem of the length, so what the search answers is the definition's walk within the tries allowed.
-use Rattle.std.proofs.Common.{ap, ◌∙◌, [], rules}
+use Rattle.std.proofs.Common.{ap, ◌∙◌, []}
 use Rattle.search.specs.Placing.{Problem, plan_walk}
 use Rattle.searcher.specs.Arrays.{placed_within}
 use Rattle.planner.proofs.choose.plan_with.Goals as goal

@@ -1,5 +1,5 @@
 -- The third section has at most two bytes, so that no sum wraps.
-use Rattle.std.proofs.Common.{rules, arith}
+use Rattle.std.proofs.Common.{arith}
 use Rattle.request.specs.WriteLaws.{silent_short}
 use Rattle.request.proofs.write.request_length.Goals as goal
 

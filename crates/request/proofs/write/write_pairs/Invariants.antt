@@ -1,8 +1,8 @@
 -- The loop keeps that the count and the pairs before pair i are in their places and those from i on are to come.
-use Rattle.std.proofs.Common.{rules, ◌≤◌, ◌-◌, ◌+◌, ◌*◌, ◌≡◌, arith, length, length-set}
+use Rattle.std.proofs.Common.{◌≤◌, ◌-◌, ◌+◌, ◌*◌, ◌≡◌}
 use Rattle.request.specs.Request.{no_pair}
 use Rattle.request.specs.Encode.{pair_bytes}
-use Rattle.request.specs.WriteLaws.{pair_wide, SectionPart, count_room, section_start, section_room, section_more, section_end, pair_stored}
+use Rattle.request.specs.WriteLaws.{pair_wide, SectionPart}
 use Rattle.request.proofs.write.write_pairs.Given as goal
 
 abbrev pub invariant-loop-i : goal.invariant-loop-i

@@ -1,6 +1,6 @@
 -- Each section goes into the part of the buffer behind the one before.
 -- the buffer has room for the three sections
-use Rattle.std.proofs.Common.{rules, ◌+◌, ◌-◌, ◌≤◌, ◌++◌, arith, length, take, length-append}
+use Rattle.std.proofs.Common.{◌+◌, ◌-◌, ◌≤◌, ◌++◌, arith, length, take, length-append}
 use borrow.Rule.Slice.PartMut.{put_mid}
 use Rattle.cursor.specs.Padded.{firsts}
 use Rattle.cursor.specs.Pieces.{Placed}

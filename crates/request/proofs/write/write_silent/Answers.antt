@@ -1,5 +1,5 @@
 -- Nothing is written where g is 0, and else two bytes are stored.
-use Rattle.std.proofs.Common.{rules, arith, length-set}
+use Rattle.std.proofs.Common.{arith, length-set}
 use Rattle.request.specs.WriteLaws.{silent_left_out, silent_room, silent_stored}
 use Rattle.request.proofs.write.write_silent.Goals as goal
 

@@ -1,5 +1,4 @@
 -- Four words one behind the other are the eight bytes.
-use Rattle.std.proofs.Common.{rules}
 use Rattle.request.specs.WriteLaws.{task_stored}
 use Rattle.request.proofs.write.write_task.Goals as goal
 

@@ -1,9 +1,7 @@
 -- The loop keeps that the count and the tasks before task i are in their places and those from i on are to come.
-use Rattle.std.proofs.Common.{rules, ◌≤◌, ◌-◌, ◌+◌, ◌*◌, ◌≡◌, arith, length, length-drop, length-set}
+use Rattle.std.proofs.Common.{◌≤◌, ◌+◌, arith, length, length-drop}
 use Rattle.cursor.specs.Parts.{rest_part, rest_put}
-use Rattle.request.specs.Request.{no_task}
-use Rattle.request.specs.Encode.{task_bytes}
-use Rattle.request.specs.WriteLaws.{task_wide, SectionPart, count_room, section_start, section_room, section_placed, section_end}
+use Rattle.request.specs.WriteLaws.{task_wide, count_room, section_start, section_room, section_placed, section_end}
 use Rattle.request.proofs.write.write_tasks.Goals as goal
 use Rattle.request.proofs.write.write_tasks.Goals.{In-loop-i}
 

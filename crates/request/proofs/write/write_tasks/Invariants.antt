@@ -1,9 +1,8 @@
 -- The loop keeps that the count and the tasks before task i are in their places and those from i on are to come.
-use Rattle.std.proofs.Common.{rules, ◌≤◌, ◌-◌, ◌+◌, ◌*◌, ◌≡◌, arith, length, length-drop, length-set}
-use Rattle.cursor.specs.Parts.{rest_part, rest_put}
+use Rattle.std.proofs.Common.{◌≤◌, ◌-◌, ◌+◌, ◌*◌, ◌≡◌}
 use Rattle.request.specs.Request.{no_task}
 use Rattle.request.specs.Encode.{task_bytes}
-use Rattle.request.specs.WriteLaws.{task_wide, SectionPart, count_room, section_start, section_room, section_placed, section_end}
+use Rattle.request.specs.WriteLaws.{task_wide, SectionPart}
 use Rattle.request.proofs.write.write_tasks.Given as goal
 
 abbrev pub invariant-loop-i : goal.invariant-loop-i

@@ -1,5 +1,5 @@
 -- The two ways are the two cases of carry.
-use Rattle.std.proofs.Common.{arith, rules}
+use Rattle.std.proofs.Common.{arith}
 use Rattle.table.proofs.job.byte.Goals as goal
 
 pub returns-then-carried : goal.returns-then-carried

@@ -1,5 +1,5 @@
 -- The two ways out are the two cases of the row that begins at the place.
-use Rattle.std.proofs.Common.{refl, rules}
+use Rattle.std.proofs.Common.{refl}
 use Rattle.table.specs.Answers.{row_at}
 use Rattle.table.specs.ReadLaws.{row_taken}
 use Rattle.table.proofs.read.next_row.Goals as goal

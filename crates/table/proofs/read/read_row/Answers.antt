@@ -1,9 +1,9 @@
 -- The loop keeps that the entries left, behind those in the places, are what the row has.
-use Rattle.std.proofs.Common.{rules, ◌≤◌, ◌-◌, sym, ◌∙◌, arith, le-leb}
+use Rattle.std.proofs.Common.{rules, sym, ◌∙◌, arith, le-leb}
 use borrow.Author.Tests.{lt-leb}
 use Rattle.cursor.specs.FieldLaws.{ByteTaken, byte_taken, byte_missing}
 use Rattle.table.specs.Table.{row_from}
-use Rattle.table.specs.ReadLaws.{EntriesSoFar, entries_start, entries_more, entries_refused, entries_row}
+use Rattle.table.specs.ReadLaws.{entries_start, entries_more, entries_refused, entries_row}
 use Rattle.table.proofs.read.read_row.Goals as goal
 use Rattle.table.proofs.read.read_row.Goals.{In-Byte}
 

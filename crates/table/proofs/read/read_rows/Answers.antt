@@ -1,12 +1,11 @@
 -- The loop keeps that the rows left, behind those that were read, are what the section has, and the row k once it is read.
-use Rattle.std.proofs.Common.{rules, arith, ◌≤◌, ◌-◌, ◌≡◌, refl, sym, ◌∙◌, true, ⊎_elim, drop}
-use borrow.Author.Tests.{not-true, not-false}
+use Rattle.std.proofs.Common.{rules, ◌≡◌, refl, sym, ◌∙◌, true, drop}
 use Rattle.cursor.specs.Parsed.{got}
 use Rattle.cursor.specs.Fields.{word_of}
 use Rattle.cursor.specs.FieldLaws.{word_taken, word_missing}
 use Rattle.table.specs.Table.{height_fits, rows_from}
 use Rattle.table.specs.Answers.{table_read, sizes_of, row_answer}
-use Rattle.table.specs.ReadLaws.{RowsSoFar, rows_start, rows_kept_lem, rows_passed, rows_refused, rows_tail, rows_end}
+use Rattle.table.specs.ReadLaws.{rows_start, rows_kept_lem, rows_passed, rows_refused, rows_tail, rows_end}
 use Rattle.table.proofs.read.read_rows.Goals as goal
 use Rattle.table.proofs.read.read_rows.Goals.{then-i-k, else-i-k, Else-not-height_fits}
 
@@ -67,8 +66,8 @@ loop-i-preserved c =
     let so = c.loop-i.invariant.1 in (
       search rules,
       elim c.if-i-k.branch [
-        then-i-k w ↦ rw w.kept-is (rows_kept_lem _ _ _ _ _ _ _ _ so _ _ _ _ more here w.if-i-k.true)
-      | else-i-k w ↦ rw w.kept-is (rows_passed _ _ _ _ _ _ _ _ so _ _ _ _ more here w.if-i-k.false)
+        | then-i-k w ↦ rw w.kept-is (rows_kept_lem _ _ _ _ _ _ _ _ so _ _ _ _ more here w.if-i-k.true)
+        | else-i-k w ↦ rw w.kept-is (rows_passed _ _ _ _ _ _ _ _ so _ _ _ _ more here w.if-i-k.false)
       ],
     )
 
