@@ -9,7 +9,7 @@ use native.Mathlib.Numerals.{add-one}
 use native.Mathlib.Omega.{arith}
 use lib.ListN.{length, take, drop, get_or, set, length-set, length-append}
 use lib.Seq.{length-take-le, take-suc-set, take-take, take-set-le, drop-set-lt, set-set, set-get_or}
-use Rattle.search.specs.Search.{Found, none, at, Walk}
+use Rattle.search.specs.Search.{Found, none, Walk}
 use Rattle.search.specs.Counting.{on_none, on_found, attempt_walk, from_walk, walk_end, walk_more, walk_all, walk_next, walk_may, walk_not}
 use Rattle.search.specs.Placing.{plan_walk, Problem, fits, window_start, frame_count, Bounds}
 use Rattle.search.specs.BestLaws.{placing_more}

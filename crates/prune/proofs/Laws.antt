@@ -235,7 +235,7 @@ module _ {counts links : List ℕ} {y : ℕ} (g : LinksBack counts links y) wher
         at_most z t = omega arith
 
         empty : (l : ℕ) → Memᴰ l (part at end links) → ⊥
-        empty l m = let z : end - at ≡ 0 = omega arith in Memᴰ.not_nil (rw z at m)
+        empty l m = let z : end - at ≡ 0 = omega arith in Memᴰ.not-nil (rw z at m)
 
         same : (z l : ℕ) → z ≡ y → Memᴰ l (links_at counts links z) → 128 ≤ l → get_or out (l - 128) 0 ≡ 1
         same z l q m b = ⊎_elim (λ w. absurd (empty l w)) (λ w. w) (v.left l (rw q at m) b)

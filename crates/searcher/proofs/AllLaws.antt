@@ -5,7 +5,7 @@ use mathlib.Core.List.{List, []}
 use Prim.Native.Nat.{ℕ, ◌*◌, ◌≤◌, ◌<◌}
 use native.Mathlib.Omega.{arith}
 use lib.ListN.{length, take, replicate, length-replicate}
-use lib.Seq.{length-take-le, get_or-take}
+use lib.Seq.{length-take-le}
 use lib.Dec.{ltb}
 use borrow.Author.Tests.{le-ltb, ltb-true, ltb-false}
 use Rattle.cursor.specs.Padded.{padded}
@@ -14,7 +14,7 @@ use Rattle.cursor.specs.ArrayLaws.{blank_behind}
 use Rattle.search.specs.Search.{Found, none, at, Walk}
 use Rattle.search.specs.Placing.{plan_walk, Problem, problem, Proper}
 use Rattle.search.specs.LoadLaws.{loads_empty}
-use Rattle.searcher.specs.Arrays.{Placeable, problem_from, problem_of, jobs_in, problem_in, Small, placed_answer, placed_within, Placing, number, Tried, TriedJob}
+use Rattle.searcher.specs.Arrays.{Placeable, problem_from, problem_of, jobs_in, problem_in, placed_answer, placed_within, Placing, number, Tried, TriedJob}
 use Rattle.searcher.specs.declared.Given.{Given}
 use Rattle.searcher.specs.declared.Placed.{Placed}
 
@@ -28,10 +28,6 @@ zeros_length k = length-replicate k _
 module _ {g : Given} (p : Placeable g) where
   costs_size : length (take g.n g.cost) ≡ g.n
   costs_size = length-take-le g.n g.cost p.costs
-
-  -- no cost is longer than a frame
-  pub costs_small : Small g.cost g.n
-  costs_small = record { few = p.few; all = p.costs; small = λ j h. omega (arith, p.proper.costs j, get_or-take g.n g.cost j 0 h, p.short) }
 
   same_costs : {costs : List ℕ} → costs ≡ padded 128 0 (take g.n g.cost) → take g.n costs ≡ take g.n g.cost
   same_costs costs_are =

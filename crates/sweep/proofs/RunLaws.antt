@@ -1,7 +1,7 @@
 -- Laws of the run through the rows, one for each way through its code: what is left to run answers for the whole, and, once the next row has
 -- begun, for that row. All rows of one run have the same flags. Assumes nothing.
 use mathlib.Core.Path.{◌≡◌, refl, sym, ap, subst, ◌∙◌}
-use mathlib.Core.Bool.{Bool, true, false, false≢true}
+use mathlib.Core.Bool.{Bool, true, false}
 use mathlib.Core.Logic.{⊎_elim}
 use mathlib.Core.List.{List, ◌++◌}
 use Prim.Native.Nat.{ℕ, zero, suc, ◌+◌, ◌-◌, ◌≤◌, ◌<◌}
@@ -10,7 +10,7 @@ use native.Mathlib.Omega.{arith}
 use lib.ListN.{length, get_or, set, replicate, length-set, length-replicate}
 use lib.Seq.{set-set, set-get_or}
 use Rattle.searcher.specs.Arrays.{part_in, jobs_in}
-use Rattle.exact.specs.Sweep.{Rules, any_below, more, skips, puts, leaves, From, Rest, Ordered, Fewer}
+use Rattle.exact.specs.Sweep.{Rules, any_below, more, skips, leaves, From, Rest, Ordered, Fewer}
 use Rattle.exact.specs.WitnessLaws.{ordered_first, ordered_put, from_fewer}
 use Rattle.exact.specs.SweepLaws.{Putting, row_begun, rest_full, rest_next, rest_skip, rest_stuck, rest_left}
 use Rattle.exact.specs.Words.{word, word_at}
@@ -187,9 +187,6 @@ pub record Chosen (u : Rules) (ps : List Bool) (i end c : ℕ) : Type 0 where
 -- one job is put
 module _ {u : Rules} {rows : ℕ} (p i room : ℕ) {ps : List Bool} {due marks words : List ℕ} {low high : ℕ} {kept : Bool}
     (g : Going u rows ps due marks words low high kept) where
-  pub may_not : puts u ps room i ≡ false → NotPut u rows p i room ps due ps due marks words
-  may_not e = record { fails = λ t. absurd (false≢true (sym e ∙ t)); same = refl; same_due = refl; memory = g.memory }
-
   module _ {end c : ℕ} (x : Chosen u ps i end c) where
     in_flags : i < length ps
     in_flags = omega (arith, g.flags, x.job, x.few)

@@ -32,7 +32,12 @@ returns-then-not-has_room c =
 
 pub returns-then-k-low : goal.returns-then-k-low
 returns-then-k-low c =
-    rw (test_is (goal.at.returns-then-k-low c).Start, ← room_is (goal.at.returns-then-k-low c).After-has_room, c.if-not-has_room.false, lt-leb c.args.low c.args.k c.if-k-low.true)
+    rw (
+      test_is (goal.at.returns-then-k-low c).Start,
+      ← room_is (goal.at.returns-then-k-low c).After-has_room,
+      c.if-not-has_room.false,
+      lt-leb c.args.low c.args.k c.if-k-low.true,
+    )
 
 pub returns : goal.returns
 returns c =

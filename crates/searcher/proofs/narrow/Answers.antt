@@ -9,8 +9,11 @@ loop-j-init c = (omega arith, sym (padded_none 128 0))
 
 pub loop-j-preserved : goal.loop-j-preserved
 loop-j-preserved c =
-    let l = c.loop-j in
-    (omega arith, rw l.invariant.1 (one_stored c.args.xs l.j (omega (arith, c.requires.all, c.loop-j-test.true)) (omega (arith, c.requires.few, c.loop-j-test.true))))
+    let l = c.loop-j in (
+      omega arith,
+      rw l.invariant.1 (one_stored c.args.xs l.j (omega (arith, c.requires.all, c.loop-j-test.true))
+          (omega (arith, c.requires.few, c.loop-j-test.true))),
+    )
 
 pub returns : goal.returns
 returns c =

@@ -1,0 +1,8 @@
+-- A word, the frames and the loads, each from its bytes.
+use Rattle.std.proofs.Common.{rules}
+use Rattle.lent.specs.DraftBytes.{draft_in}
+use Rattle.lent.proofs.draft_bytes.read_draft.Goals as goal
+
+pub returns : goal.returns
+unfolding draft_in
+returns c = rw (c.word.ensures, c.read_loads-loads.ensures, c.read_frames-frames.ensures)

@@ -1,0 +1,8 @@
+-- A word, the mark and the counts, each from its bytes.
+use Rattle.std.proofs.Common.{rules}
+use Rattle.lent.specs.State.{state_of}
+use Rattle.lent.proofs.state.read_state.Goals as goal
+
+pub returns : goal.returns
+unfolding state_of
+returns c = rw (c.read_counts-counts.ensures, c.word.ensures)

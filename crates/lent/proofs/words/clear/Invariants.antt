@@ -1,0 +1,12 @@
+-- The loop keeps that the first i bytes are 0, and the rest as they were.
+use Rattle.std.proofs.Common.{◌≤◌, ◌-◌, arith}
+use Rattle.cursor.specs.Pieces.{PartWay}
+use Rattle.lent.specs.Words.{zeros}
+use Rattle.lent.specs.WordLaws.{cleared_start, cleared_room, cleared_more, cleared_end}
+use Rattle.lent.proofs.words.clear.Given as goal
+
+abbrev pub invariant-loop-i : goal.invariant-loop-i
+invariant-loop-i l = (l.i ≤ l.n) × PartWay (zeros l.n) l.initial.bytes l.bytes (zeros (l.n - l.i)) l.i
+
+abbrev pub decreases-loop-i : goal.decreases-loop-i
+decreases-loop-i l = l.n - l.i
