@@ -1,0 +1,21 @@
+-- The lent draft is read, and the draft after the put is handed back.
+use Rattle.std.proofs.Common.{◌∙◌, rules}
+use Rattle.draft.specs.Draft.{put}
+use Rattle.lent.specs.DraftBytes.{draft_in}
+use Rattle.bus.specs.Drafts.{put_reply, put_bytes}
+use Rattle.bus.specs.ReplyLaws.{kept}
+use Rattle.bus.specs.DraftLaws.{too_short}
+use Rattle.bus.proofs.drafts.bus_draft_put.Goals as goal
+
+pub returns-then-lent-lt770 : goal.returns-then-lent-lt770
+unfolding put_reply put_bytes
+returns-then-lent-lt770 c =
+    let a = c.args in
+    let law = too_short (put a.request.now (draft_in a.lent.now) a.job a.frame) a.lent.now c.if-lent-lt770.true in
+    (kept _ c.refusal.type_inv ∙ c.refusal.ensures ∙ law.0, law.1)
+
+pub returns : goal.returns
+unfolding put_reply put_bytes
+returns c =
+    let answer = rw (c.put-made.ensures, c.read_draft-old.ensures) at c.hand_back.ensures in
+    (kept _ c.hand_back.type_inv ∙ answer.0, answer.1)
