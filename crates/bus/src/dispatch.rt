@@ -8,8 +8,7 @@ use lent::state::{is_state, read_state, write_state};
 use lent::words::clear;
 
 // The fresh state, and 0 in the 29 bytes behind it: 0, or 99 negated.
-#[unsafe(no_mangle)]
-pub extern "C" fn bus_fresh(state: &mut [u8]) -> i32
+pub fn bus_fresh(state: &mut [u8]) -> i32
     ensures { (result ≡ fresh_reply state.old) × (state.new ≡ fresh_bytes state.old) }
 {
     if state.len() < 64 {
@@ -21,8 +20,7 @@ pub extern "C" fn bus_fresh(state: &mut [u8]) -> i32
 }
 
 // The entries to serve in the next frame, and the state after it: their number, or 99, 12 or 15 negated and nothing changed.
-#[unsafe(no_mangle)]
-pub extern "C" fn bus_next_frame(table: &[u8], state: &mut [u8], entries: &mut [u8]) -> i32
+pub fn bus_next_frame(table: &[u8], state: &mut [u8], entries: &mut [u8]) -> i32
     ensures { (result ≡ frame_reply table.now state.old entries.old)
         × (state.new ≡ frame_state table.now state.old entries.old)
         × (entries.new ≡ frame_entries table.now state.old entries.old) }
@@ -46,8 +44,7 @@ pub extern "C" fn bus_next_frame(table: &[u8], state: &mut [u8], entries: &mut [
 }
 
 // The ticks that a task used, and the state after the report: 0, or 99, 1 to 6, 17 or 16 negated and nothing changed.
-#[unsafe(no_mangle)]
-pub extern "C" fn bus_report(request: &[u8], task: u8, ticks: u32, state: &mut [u8]) -> i32
+pub fn bus_report(request: &[u8], task: u8, ticks: u32, state: &mut [u8]) -> i32
     ensures { (result ≡ report_reply request.now task ticks state.old) × (state.new ≡ report_state request.now task ticks state.old) }
 {
     if !is_state(state) {

@@ -20,8 +20,7 @@ fn hand_back(lent: &mut [u8], made: Drafted) -> i32
 }
 
 // The draft of an accepted table: 0, or 99, 1 to 8, 17 or 12 to 14 negated.
-#[unsafe(no_mangle)]
-pub extern "C" fn bus_draft_start(request: &[u8], table: &[u8], lent: &mut [u8]) -> i32
+pub fn bus_draft_start(request: &[u8], table: &[u8], lent: &mut [u8]) -> i32
     ensures { (result ≡ start_reply request.now table.now lent.old)
         × (lent.new ≡ start_bytes request.now table.now lent.old) }
 {
@@ -33,8 +32,7 @@ pub extern "C" fn bus_draft_start(request: &[u8], table: &[u8], lent: &mut [u8])
 }
 
 // The job at a place of the planning order is lifted: 0, or 99, 1 to 8, 17 or 26 negated.
-#[unsafe(no_mangle)]
-pub extern "C" fn bus_draft_lift(request: &[u8], job: u8, lent: &mut [u8]) -> i32
+pub fn bus_draft_lift(request: &[u8], job: u8, lent: &mut [u8]) -> i32
     ensures { (result ≡ lift_reply request.now job lent.old) × (lent.new ≡ lift_bytes request.now job lent.old) }
 {
     if lent.len() < 770 {
@@ -46,8 +44,7 @@ pub extern "C" fn bus_draft_lift(request: &[u8], job: u8, lent: &mut [u8]) -> i3
 }
 
 // A lifted job is put into a frame, counted from time 0: 0, or 99, 1 to 8, 17 or 26 to 28 negated.
-#[unsafe(no_mangle)]
-pub extern "C" fn bus_draft_put(request: &[u8], job: u8, frame: u16, lent: &mut [u8]) -> i32
+pub fn bus_draft_put(request: &[u8], job: u8, frame: u16, lent: &mut [u8]) -> i32
     ensures { (result ≡ put_reply request.now job frame lent.old)
         × (lent.new ≡ put_bytes request.now job frame lent.old) }
 {
@@ -60,8 +57,7 @@ pub extern "C" fn bus_draft_put(request: &[u8], job: u8, frame: u16, lent: &mut 
 }
 
 // The table of a draft with no job lifted, written into `out`: its length, or 99, 1 to 8, 17, 26 or 11 negated.
-#[unsafe(no_mangle)]
-pub extern "C" fn bus_draft_write(request: &[u8], lent: &[u8], out: &mut [u8]) -> i32
+pub fn bus_draft_write(request: &[u8], lent: &[u8], out: &mut [u8]) -> i32
     ensures { (result ≡ write_reply request.now lent.now out.old)
         × (out.new ≡ write_buffer request.now lent.now out.old) }
 {

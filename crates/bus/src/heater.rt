@@ -9,8 +9,7 @@ use lent::heater_bytes::{is_heater, read_link, write_heater};
 use lent::words::clear;
 
 // A fresh heater, and 0 in the bytes that are kept free: 0, or 99 negated.
-#[unsafe(no_mangle)]
-pub extern "C" fn bus_heater_fresh(heater: &mut [u8]) -> i32
+pub fn bus_heater_fresh(heater: &mut [u8]) -> i32
     ensures { (result ≡ heater_fresh_reply heater.old) × (heater.new ≡ heater_fresh_bytes heater.old) }
 {
     if heater.len() < 72 {
@@ -33,8 +32,7 @@ fn told(lost: u8) -> Losses
 
 // One frame served for the pair a, b, with what is lost in it, and the heater after it: the number of entries, or 99, 1 to 8, 17, 12 to 14, 30 or 15
 // negated and nothing changed.
-#[unsafe(no_mangle)]
-pub extern "C" fn bus_heater_serve(
+pub fn bus_heater_serve(
     request: &[u8],
     table: &[u8],
     a: u8,

@@ -10,8 +10,7 @@ use lent::timer_bytes::{is_timer, read_timer, write_timer};
 use lent::words::clear;
 
 // The fresh timer, and 0 in every other byte of the 72: 0, or 99 negated.
-#[unsafe(no_mangle)]
-pub extern "C" fn bus_timer_fresh(timer: &mut [u8]) -> i32
+pub fn bus_timer_fresh(timer: &mut [u8]) -> i32
     ensures { (result ≡ timer_fresh_reply timer.old) × (timer.new ≡ timer_fresh_bytes timer.old) }
 {
     if timer.len() < 72 {
@@ -23,8 +22,7 @@ pub extern "C" fn bus_timer_fresh(timer: &mut [u8]) -> i32
 }
 
 // The byte at an address: or 99 or 29 negated.
-#[unsafe(no_mangle)]
-pub extern "C" fn bus_timer_read(address: u8, timer: &[u8]) -> i32
+pub fn bus_timer_read(address: u8, timer: &[u8]) -> i32
     ensures { result ≡ timer_read_reply address timer.now }
 {
     if !is_timer(timer) {
@@ -39,8 +37,7 @@ pub extern "C" fn bus_timer_read(address: u8, timer: &[u8]) -> i32
 }
 
 // A byte written to an address, and the timer after it: 0, or 99 or 29 negated and nothing changed.
-#[unsafe(no_mangle)]
-pub extern "C" fn bus_timer_write(address: u8, value: u8, timer: &mut [u8]) -> i32
+pub fn bus_timer_write(address: u8, value: u8, timer: &mut [u8]) -> i32
     ensures { (result ≡ timer_write_reply address value timer.old) × (timer.new ≡ timer_write_bytes address value timer.old) }
 {
     if !is_timer(timer) {
@@ -56,8 +53,7 @@ pub extern "C" fn bus_timer_write(address: u8, value: u8, timer: &mut [u8]) -> i
 }
 
 // A timer event, and the timer after it: 0, or 99 negated and nothing changed.
-#[unsafe(no_mangle)]
-pub extern "C" fn bus_timer_event(timer: &mut [u8]) -> i32
+pub fn bus_timer_event(timer: &mut [u8]) -> i32
     ensures { (result ≡ timer_event_reply timer.old) × (timer.new ≡ timer_event_bytes timer.old) }
 {
     if !is_timer(timer) {
@@ -71,8 +67,7 @@ pub extern "C" fn bus_timer_event(timer: &mut [u8]) -> i32
 
 // The entries of the frame that is due, and the timer after it: their number, or 99, 12 or 15 negated and nothing changed. With none due 0, and nothing
 // changed.
-#[unsafe(no_mangle)]
-pub extern "C" fn bus_timer_serve(table: &[u8], timer: &mut [u8], entries: &mut [u8]) -> i32
+pub fn bus_timer_serve(table: &[u8], timer: &mut [u8], entries: &mut [u8]) -> i32
     ensures { (result ≡ timer_serve_reply table.now timer.old entries.old)
         × (timer.new ≡ timer_serve_bytes table.now timer.old entries.old)
         × (entries.new ≡ timer_serve_entries table.now timer.old entries.old) }
@@ -100,8 +95,7 @@ pub extern "C" fn bus_timer_serve(table: &[u8], timer: &mut [u8], entries: &mut 
 }
 
 // The ticks that a task used, and the timer after the report: 0, or 99, 1 to 6, 17 or 16 negated and nothing changed.
-#[unsafe(no_mangle)]
-pub extern "C" fn bus_timer_report(request: &[u8], task: u8, ticks: u32, timer: &mut [u8]) -> i32
+pub fn bus_timer_report(request: &[u8], task: u8, ticks: u32, timer: &mut [u8]) -> i32
     ensures { (result ≡ timer_report_reply request.now task ticks timer.old)
         × (timer.new ≡ timer_report_bytes request.now task ticks timer.old) }
 {
@@ -118,8 +112,7 @@ pub extern "C" fn bus_timer_report(request: &[u8], task: u8, ticks: u32, timer: 
 }
 
 // The interrupt line: 1 where it is on, else 0; or 99 negated.
-#[unsafe(no_mangle)]
-pub extern "C" fn bus_timer_line(timer: &[u8]) -> i32
+pub fn bus_timer_line(timer: &[u8]) -> i32
     ensures { result ≡ timer_line_reply timer.now }
 {
     if !is_timer(timer) {

@@ -8,8 +8,7 @@ use crate::reply::{refusal, value};
 use lent::numbers::write_phases;
 
 // The request of the two joined, written into `out`: its length, or 1 to 6, 17 to 20 or 11 negated.
-#[unsafe(no_mangle)]
-pub extern "C" fn bus_join(first: &[u8], second: &[u8], out: &mut [u8]) -> i32
+pub fn bus_join(first: &[u8], second: &[u8], out: &mut [u8]) -> i32
     ensures { (result ≡ join_reply first.now second.now out.old)
         × (out.new ≡ join_buffer first.now second.now out.old) }
 {
@@ -21,8 +20,7 @@ pub extern "C" fn bus_join(first: &[u8], second: &[u8], out: &mut [u8]) -> i32
 }
 
 // The request with one task cut into two pieces, written into `out`: its length, or 1 to 6, 17, 24, 25, 19 or 11 negated.
-#[unsafe(no_mangle)]
-pub extern "C" fn bus_cut(request: &[u8], task: u8, first: u16, out: &mut [u8]) -> i32
+pub fn bus_cut(request: &[u8], task: u8, first: u16, out: &mut [u8]) -> i32
     ensures { (result ≡ cut_reply request.now task first out.old)
         × (out.new ≡ cut_buffer request.now task first out.old) }
 {
@@ -35,8 +33,7 @@ pub extern "C" fn bus_cut(request: &[u8], task: u8, first: u16, out: &mut [u8]) 
 
 // How many phases of a task lead to a table, to 9, to 10 and to 23, as four u16 in the first 8 bytes of `counts`: 0, or 99, 1 to 8, 17 or 16 negated and
 // nothing changed.
-#[unsafe(no_mangle)]
-pub extern "C" fn bus_phases(request: &[u8], task: u8, allowance: u64, counts: &mut [u8]) -> i32
+pub fn bus_phases(request: &[u8], task: u8, allowance: u64, counts: &mut [u8]) -> i32
     ensures { (result ≡ phases_reply allowance request.now task counts.old)
         × (counts.new ≡ phases_counts allowance request.now task counts.old) }
 {

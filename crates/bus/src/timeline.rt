@@ -6,8 +6,7 @@ use crate::reply::{refusal, value};
 use lent::records::write_records;
 
 // The records of an accepted table, in planning order, written into `records`: their number, or 1 to 8, 17, 12 to 14 or 11 negated.
-#[unsafe(no_mangle)]
-pub extern "C" fn bus_timeline(request: &[u8], table: &[u8], records: &mut [u8]) -> i32
+pub fn bus_timeline(request: &[u8], table: &[u8], records: &mut [u8]) -> i32
     ensures { (result ≡ timeline_reply request.now table.now records.old)
         × (records.new ≡ timeline_records request.now table.now records.old) }
 {

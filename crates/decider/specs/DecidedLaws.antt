@@ -1,6 +1,6 @@
 -- What deciding answers is what `Decided` says. Each is the planner's where the allowance reaches the full search's tries; and so the two answer alike
 -- wherever the planner answers anything but 23.
-use Rattle.std.specs.Prelude.{ℕ, ◌≤◌, ◌<◌, ◌≡◌, List, length}
+use Rattle.std.specs.Prelude.{ℕ, ◌≤◌, ◌<◌, ◌≡◌, List}
 use Rattle.std.proofs.Common.{sym, ◌∙◌, ⊎_elim, arith}
 use Rattle.std.proofs.Math.Path.{ap}
 use Rattle.cursor.specs.ChoiceLaws.{lt_or_ge}

@@ -1,7 +1,7 @@
 -- The theorem over lists (MovesTheorem). A draft that is sound and keeps its unused places stays so with every move: a refused one gives it unchanged, an accepted
 -- one touches a job of the request and a row of its cycle alone. So it is so after every list; and what the next call answers then follows from the exact
 -- answers, since 26 does not come from the draft.
-use Rattle.std.specs.Prelude.{ℕ, ◌≤◌, ◌<◌, ◌≡◌, refl, ◌⊎◌, length}
+use Rattle.std.specs.Prelude.{ℕ, ◌≤◌, ◌<◌, ◌≡◌, refl, length}
 use Rattle.std.proofs.Common.{sym, subst, ◌∙◌, inr, ⊎_elim, arith}
 use mathlib.Core.List.{List, [], ◌∷◌}
 use Rattle.table.specs.Table.{Table}

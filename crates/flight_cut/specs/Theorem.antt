@@ -1,7 +1,7 @@
 -- The pieces of a cut transfer run as the old request asks: the theorem.
 -- The flight of the cut request's table keeps the windows and pairs of the cut request. A piece has its old task's T, D and P, and H is the same: so its windows are the old
 -- ones. The pieces' own pair stands in front of the cut request's pairs, and the old pairs behind it.
-use Rattle.std.specs.Prelude.{ℕ, suc, ◌+◌, ◌-◌, ◌*◌, ◌≤◌, ◌<◌, ◌≡◌, List, length, get_or}
+use Rattle.std.specs.Prelude.{ℕ, suc, ◌+◌, ◌*◌, ◌≤◌, ◌<◌, ◌≡◌, List, length, get_or}
 use Rattle.std.proofs.Common.{sym, ap, subst, ◌∙◌, arith}
 use Rattle.request.specs.Request.{readable, reading, no_task, no_pair}
 use Rattle.request.specs.ReadableLaws.{readable_kept}

@@ -1,5 +1,5 @@
 -- The bytes of a draft, both ways: a draft that was written is read again, and 770 bytes are those that their draft is written as.
-use Rattle.std.specs.Prelude.{ℕ, ◌+◌, ◌≤◌, ◌≡◌, length, get_or}
+use Rattle.std.specs.Prelude.{ℕ, ◌≤◌, ◌≡◌, length, get_or}
 use Rattle.std.proofs.Math.Path.{refl, ap}
 use Rattle.std.proofs.Common.{◌∙◌, arith, length-append, drop-cons}
 use mathlib.Core.List.{List, ◌++◌, append_assoc}

@@ -12,24 +12,7 @@ use Rattle.cursor.specs.ParsedLaws.{never, then_got, rule_got, got_same}
 use Rattle.cursor.specs.Fields.{byte_of, word_of, word_bytes, Bytes}
 use Rattle.cursor.specs.FrontLaws.{byte_read_lem, word_read}
 use Rattle.cursor.specs.WordBytesLaws.{two_bytes}
-use Rattle.request.specs.Request.{
-  no_task,
-  period_of,
-  task_rule,
-  judged_task,
-  task_of,
-  task_count,
-  tasks_of,
-  pair_rule,
-  judged_pair,
-  pair_of,
-  pair_count,
-  pairs_of,
-  section,
-  silent_of,
-  reading,
-  readable,
-}
+use Rattle.request.specs.Request.{no_task, period_of, task_rule, judged_task, task_of, task_count, tasks_of, pair_rule, judged_pair, pair_of, pair_count, pairs_of, section, reading, readable}
 use Rattle.request.specs.Readable.{TaskKept}
 use Rattle.request.specs.ReadableLaws.{task_read_lem, Sections, reading_sections}
 use Rattle.request.specs.SectionLaws.{SectionRead, tasks_section, SectionSteps, section_steps}

@@ -10,7 +10,7 @@ use Rattle.request.specs.Request.{readable, reading, no_task, period_of}
 use Rattle.request.specs.Answers as request
 use Rattle.request.specs.declared.Task.{Task}
 use Rattle.request.specs.declared.Request.{Request}
-use Rattle.cycle.specs.Cycle.{Cycle, cycle_of}
+use Rattle.cycle.specs.Cycle.{cycle_of}
 use Rattle.cycle.specs.Answers.{cycle_for, cycle_answered}
 use Rattle.cycle.specs.LimitLaws.{cycle_reading}
 use Rattle.cycle.specs.ReadLaws.{bytes_as_read, bytes_cycle}

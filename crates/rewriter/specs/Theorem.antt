@@ -14,7 +14,7 @@ use Rattle.model.specs.Plan.{Instance}
 use Rattle.model.specs.Within.{Within}
 use Rattle.model.specs.WithinLaws.{within_or_not}
 use Rattle.model.specs.Described.{Accepted}
-use Rattle.plan_writer.specs.Outcome.{Outcome, handed, refusal, outcome_answer, outcome_buffer}
+use Rattle.plan_writer.specs.Outcome.{Outcome, handed, outcome_answer, outcome_buffer}
 use Rattle.plan_writer.specs.OutcomeLaws.{refused_answer, refused_buffer, handed_answer, handed_buffer, short_answer, short_buffer}
 use Rattle.checker.specs.Checked as checker
 use Rattle.checker.specs.Exactly.{SizesFit, OfBoth, CheckExact}

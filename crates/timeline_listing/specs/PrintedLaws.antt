@@ -28,7 +28,7 @@ use Rattle.checker.specs.Checked.{checked}
 use Rattle.checker.specs.Accepts.{accepts_described}
 use Rattle.plan_listing.specs.Listing.{refused_line, tasks_in}
 use Rattle.plan_listing.specs.Answers.{table_in}
-use Rattle.job_records.specs.Timeline.{timeline, refusal, records_of, timeline_of, filling, records_in}
+use Rattle.job_records.specs.Timeline.{timeline, records_of, timeline_of, filling, records_in}
 use Rattle.job_records.specs.KnownLaws.{long_enough}
 use Rattle.job_records.specs.declared.JobRecord.{JobRecord}
 use Rattle.timeline_listing.specs.Printed.{timeline_lines, printed_timeline, timeline_planned, timeline_text}

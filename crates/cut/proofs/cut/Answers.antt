@@ -33,7 +33,8 @@ returns-then-x-eq16 c =
 
 pub returns-then-x-eq16-2 : goal.returns-then-x-eq16-2
 returns-then-x-eq16-2 c =
-    let done = pairs_full _ _ _ _ _ (was_read (goal.at.returns-then-x-eq16-2 c).Else-x-ne0) _ c.can_cut.ensures c.if-not-can_cut.false c.if-x-eq16.false c.if-x-eq16-2.true in
+    let done = pairs_full _ _ _ _ _ (was_read (goal.at.returns-then-x-eq16-2 c).Else-x-ne0) _ c.can_cut.ensures c.if-not-can_cut.false
+    c.if-x-eq16.false c.if-x-eq16-2.true in
     (c.refused-then-x-eq16-2.ensures ∙ done.0, done.1)
 
 pub cut_tasks-pieces-requires : goal.cut_tasks-pieces-requires
@@ -43,8 +44,11 @@ cut_tasks-pieces-requires c =
 
 pub cut_pairs-links-requires : goal.cut_pairs-links-requires
 cut_pairs-links-requires c =
-    let can = can_array _ _ _ _ _ c.can_cut.ensures c.if-not-can_cut.false in
-    ((few (goal.at.cut_pairs-links-requires c).Else-x-eq16-2).1, omega (arith, (few (goal.at.cut_pairs-links-requires c).Else-x-eq16-2).0, can.0), pairs_few _ _ (was_read (goal.at.cut_pairs-links-requires c).Else-x-ne0))
+    let can = can_array _ _ _ _ _ c.can_cut.ensures c.if-not-can_cut.false in (
+      (few (goal.at.cut_pairs-links-requires c).Else-x-eq16-2).1,
+      omega (arith, (few (goal.at.cut_pairs-links-requires c).Else-x-eq16-2).0, can.0),
+      pairs_few _ _ (was_read (goal.at.cut_pairs-links-requires c).Else-x-ne0),
+    )
 
 pub overflow_add-x : goal.overflow_add-x
 overflow_add-x c = omega (arith, (few (goal.at.overflow_add-x c).Else-x-eq16-2).0)

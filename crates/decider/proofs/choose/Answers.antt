@@ -1,5 +1,4 @@
 -- What the plain search chooses within its tries is the choice; else the exact search chooses.
-use Rattle.std.proofs.Common.{rules}
 use Rattle.decider.specs.DecideLaws.{own_tries, easily_chosen}
 use Rattle.decider.proofs.choose.Goals as goal
 

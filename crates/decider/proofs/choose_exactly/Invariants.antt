@@ -1,8 +1,7 @@
 -- The loop keeps that the choice among the lengths left, with whether one was tried, is the choice among all.
-use Rattle.std.proofs.Common.{◌-◌, ◌∙◌, arith, rules}
+use Rattle.std.proofs.Common.{◌-◌}
 use Rattle.model.specs.Answers.{instance_of}
-use Rattle.planner.specs.TriedLaws.{searchable}
-use Rattle.decider.specs.ChoiceLaws.{Deciding, deciding_start, none_with, one_with, passed}
+use Rattle.decider.specs.ChoiceLaws.{Deciding}
 use Rattle.decider.proofs.choose_exactly.Given as goal
 
 abbrev pub invariant-loop-rows : goal.invariant-loop-rows

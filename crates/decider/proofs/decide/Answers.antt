@@ -1,5 +1,4 @@
 -- The request is read, a plan is chosen, and it is written; each way out is one of the definition's cases.
-use Rattle.std.proofs.Common.{rules}
 use Rattle.model.specs.WithinLaws.{read_within, read_refused}
 use Rattle.planner.specs.PlanLaws.{choice_refused, choice_written}
 use Rattle.decider.specs.DecideLaws.{not_within, refusal_decided}

@@ -1,5 +1,5 @@
 -- What is given is the problem of the length, so what the search finds is what the definition's walk finds.
-use Rattle.std.proofs.Common.{ap, ◌∙◌, [], rules}
+use Rattle.std.proofs.Common.{ap, ◌∙◌, []}
 use Rattle.search.specs.Placing.{Problem, plan_walk}
 use Rattle.exact_searcher.specs.Arrays.{found_answer}
 use Rattle.decider.proofs.plan_with.Goals as goal

@@ -25,7 +25,8 @@ returns-then-state c =
     let state = c.args.state in
     c.frame_of-then-state.ensures
     ∙ rw c.move_on-after.ensures
-    (first_frame _ state _ (there (goal.at.returns-then-state c).Else-row-ne0) _ c.row_and_sizes-read.ensures.0 _ c.if-state.true c.without_carried-kept.ensures)
+    (first_frame _ state _ (there (goal.at.returns-then-state c).Else-row-ne0) _ c.row_and_sizes-read.ensures.0 _ c.if-state.true
+    c.without_carried-kept.ensures)
 
 pub returns : goal.returns
 returns c =

@@ -7,7 +7,8 @@ use Rattle.draft.proofs.row_loads.Given as goal
 
 abbrev pub invariant-loop-y : goal.invariant-loop-y
 invariant-loop-y l =
-    (l.y ≤ l.count) × (l.count ≤ 128) × (0 < l.rows) × RowsFit l.rows (firsts l.count 0 l.cost) (firsts l.count 0 l.frames) × Added l.rows l.cost l.frames l.count l.y l.loads
+    (l.y ≤ l.count) × (l.count ≤ 128) × (0 < l.rows) × RowsFit l.rows (firsts l.count 0 l.cost) (firsts l.count 0 l.frames)
+    × Added l.rows l.cost l.frames l.count l.y l.loads
 
 abbrev pub decreases-loop-y : goal.decreases-loop-y
 decreases-loop-y l = l.count - l.y

@@ -1,7 +1,6 @@
 -- Each way is one case of the carry bit; there is no cycle before the first.
-use Rattle.std.proofs.Common.{arith, ◌≡◌, sym, ◌∙◌, true, false, rules}
+use Rattle.std.proofs.Common.{arith, ◌≡◌, sym, ◌∙◌, true, false}
 use Rattle.table.specs.Table.{carried_in}
-use borrow.Author.Tests.{not-true, not-false}
 use Rattle.fly_listing.proofs.job_cycle.Goals as goal
 use Rattle.fly_listing.proofs.job_cycle.Goals.{Else-not-is_carried}
 

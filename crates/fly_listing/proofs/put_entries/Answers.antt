@@ -1,9 +1,6 @@
 -- The loop keeps that putting the entries of the places left, behind those put, gives the answer.
-use Rattle.std.proofs.Common.{rules, ◌≤◌, ◌-◌, ◌≡◌, refl, sym, ◌∙◌, arith, length}
+use Rattle.std.proofs.Common.{refl, sym, ◌∙◌, arith}
 use native.Mathlib.Nat.{sub-zero}
-use Rattle.table.specs.AnswerLaws.{entries_at}
-use Rattle.text.specs.Text.{filled_to, put_all_of}
-use Rattle.plan_listing.specs.Listing.{each}
 use Rattle.plan_listing.specs.ListingLaws.{entries_turn, entries_end}
 use Rattle.fly_listing.specs.Flown.{served_text}
 use Rattle.fly_listing.proofs.put_entries.Goals as goal

@@ -1,5 +1,5 @@
 -- The parts of the line, in their order. m is at most 767, so m·f does not wrap.
-use Rattle.std.proofs.Common.{◌*◌, ◌≤◌, mul-le-mul_right, arith, rules}
+use Rattle.std.proofs.Common.{◌*◌, ◌≤◌, mul-le-mul_right, arith}
 use Rattle.text.specs.TextLaws.{put_none, put_more, put_append}
 use Rattle.fly_listing.specs.Flown.{frame_line}
 use Rattle.fly_listing.proofs.put_frame.Goals as goal

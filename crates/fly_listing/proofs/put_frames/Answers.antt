@@ -1,21 +1,26 @@
 -- The loop keeps that putting the lines of the frames left, behind those put, gives the answer, and that the state is the one after the frames served.
-use Rattle.std.proofs.Common.{rules, ◌*◌, ◌-◌, ◌≤◌, ◌<◌, ◌≡◌, refl, sym, ap, ◌∙◌, arith, length}
+use Rattle.std.proofs.Common.{◌*◌, ◌<◌, refl, sym, ap, ◌∙◌, arith}
 use native.Mathlib.Nat.{sub-zero}
 use Rattle.table.specs.Table.{decode}
 use Rattle.dispatcher.specs.FrameLaws.{fresh_at}
 use Rattle.flight.specs.Calls.{height}
-use Rattle.text.specs.Text.{filled_to, put_all_of}
 use Rattle.plan_listing.specs.Answers.{table_in}
 use Rattle.plan_listing.specs.ListingLaws.{sizes_read}
-use Rattle.fly_listing.specs.FlownLaws.{frame_lines, state_after, frames_turn, frames_end, frame_read}
+use Rattle.fly_listing.specs.FlownLaws.{frames_turn, frames_end, frame_read}
 use Rattle.fly_listing.proofs.put_frames.Goals as goal
 
 pub loop-m-init : goal.loop-m-init
 loop-m-init c =
     let sizes = c.sizes-sizes in
     let s = c.args in
-    let z = sizes_read s.table.now sizes.result sizes.ensures in
-    (omega arith, ap (λ n. 3 * n) z.height_is, refl, λ some. c.fresh-state.ensures ∙ fresh_at (height (table_in (decode s.table.now))) some, rw (sub-zero _) refl)
+    let z = sizes_read s.table.now sizes.result sizes.ensures in (
+      omega arith,
+      ap (λ n. 3 * n) z.height_is,
+      refl,
+      λ some. c.fresh-state.ensures ∙ fresh_at (height (table_in (decode s.table.now))) some,
+      rw
+          (sub-zero _) refl,
+    )
 
 pub put_frame-end-requires : goal.put_frame-end-requires
 put_frame-end-requires c =

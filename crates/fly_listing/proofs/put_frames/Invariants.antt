@@ -1,13 +1,10 @@
 -- The loop keeps that putting the lines of the frames left, behind those put, gives the answer, and that the state is the one after the frames served.
-use Rattle.std.proofs.Common.{rules, ◌*◌, ◌-◌, ◌≤◌, ◌<◌, ◌≡◌, refl, sym, ap, ◌∙◌, arith, length}
-use native.Mathlib.Nat.{sub-zero}
+use Rattle.std.proofs.Common.{◌*◌, ◌-◌, ◌≤◌, ◌<◌, ◌≡◌, length}
 use Rattle.table.specs.Table.{decode}
-use Rattle.dispatcher.specs.FrameLaws.{fresh_at}
 use Rattle.flight.specs.Calls.{height}
 use Rattle.text.specs.Text.{filled_to, put_all_of}
 use Rattle.plan_listing.specs.Answers.{table_in}
-use Rattle.plan_listing.specs.ListingLaws.{sizes_read}
-use Rattle.fly_listing.specs.FlownLaws.{frame_lines, state_after, frames_turn, frames_end, frame_read}
+use Rattle.fly_listing.specs.FlownLaws.{frame_lines, state_after}
 use Rattle.fly_listing.proofs.put_frames.Given as goal
 
 abbrev pub invariant-loop-m : goal.invariant-loop-m

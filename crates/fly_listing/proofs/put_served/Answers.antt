@@ -1,5 +1,4 @@
 -- The name, the mark and the cycle.
-use Rattle.std.proofs.Common.{rules}
 use Rattle.table.specs.Table.{entry_of}
 use Rattle.text.specs.TextLaws.{put_none, put_more, put_append}
 use Rattle.fly_listing.specs.Flown.{job_cycle, served_text}

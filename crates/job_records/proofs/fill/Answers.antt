@@ -1,9 +1,8 @@
 -- The answer of `known` is what filling goes by: few enough jobs for its arrays and for the records that are lent; each turn fills the next place.
-use Rattle.std.proofs.Common.{◌≡◌, ◌≤◌, length, List, arith, length-set, set, ◌∙◌, ap}
-use Rattle.job_records.specs.Timeline.{Timeline, filling, records_in}
-use Rattle.job_records.specs.KnownLaws.{KnownFor, known_for}
+use Rattle.std.proofs.Common.{length, arith, length-set, ◌∙◌}
+use Rattle.job_records.specs.Timeline.{filling}
+use Rattle.job_records.specs.KnownLaws.{known_for}
 use Rattle.job_records.specs.FillLaws.{filling_few, fill_more, fill_end, fill_answer}
-use Rattle.job_records.specs.declared.JobRecord.{JobRecord}
 use Rattle.job_records.proofs.fill.Goals as goal
 
 pub record_at-requires : goal.record_at-requires
@@ -24,8 +23,7 @@ loop-i-preserved c =
     let l = c.loop-i in
     let tl = filling a.request.now a.table.now (length a.records.now) in
     let k = known_for a.request.now a.table.now (length a.records.now) c.known-known.result c.known-known.ensures in
-    let few = filling_few a.request.now a.table.now (length a.records.now) in
-    (
+    let few = filling_few a.request.now a.table.now (length a.records.now) in (
       omega arith,
       length-set l.records l.i c.record_at.result ∙ l.invariant.1,
       rw (l.invariant.2, c.record_at.ensures) (fill_more tl a.records.now c.known-known.result k l.i few c.loop-i-test.true),

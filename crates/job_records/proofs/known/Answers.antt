@@ -1,5 +1,5 @@
 -- The check reads the plan; each way out is one of the laws of `known`.
-use Rattle.std.proofs.Common.{◌∙◌, rules}
+use Rattle.std.proofs.Common.{◌∙◌}
 use Rattle.job_records.specs.KnownLaws.{not_known, too_few, all_known}
 use Rattle.job_records.proofs.known.Goals as goal
 

@@ -32,7 +32,8 @@ overflow_add-m c = omega (arith, (few (goal.at.overflow_add-m c).Else-y-ne0).1)
 
 pub returns-then-misfit-ne0 : goal.returns-then-misfit-ne0
 returns-then-misfit-ne0 c =
-    not_joined _ _ _ _ (first_read (goal.at.returns-then-misfit-ne0 c).Else-x-ne0) _ (second-read (goal.at.returns-then-misfit-ne0 c).Else-y-ne0) _ c.number_of_misfit-misfit.ensures c.if-misfit-ne0.true
+    not_joined _ _ _ _ (first_read (goal.at.returns-then-misfit-ne0 c).Else-x-ne0) _ (second-read (goal.at.returns-then-misfit-ne0 c).Else-y-ne0) _
+    c.number_of_misfit-misfit.ensures c.if-misfit-ne0.true
 
 pub join_tasks-tasks-requires : goal.join_tasks-tasks-requires
 join_tasks-tasks-requires c =
@@ -51,6 +52,7 @@ join_pairs-pairs-requires c =
 
 pub returns : goal.returns
 returns c =
-    let done = was_joined _ _ _ _ (first_read (goal.at.returns c).Else-x-ne0) _ (second-read (goal.at.returns c).Else-y-ne0) _ c.number_of_misfit-misfit.ensures c.if-misfit-ne0.false _ _
+    let done = was_joined _ _ _ _ (first_read (goal.at.returns c).Else-x-ne0) _ (second-read (goal.at.returns c).Else-y-ne0) _
+    c.number_of_misfit-misfit.ensures c.if-misfit-ne0.false _ _
     c.join_tasks-tasks.ensures c.join_pairs-pairs.ensures in
     (c.write.ensures.0 ∙ done.0, c.write.ensures.1 ∙ done.1)

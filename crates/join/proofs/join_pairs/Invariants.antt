@@ -8,7 +8,8 @@ use Rattle.join.proofs.join_pairs.Given as goal
 
 abbrev pub invariant-loop-i : goal.invariant-loop-i
 invariant-loop-i l =
-    (l.i ≤ l.k) × (l.m + l.k ≤ 16) × (l.n ≤ 16) × Few l.second × (l.pairs ≡ padded 16 no_pair (firsts l.m no_pair l.initial.pairs ++ map (raised_by l.n) (firsts l.i no_pair l.second)))
+    (l.i ≤ l.k) × (l.m + l.k ≤ 16) × (l.n ≤ 16) × Few l.second
+    × (l.pairs ≡ padded 16 no_pair (firsts l.m no_pair l.initial.pairs ++ map (raised_by l.n) (firsts l.i no_pair l.second)))
 
 abbrev pub decreases-loop-i : goal.decreases-loop-i
 decreases-loop-i l = l.k - l.i

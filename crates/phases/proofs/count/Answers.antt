@@ -1,7 +1,6 @@
 -- The loop keeps that the counts are those of the phases below p.
-use Rattle.std.proofs.Common.{rules, ◌≤◌, ◌<◌, ◌-◌, ◌≡◌, ◌∙◌, arith}
-use Rattle.phases.specs.Phases.{phase_counts}
-use Rattle.phases.specs.Counting.{Countable, period_in, phase_number}
+use Rattle.std.proofs.Common.{◌<◌, ◌≡◌, ◌∙◌, arith}
+use Rattle.phases.specs.Counting.{period_in}
 use Rattle.phases.specs.HowMany.{none_counted, one_counted, counts_room}
 use Rattle.phases.specs.Ways.{task_few}
 use Rattle.phases.proofs.count.Goals as goal

@@ -1,9 +1,7 @@
 -- The loop keeps that the counts are those of the phases below p.
-use Rattle.std.proofs.Common.{rules, ◌≤◌, ◌<◌, ◌-◌, ◌≡◌, ◌∙◌, arith}
+use Rattle.std.proofs.Common.{◌≤◌, ◌-◌, ◌≡◌}
 use Rattle.phases.specs.Phases.{phase_counts}
-use Rattle.phases.specs.Counting.{Countable, period_in, phase_number}
-use Rattle.phases.specs.HowMany.{none_counted, one_counted, counts_room}
-use Rattle.phases.specs.Ways.{task_few}
+use Rattle.phases.specs.Counting.{Countable, phase_number}
 use Rattle.phases.proofs.count.Given as goal
 
 abbrev pub invariant-loop-p : goal.invariant-loop-p

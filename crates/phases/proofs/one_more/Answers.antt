@@ -1,5 +1,4 @@
 -- Each way raises the count of its number, and the last one none.
-use Rattle.std.proofs.Common.{rules}
 use Rattle.phases.specs.Ways.{more_tables, more_nines, more_tens, more_ended, no_more}
 use Rattle.phases.proofs.one_more.Goals as goal
 

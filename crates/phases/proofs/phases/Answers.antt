@@ -1,5 +1,5 @@
 -- The request is read and its cycle is asked for; each way out is one of the definition's cases.
-use Rattle.std.proofs.Common.{rules, ◌≡◌, ◌∙◌}
+use Rattle.std.proofs.Common.{◌≡◌, ◌∙◌}
 use Rattle.cycle.specs.ReadLaws.{bytes_as_read}
 use Rattle.phases.specs.Ways.{own_number, unknown_task, countable, all_counted}
 use Rattle.phases.proofs.phases.Goals as goal

@@ -1,5 +1,4 @@
 -- The parts of the line, in their order, from the front of the buffer.
-use Rattle.std.proofs.Common.{rules}
 use Rattle.text.specs.TextLaws.{put_none, put_more, put_append, put_front}
 use Rattle.plan_listing.specs.Listing.{refused_line}
 use Rattle.plan_listing.proofs.refused.Goals as goal

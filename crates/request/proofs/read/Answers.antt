@@ -27,7 +27,8 @@ read_pairs-second-requires c = let h = first (goal.at.read_pairs-second-requires
 
 pub returns-then-second-ne0 : goal.returns-then-second-ne0
 returns-then-second-ne0 c =
-    c.refused-then-second-ne0.ensures ∙ refused_second _ _ (first (goal.at.returns-then-second-ne0 c).Else-first-ne0) _ (rw rest_part at c.read_pairs-second.ensures) c.if-second-ne0.true
+    c.refused-then-second-ne0.ensures ∙ refused_second _ _ (first (goal.at.returns-then-second-ne0 c).Else-first-ne0) _
+    (rw rest_part at c.read_pairs-second.ensures) c.if-second-ne0.true
 
 pub overflow_add-behind : goal.overflow_add-behind
 overflow_add-behind c =
@@ -41,7 +42,8 @@ slice_bounds-read_silent-start c = (second (goal.at.slice_bounds-read_silent-sta
 
 pub returns-then-third-ne0 : goal.returns-then-third-ne0
 returns-then-third-ne0 c =
-    c.refused-then-third-ne0.ensures ∙ refused_third _ _ _ (second (goal.at.returns-then-third-ne0 c).Else-second-ne0) _ (rw rest_part at c.read_silent-third.ensures) c.if-third-ne0.true
+    c.refused-then-third-ne0.ensures ∙ refused_third _ _ _ (second (goal.at.returns-then-third-ne0 c).Else-second-ne0) _
+    (rw rest_part at c.read_silent-third.ensures) c.if-third-ne0.true
 
 pub overflow_sub-s : goal.overflow_sub-s
 overflow_sub-s c = (second (goal.at.overflow_sub-s c).Else-second-ne0).within
@@ -49,7 +51,8 @@ overflow_sub-s c = (second (goal.at.overflow_sub-s c).Else-second-ne0).within
 pub returns-then-third-s : goal.returns-then-third-s
 returns-then-third-s c =
     c.refused-then-third-s.ensures
-    ∙ bytes_follow _ _ _ (second (goal.at.returns-then-third-s c).Else-second-ne0) _ (rw rest_part at c.read_silent-third.ensures) c.if-third-ne0.false c.if-third-s.true
+    ∙ bytes_follow _ _ _ (second (goal.at.returns-then-third-s c).Else-second-ne0) _ (rw rest_part at c.read_silent-third.ensures)
+    c.if-third-ne0.false c.if-third-s.true
 
 pub returns : goal.returns
 returns c =

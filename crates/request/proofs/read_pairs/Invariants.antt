@@ -7,7 +7,8 @@ use Rattle.request.proofs.read_pairs.Given as goal
 
 abbrev pub invariant-loop-i : goal.invariant-loop-i
 invariant-loop-i l =
-    (l.i ≤ l.m) × (l.m ≤ 16) × (l.here.at ≡ 1 + 2 * l.i) × SoFar (pair_of (take l.n l.tasks)) 16 no_pair (pairs_of (take l.n l.tasks) l.s) l.s l.m l.i l.here.at l.pairs
+    (l.i ≤ l.m) × (l.m ≤ 16) × (l.here.at ≡ 1 + 2 * l.i)
+    × SoFar (pair_of (take l.n l.tasks)) 16 no_pair (pairs_of (take l.n l.tasks) l.s) l.s l.m l.i l.here.at l.pairs
 
 abbrev pub decreases-loop-i : goal.decreases-loop-i
 decreases-loop-i l = l.m - l.i

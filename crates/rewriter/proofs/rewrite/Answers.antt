@@ -1,5 +1,5 @@
 -- The check reads the plan, and the plan is written; each way out is one of the definition's cases.
-use Rattle.std.proofs.Common.{◌∙◌, rules}
+use Rattle.std.proofs.Common.{◌∙◌}
 use Rattle.rewriter.specs.RewriteLaws.{not_read, cycle_read, was_read}
 use Rattle.rewriter.proofs.rewrite.Goals as goal
 

@@ -1,10 +1,8 @@
 -- The loop keeps that the ticks of the places left, added to the sum, are those of all places. Each place adds at most 65,535: no sum wraps.
-use Rattle.std.proofs.Common.{rules, ◌+◌, ◌*◌, ◌-◌, ◌≤◌, ◌≡◌, ap, zero-add, arith, get_or}
+use Rattle.std.proofs.Common.{ap, zero-add, arith, get_or}
 use native.Mathlib.Nat.{sub-zero}
 use Rattle.request.specs.Request.{no_task}
 use Rattle.plan_listing.specs.ListingLaws.{ticks_are}
-use Rattle.job_records.specs.Timeline.{busy_of}
-use Rattle.job_records.specs.Known.{records_from}
 use Rattle.job_records.specs.declared.JobRecord.{JobRecord}
 use Rattle.timeline_listing.specs.PutLaws.{busy_turn, busy_end}
 use Rattle.timeline_listing.proofs.busy.Goals as goal
@@ -21,7 +19,14 @@ loop-y-preserved c =
       omega arith,
       l.invariant.1,
       omega (arith, c.cost.type_inv, l.invariant.2),
-      omega (arith, c.cost.ensures, ticks_are s.tasks c.record_at-job.result.task c.requires.1, is, busy_turn s.known s.known.count l.y s.tasks more, l.invariant.3),
+      omega (
+        arith,
+        c.cost.ensures,
+        ticks_are s.tasks c.record_at-job.result.task c.requires.1,
+        is,
+        busy_turn s.known s.known.count l.y s.tasks more,
+        l.invariant.3,
+      ),
     )
 
 pub returns : goal.returns

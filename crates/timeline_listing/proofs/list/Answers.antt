@@ -1,5 +1,5 @@
 -- The planner's answer in a buffer of 519 bytes is a refusal, or the table that was handed out; each is one way of the definition.
-use Rattle.std.proofs.Common.{◌≤◌, sym, arith, length, length-take-le, rules}
+use Rattle.std.proofs.Common.{◌≤◌, sym, arith, length, length-take-le}
 use Rattle.text.specs.TextLaws.{put_front}
 use Rattle.plan_listing.specs.HandedLaws.{refused_is, table_is, written_few}
 use Rattle.timeline_listing.specs.PrintedLaws.{timeline_refused, timeline_handed}

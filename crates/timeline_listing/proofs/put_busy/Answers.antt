@@ -1,5 +1,4 @@
 -- The parts of the line, in their order.
-use Rattle.std.proofs.Common.{rules}
 use Rattle.text.specs.TextLaws.{put_none, put_more, put_append}
 use Rattle.timeline_listing.specs.Printed.{busy_line}
 use Rattle.timeline_listing.proofs.put_busy.Goals as goal

@@ -1,5 +1,4 @@
 -- The number and the space.
-use Rattle.std.proofs.Common.{rules}
 use Rattle.text.specs.TextLaws.{put_none, put_more, put_append}
 use Rattle.timeline_listing.proofs.put_field.Goals as goal
 

@@ -1,5 +1,4 @@
 -- The fields of the line, in their order.
-use Rattle.std.proofs.Common.{rules}
 use Rattle.text.specs.TextLaws.{put_none, put_more, put_append}
 use Rattle.timeline_listing.specs.Printed.{record_line}
 use Rattle.timeline_listing.proofs.put_record.Goals as goal

@@ -1,9 +1,6 @@
 -- The loop keeps that putting the lines of the places left, behind those put, gives the answer.
-use Rattle.std.proofs.Common.{rules, ◌≤◌, ◌-◌, ◌≡◌, refl, sym, ◌∙◌, arith, length}
+use Rattle.std.proofs.Common.{refl, sym, ◌∙◌, arith}
 use native.Mathlib.Nat.{sub-zero}
-use Rattle.text.specs.Text.{filled_to, put_all_of}
-use Rattle.job_records.specs.Known.{records_from}
-use Rattle.timeline_listing.specs.Printed.{record_lines}
 use Rattle.timeline_listing.specs.PutLaws.{lines_turn, lines_end}
 use Rattle.timeline_listing.proofs.put_records.Goals as goal
 

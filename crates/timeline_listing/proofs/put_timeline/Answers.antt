@@ -1,5 +1,5 @@
 -- The lines of the records and then that of the busy ticks: what `known` gives are the records of the definition, what is read are its tasks.
-use Rattle.std.proofs.Common.{sym, ap, ◌∙◌, rules}
+use Rattle.std.proofs.Common.{sym, ap, ◌∙◌}
 use Rattle.text.specs.Text.{filled_to, put_all_of}
 use Rattle.text.specs.TextLaws.{put_append}
 use Rattle.plan_listing.specs.ListingLaws.{tasks_size}

@@ -1,5 +1,5 @@
 -- All 64 bytes are cleared, and the fresh state is written over the first five.
-use Rattle.std.proofs.Common.{◌∙◌, rules}
+use Rattle.std.proofs.Common.{◌∙◌}
 use Rattle.bus.specs.ReplyLaws.{kept}
 use Rattle.bus.specs.DispatchLaws.{fresh_refused, fresh_made}
 use Rattle.bus.proofs.dispatch.bus_fresh.Goals as goal

@@ -1,6 +1,5 @@
 -- The state is read, the dispatcher answers, and only an answer without a refusal is written: the entries first, then the state.
-use Rattle.std.proofs.Common.{◌≡◌, sym, ◌∙◌, true, arith, rules}
-use borrow.Author.Tests.{not-true, not-false}
+use Rattle.std.proofs.Common.{◌≡◌, sym, ◌∙◌, true, arith}
 use Rattle.dispatcher.specs.FrameLaws.{frame_few}
 use Rattle.lent.specs.State.{is_state}
 use Rattle.lent.specs.StateLaws.{state_long}
@@ -37,7 +36,8 @@ read_state-old-requires c = state_long _ (a_state (goal.at.read_state-old-requir
 pub returns-then-frame-ne0 : goal.returns-then-frame-ne0
 returns-then-frame-ne0 c =
     let a = c.args in
-    let law = frame_refused a.table.now _ a.entries.now (a_state (goal.at.returns-then-frame-ne0 c).Else-not-is_state) c.if-entries-lt32.false _ (frame_is (goal.at.returns-then-frame-ne0 c).After-next_frame-frame) c.if-frame-ne0.true in
+    let law = frame_refused a.table.now _ a.entries.now (a_state (goal.at.returns-then-frame-ne0 c).Else-not-is_state) c.if-entries-lt32.false _
+    (frame_is (goal.at.returns-then-frame-ne0 c).After-next_frame-frame) c.if-frame-ne0.true in
     (kept _ c.refusal-then-frame-ne0.type_inv ∙ c.refusal-then-frame-ne0.ensures ∙ law.0, law.1, law.2)
 
 pub write_state-requires : goal.write_state-requires
@@ -51,7 +51,8 @@ pub returns : goal.returns
 returns c =
     let a = c.args in
     let no_refusal = c.if-frame-ne0.false in
-    let law = frame_made a.table.now _ a.entries.now (a_state (goal.at.returns c).Else-not-is_state) c.if-entries-lt32.false _ (frame_is (goal.at.returns c).After-next_frame-frame) no_refusal in (
+    let law = frame_made a.table.now _ a.entries.now (a_state (goal.at.returns c).Else-not-is_state) c.if-entries-lt32.false _
+    (frame_is (goal.at.returns c).After-next_frame-frame) no_refusal in (
       kept _ c.value.type_inv ∙ c.value.ensures ∙ law.0,
       c.write_state.ensures ∙ law.1,
       c.write_pairs.ensures ∙ law.2,

@@ -1,6 +1,5 @@
 -- The state is read, the dispatcher answers, and only an answer without a refusal is written.
-use Rattle.std.proofs.Common.{◌≡◌, sym, ◌∙◌, true, rules}
-use borrow.Author.Tests.{not-true, not-false}
+use Rattle.std.proofs.Common.{◌≡◌, sym, ◌∙◌, true}
 use Rattle.lent.specs.State.{is_state}
 use Rattle.lent.specs.StateLaws.{state_long}
 use Rattle.bus.specs.ReplyLaws.{kept}
@@ -30,7 +29,8 @@ read_state-old-requires c = state_long _ (a_state c)
 pub returns-then-reported-ne0 : goal.returns-then-reported-ne0
 returns-then-reported-ne0 c =
     let a = c.args in
-    let law = report_refused_lem a.request.now a.task a.ticks _ (a_state (goal.at.returns-then-reported-ne0 c).Else-not-is_state) _ (report_is (goal.at.returns-then-reported-ne0 c).After-report-reported) c.if-reported-ne0.true in
+    let law = report_refused_lem a.request.now a.task a.ticks _ (a_state (goal.at.returns-then-reported-ne0 c).Else-not-is_state) _
+    (report_is (goal.at.returns-then-reported-ne0 c).After-report-reported) c.if-reported-ne0.true in
     (kept _ c.refusal-then-reported-ne0.type_inv ∙ c.refusal-then-reported-ne0.ensures ∙ law.0, law.1)
 
 pub write_state-requires : goal.write_state-requires
@@ -39,5 +39,6 @@ write_state-requires c = state_long _ (a_state (goal.at.write_state-requires c).
 pub returns : goal.returns
 returns c =
     let a = c.args in
-    let law = report_made a.request.now a.task a.ticks _ (a_state (goal.at.returns c).Else-not-is_state) _ (report_is (goal.at.returns c).After-report-reported) c.if-reported-ne0.false in
+    let law = report_made a.request.now a.task a.ticks _ (a_state (goal.at.returns c).Else-not-is_state) _
+    (report_is (goal.at.returns c).After-report-reported) c.if-reported-ne0.false in
     (law.0, c.write_state.ensures ∙ law.1)

@@ -1,5 +1,5 @@
 -- The lent draft is read, and the draft after the lift is handed back.
-use Rattle.std.proofs.Common.{◌∙◌, rules}
+use Rattle.std.proofs.Common.{◌∙◌}
 use Rattle.draft.specs.Draft.{lift}
 use Rattle.lent.specs.DraftBytes.{draft_in}
 use Rattle.bus.specs.Drafts.{lift_reply, lift_bytes}

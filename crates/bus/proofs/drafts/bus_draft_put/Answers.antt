@@ -1,5 +1,5 @@
 -- The lent draft is read, and the draft after the put is handed back.
-use Rattle.std.proofs.Common.{◌∙◌, rules}
+use Rattle.std.proofs.Common.{◌∙◌}
 use Rattle.draft.specs.Draft.{put}
 use Rattle.lent.specs.DraftBytes.{draft_in}
 use Rattle.bus.specs.Drafts.{put_reply, put_bytes}

@@ -1,5 +1,5 @@
 -- The draft of the table is handed back; a buffer that is too short comes first.
-use Rattle.std.proofs.Common.{◌∙◌, rules}
+use Rattle.std.proofs.Common.{◌∙◌}
 use Rattle.draft.specs.Draft.{start}
 use Rattle.bus.specs.Drafts.{start_reply, start_bytes}
 use Rattle.bus.specs.ReplyLaws.{kept}

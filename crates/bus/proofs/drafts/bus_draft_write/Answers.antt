@@ -1,6 +1,5 @@
 -- The lent draft is read and written as a table; a refusal is negated and a length is small.
-use Rattle.std.proofs.Common.{◌∙◌, rules}
-use Rattle.draft.specs.Draft.{write}
+use Rattle.std.proofs.Common.{◌∙◌}
 use Rattle.bus.specs.ReplyLaws.{kept}
 use Rattle.bus.specs.DraftLaws.{write_short, write_refused, write_made, write_buffer_lem, write_few}
 use Rattle.bus.proofs.drafts.bus_draft_write.Goals as goal

@@ -1,5 +1,5 @@
 -- A refusal writes nothing; otherwise the draft is written.
-use Rattle.std.proofs.Common.{◌∙◌, rules}
+use Rattle.std.proofs.Common.{◌∙◌}
 use Rattle.bus.specs.ReplyLaws.{kept}
 use Rattle.bus.specs.DraftLaws.{draft_refused, draft_made}
 use Rattle.bus.proofs.drafts.hand_back.Goals as goal

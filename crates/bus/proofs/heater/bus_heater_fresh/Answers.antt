@@ -1,5 +1,5 @@
 -- All 72 bytes are cleared, and the fresh link is written over them.
-use Rattle.std.proofs.Common.{◌∙◌, rules}
+use Rattle.std.proofs.Common.{◌∙◌}
 use Rattle.bus.specs.ReplyLaws.{kept}
 use Rattle.bus.specs.HeaterLaws.{heater_fresh_refused, heater_fresh_made}
 use Rattle.bus.proofs.heater.bus_heater_fresh.Goals as goal

@@ -1,6 +1,5 @@
 -- The link is read, one frame is served, and only an answer without a refusal is written: the entries first, then the heater.
-use Rattle.std.proofs.Common.{◌≡◌, sym, ◌∙◌, true, arith, rules}
-use borrow.Author.Tests.{not-true, not-false}
+use Rattle.std.proofs.Common.{◌≡◌, sym, ◌∙◌, true, arith}
 use Rattle.heater_link.specs.StepLaws.{few_entries}
 use Rattle.lent.specs.HeaterBytes.{is_heater}
 use Rattle.lent.specs.HeaterByteLaws.{heater_long}
@@ -30,7 +29,8 @@ returns-then-not-is_heater c =
 pub returns-then-entries-lt32 : goal.returns-then-entries-lt32
 returns-then-entries-lt32 c =
     let a = c.args in
-    let law = heater_no_room a.request.now a.table.now a.a a.b a.lost _ a.entries.now (a-heater (goal.at.returns-then-entries-lt32 c).Else-not-is_heater) c.if-entries-lt32.true in
+    let law = heater_no_room a.request.now a.table.now a.a a.b a.lost _ a.entries.now
+    (a-heater (goal.at.returns-then-entries-lt32 c).Else-not-is_heater) c.if-entries-lt32.true in
     (kept _ c.refusal-then-entries-lt32.type_inv ∙ c.refusal-then-entries-lt32.ensures ∙ law.0, law.1, law.2)
 
 pub read_link-old-requires : goal.read_link-old-requires
@@ -39,7 +39,9 @@ read_link-old-requires c = heater_long _ (a-heater (goal.at.read_link-old-requir
 pub returns-then-served-ne0 : goal.returns-then-served-ne0
 returns-then-served-ne0 c =
     let a = c.args in
-    let law = exchange_refused a.request.now a.table.now a.a a.b a.lost _ a.entries.now (a-heater (goal.at.returns-then-served-ne0 c).Else-not-is_heater) c.if-entries-lt32.false _ (answer_is (goal.at.returns-then-served-ne0 c).After-serve-served)
+    let law = exchange_refused a.request.now a.table.now a.a a.b a.lost _ a.entries.now
+    (a-heater (goal.at.returns-then-served-ne0 c).Else-not-is_heater) c.if-entries-lt32.false _
+    (answer_is (goal.at.returns-then-served-ne0 c).After-serve-served)
     c.if-served-ne0.true in
     (kept _ c.refusal-then-served-ne0.type_inv ∙ c.refusal-then-served-ne0.ensures ∙ law.0, law.1, law.2)
 
@@ -56,7 +58,8 @@ value-requires c =
 pub returns : goal.returns
 returns c =
     let a = c.args in
-    let law = exchange_made a.request.now a.table.now a.a a.b a.lost _ a.entries.now (a-heater (goal.at.returns c).Else-not-is_heater) c.if-entries-lt32.false _ (answer_is (goal.at.returns c).After-serve-served)
+    let law = exchange_made a.request.now a.table.now a.a a.b a.lost _ a.entries.now (a-heater (goal.at.returns c).Else-not-is_heater)
+    c.if-entries-lt32.false _ (answer_is (goal.at.returns c).After-serve-served)
     c.if-served-ne0.false in (
       kept _ c.value.type_inv ∙ c.value.ensures ∙ law.0,
       c.write_heater.ensures ∙ law.1,

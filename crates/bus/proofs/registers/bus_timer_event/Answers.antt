@@ -1,6 +1,5 @@
 -- The timer is read, the event happens, and the timer is written.
-use Rattle.std.proofs.Common.{◌≡◌, sym, ◌∙◌, true, rules}
-use borrow.Author.Tests.{not-true, not-false}
+use Rattle.std.proofs.Common.{◌≡◌, sym, ◌∙◌, true}
 use Rattle.lent.specs.TimerBytes.{is_timer}
 use Rattle.lent.specs.TimerByteLaws.{timer_long}
 use Rattle.bus.specs.ReplyLaws.{kept}

@@ -1,5 +1,5 @@
 -- All 72 bytes are cleared, and the fresh timer is written over them.
-use Rattle.std.proofs.Common.{◌∙◌, rules}
+use Rattle.std.proofs.Common.{◌∙◌}
 use Rattle.bus.specs.ReplyLaws.{kept}
 use Rattle.bus.specs.TimerLaws.{timer_fresh_refused, timer_fresh_made}
 use Rattle.bus.proofs.registers.bus_timer_fresh.Goals as goal

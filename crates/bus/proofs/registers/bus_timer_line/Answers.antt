@@ -1,6 +1,5 @@
 -- The timer is read, and its line is told.
-use Rattle.std.proofs.Common.{◌≡◌, sym, ◌∙◌, true, rules}
-use borrow.Author.Tests.{not-true, not-false}
+use Rattle.std.proofs.Common.{◌≡◌, sym, ◌∙◌, true}
 use Rattle.timer.specs.Registers.{line_on}
 use Rattle.lent.specs.TimerBytes.{is_timer, timer_of}
 use Rattle.lent.specs.TimerByteLaws.{timer_long}
@@ -26,7 +25,8 @@ pub read_timer-old-requires : goal.read_timer-old-requires
 read_timer-old-requires c = timer_long _ (a-timer c)
 
 pub returns-then-line : goal.returns-then-line
-returns-then-line c = line_on_lem _ (a-timer (goal.at.returns-then-line c).Else-not-is_timer) (sym (line_is (goal.at.returns-then-line c).After-line) ∙ c.if-line.true)
+returns-then-line c =
+    line_on_lem _ (a-timer (goal.at.returns-then-line c).Else-not-is_timer) (sym (line_is (goal.at.returns-then-line c).After-line) ∙ c.if-line.true)
 
 pub returns : goal.returns
 returns c = line_off _ (a-timer (goal.at.returns c).Else-not-is_timer) (sym (line_is (goal.at.returns c).After-line) ∙ c.if-line.false)

@@ -1,6 +1,5 @@
 -- The timer is read, and the byte is answered.
-use Rattle.std.proofs.Common.{◌≡◌, sym, ◌∙◌, true, rules}
-use borrow.Author.Tests.{not-true, not-false}
+use Rattle.std.proofs.Common.{◌≡◌, sym, ◌∙◌, true}
 use Rattle.timer.specs.Registers.{register_read}
 use Rattle.lent.specs.TimerBytes.{is_timer, timer_of}
 use Rattle.lent.specs.TimerByteLaws.{timer_long}
@@ -28,8 +27,10 @@ read_timer-old-requires c = timer_long _ (a-timer c)
 
 pub returns-then-read-ne0 : goal.returns-then-read-ne0
 returns-then-read-ne0 c =
-    kept _ c.refusal-then-read-ne0.type_inv ∙ c.refusal-then-read-ne0.ensures ∙ timer_read_refused _ _ (a-timer (goal.at.returns-then-read-ne0 c).Else-not-is_timer) _ (byte_is (goal.at.returns-then-read-ne0 c).After-read-read) c.if-read-ne0.true
+    kept _ c.refusal-then-read-ne0.type_inv ∙ c.refusal-then-read-ne0.ensures ∙ timer_read_refused _ _
+    (a-timer (goal.at.returns-then-read-ne0 c).Else-not-is_timer) _ (byte_is (goal.at.returns-then-read-ne0 c).After-read-read) c.if-read-ne0.true
 
 pub returns : goal.returns
 returns c =
-    kept _ c.value.type_inv ∙ c.value.ensures ∙ timer_read_made _ _ (a-timer (goal.at.returns c).Else-not-is_timer) _ (byte_is (goal.at.returns c).After-read-read) c.if-read-ne0.false
+    kept _ c.value.type_inv ∙ c.value.ensures ∙ timer_read_made _ _ (a-timer (goal.at.returns c).Else-not-is_timer) _
+    (byte_is (goal.at.returns c).After-read-read) c.if-read-ne0.false

@@ -1,6 +1,5 @@
 -- The timer is read, the report is heard, and only an answer without a refusal is stored.
-use Rattle.std.proofs.Common.{◌≡◌, ℕ, List, sym, ◌∙◌, true, rules}
-use borrow.Author.Tests.{not-true, not-false}
+use Rattle.std.proofs.Common.{◌≡◌, ℕ, List, sym, ◌∙◌, true}
 use Rattle.request.specs.Request.{reading}
 use Rattle.timer.specs.Registers.{reporting}
 use Rattle.timer.specs.declared.Changed.{Changed}
@@ -36,7 +35,9 @@ read_timer-old-requires c = timer_long _ (a-timer c)
 pub returns-then-changed-ne0 : goal.returns-then-changed-ne0
 unfolding timer_report_reply timer_report_bytes
 returns-then-changed-ne0 c =
-    let law = change_refused _ (answer c.args.request.now c.args.timer.now c.args.task c.args.ticks) (a-timer (goal.at.returns-then-changed-ne0 c).Else-not-is_timer) _ (answer_is (goal.at.returns-then-changed-ne0 c).After-report-changed) c.if-changed-ne0.true in
+    let law = change_refused _ (answer c.args.request.now c.args.timer.now c.args.task c.args.ticks)
+    (a-timer (goal.at.returns-then-changed-ne0 c).Else-not-is_timer) _ (answer_is (goal.at.returns-then-changed-ne0 c).After-report-changed)
+    c.if-changed-ne0.true in
     (kept _ c.refusal-then-changed-ne0.type_inv ∙ c.refusal-then-changed-ne0.ensures ∙ law.0, law.1)
 
 pub write_timer-requires : goal.write_timer-requires
@@ -45,5 +46,6 @@ write_timer-requires c = timer_long _ (a-timer (goal.at.write_timer-requires c).
 pub returns : goal.returns
 unfolding timer_report_reply timer_report_bytes
 returns c =
-    let law = change_made _ (answer c.args.request.now c.args.timer.now c.args.task c.args.ticks) (a-timer (goal.at.returns c).Else-not-is_timer) _ (answer_is (goal.at.returns c).After-report-changed) c.if-changed-ne0.false in
+    let law = change_made _ (answer c.args.request.now c.args.timer.now c.args.task c.args.ticks) (a-timer (goal.at.returns c).Else-not-is_timer) _
+    (answer_is (goal.at.returns c).After-report-changed) c.if-changed-ne0.false in
     (law.0, c.write_timer.ensures ∙ law.1)

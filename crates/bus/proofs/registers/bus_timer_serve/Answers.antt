@@ -1,5 +1,5 @@
 -- The timer is read. With none due that is all; else the frame is served, and only an answer without a refusal is written: the entries first, then the timer.
-use Rattle.std.proofs.Common.{◌≡◌, sym, ◌∙◌, true, arith, rules}
+use Rattle.std.proofs.Common.{◌≡◌, sym, ◌∙◌, true, arith}
 use borrow.Author.Tests.{not-true, not-false}
 use Rattle.timer.specs.RegisterLaws.{serve_few}
 use Rattle.lent.specs.TimerBytes.{is_timer, timer_of}
@@ -48,7 +48,9 @@ returns-then-not-status c =
 pub returns-then-frame-ne0 : goal.returns-then-frame-ne0
 returns-then-frame-ne0 c =
     let a = c.args in
-    let law = timer_serve_refused a.table.now a.timer.now a.entries.now (a-timer (goal.at.returns-then-frame-ne0 c).Else-not-is_timer) c.if-entries-lt32.false (is-due (goal.at.returns-then-frame-ne0 c).After-serve-frame) _ (frame_is (goal.at.returns-then-frame-ne0 c).After-serve-frame)
+    let law = timer_serve_refused a.table.now a.timer.now a.entries.now (a-timer (goal.at.returns-then-frame-ne0 c).Else-not-is_timer)
+    c.if-entries-lt32.false (is-due (goal.at.returns-then-frame-ne0 c).After-serve-frame) _
+    (frame_is (goal.at.returns-then-frame-ne0 c).After-serve-frame)
     c.if-frame-ne0.true in
     (kept _ c.refusal-then-frame-ne0.type_inv ∙ c.refusal-then-frame-ne0.ensures ∙ law.0, law.1, law.2)
 
@@ -62,7 +64,8 @@ value-requires c =
 pub returns : goal.returns
 returns c =
     let a = c.args in
-    let law = timer_serve_made a.table.now a.timer.now a.entries.now (a-timer (goal.at.returns c).Else-not-is_timer) c.if-entries-lt32.false (is-due (goal.at.returns c).After-serve-frame) _ (frame_is (goal.at.returns c).After-serve-frame)
+    let law = timer_serve_made a.table.now a.timer.now a.entries.now (a-timer (goal.at.returns c).Else-not-is_timer) c.if-entries-lt32.false
+    (is-due (goal.at.returns c).After-serve-frame) _ (frame_is (goal.at.returns c).After-serve-frame)
     c.if-frame-ne0.false in (
       kept _ c.value.type_inv ∙ c.value.ensures ∙ law.0,
       c.write_timer.ensures ∙ law.1,

@@ -1,5 +1,4 @@
 -- The number is a byte, so it and its negative are numbers of 32 bits.
-use Rattle.std.proofs.Common.{rules}
 use Rattle.bus.specs.ReplyLaws.{negated_fits, negated_is}
 use Rattle.bus.proofs.reply.refusal.Goals as goal
 

@@ -1,5 +1,4 @@
 -- A length below 65,536 is a number of 32 bits.
-use Rattle.std.proofs.Common.{rules}
 use Rattle.bus.specs.ReplyLaws.{value_is}
 use Rattle.bus.proofs.reply.value.Goals as goal
 

@@ -1,5 +1,5 @@
 -- The cut request's answer, of which a refusal is negated and a length is small.
-use Rattle.std.proofs.Common.{◌∙◌, rules}
+use Rattle.std.proofs.Common.{◌∙◌}
 use Rattle.bus.specs.ReplyLaws.{kept, written_refused, written_length}
 use Rattle.bus.specs.Cut.{cut_reply, cut_buffer}
 use Rattle.bus.specs.CutLaws.{cut_few}

@@ -1,5 +1,5 @@
 -- The joined request's answer, of which a refusal is negated and a length is small.
-use Rattle.std.proofs.Common.{◌∙◌, rules}
+use Rattle.std.proofs.Common.{◌∙◌}
 use Rattle.bus.specs.ReplyLaws.{kept, written_refused, written_length}
 use Rattle.bus.specs.Join.{join_reply, join_buffer}
 use Rattle.bus.specs.JoinLaws.{join_few}

@@ -1,5 +1,5 @@
 -- 99 comes first. Then a refusal is negated and changes nothing, and else the counts are written.
-use Rattle.std.proofs.Common.{◌∙◌, rules}
+use Rattle.std.proofs.Common.{◌∙◌}
 use Rattle.bus.specs.ReplyLaws.{kept}
 use Rattle.bus.specs.PhaseLaws.{no_room, phases_refused, phases_counted}
 use Rattle.bus.proofs.requests.bus_phases.Goals as goal

@@ -1,5 +1,5 @@
 -- The check's number, negated where it is not 0.
-use Rattle.std.proofs.Common.{◌∙◌, rules}
+use Rattle.std.proofs.Common.{◌∙◌}
 use Rattle.bus.specs.ReplyLaws.{kept}
 use Rattle.bus.specs.CheckLaws.{check_refused, check_passed}
 use Rattle.bus.proofs.tables.bus_check.Goals as goal

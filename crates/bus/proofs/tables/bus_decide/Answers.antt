@@ -1,5 +1,5 @@
 -- The exact planner's answer, of which a refusal is negated and a length is small.
-use Rattle.std.proofs.Common.{◌∙◌, rules}
+use Rattle.std.proofs.Common.{◌∙◌}
 use Rattle.bus.specs.ReplyLaws.{kept, written_refused, written_length}
 use Rattle.bus.specs.Decide.{decide_reply, decide_buffer}
 use Rattle.bus.specs.DecideLaws.{decide_few}

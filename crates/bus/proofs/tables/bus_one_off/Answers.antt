@@ -1,5 +1,5 @@
 -- The frame that is found, a small number, or a refusal, which is negated.
-use Rattle.std.proofs.Common.{◌∙◌, rules}
+use Rattle.std.proofs.Common.{◌∙◌}
 use Rattle.bus.specs.ReplyLaws.{kept}
 use Rattle.bus.specs.OneOffLaws.{one_off_refused, one_off_found}
 use Rattle.bus.proofs.tables.bus_one_off.Goals as goal

@@ -1,5 +1,5 @@
 -- 99 comes first. Then the planner's answer: its count is written, a refusal is negated, and a length is small.
-use Rattle.std.proofs.Common.{◌∙◌, rules}
+use Rattle.std.proofs.Common.{◌∙◌}
 use Rattle.bus.specs.ReplyLaws.{kept}
 use Rattle.bus.specs.PlanLaws.{no_count, plan_few, plan_refused, plan_written_lem}
 use Rattle.bus.proofs.tables.bus_plan.Goals as goal

@@ -1,5 +1,5 @@
 -- The rewriter's answer, of which a refusal is negated and a length is small.
-use Rattle.std.proofs.Common.{◌∙◌, rules}
+use Rattle.std.proofs.Common.{◌∙◌}
 use Rattle.bus.specs.ReplyLaws.{kept, written_refused, written_length}
 use Rattle.bus.specs.Rewrite.{rewrite_reply, rewrite_buffer}
 use Rattle.bus.specs.RewriteLaws.{rewrite_few}

@@ -1,5 +1,5 @@
 -- A refusal, which is negated and leaves the list as it was; or the records, and their number, which is small.
-use Rattle.std.proofs.Common.{◌∙◌, arith, rules}
+use Rattle.std.proofs.Common.{◌∙◌, arith}
 use Rattle.bus.specs.ReplyLaws.{kept}
 use Rattle.bus.specs.TimelineLaws.{known, places_there, timeline_refused, timeline_written}
 use Rattle.bus.proofs.timeline.bus_timeline.Goals as goal

@@ -1,5 +1,4 @@
 -- A word, the frames and the loads, each from its bytes.
-use Rattle.std.proofs.Common.{rules}
 use Rattle.lent.specs.DraftBytes.{draft_in}
 use Rattle.lent.proofs.draft_bytes.read_draft.Goals as goal
 

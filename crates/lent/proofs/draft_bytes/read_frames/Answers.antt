@@ -1,6 +1,6 @@
 -- The loop keeps that the first frames are in their places and those left are to come.
-use Rattle.std.proofs.Common.{◌≤◌, ◌-◌, arith, length, rules}
-use Rattle.lent.specs.WordLaws.{WordsRead, read_start, read_more, read_end}
+use Rattle.std.proofs.Common.{arith}
+use Rattle.lent.specs.WordLaws.{read_start, read_more, read_end}
 use Rattle.lent.proofs.draft_bytes.read_frames.Goals as goal
 
 pub loop-y-init : goal.loop-y-init

@@ -1,6 +1,6 @@
 -- The loop keeps that the first loads are in their places and those left are to come.
-use Rattle.std.proofs.Common.{◌≤◌, ◌-◌, arith, length, rules}
-use Rattle.lent.specs.WordLaws.{WordsRead, read_start, read_more, read_end}
+use Rattle.std.proofs.Common.{arith}
+use Rattle.lent.specs.WordLaws.{read_start, read_more, read_end}
 use Rattle.lent.proofs.draft_bytes.read_loads.Goals as goal
 
 pub loop-row-init : goal.loop-row-init

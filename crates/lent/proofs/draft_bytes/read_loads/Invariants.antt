@@ -1,6 +1,6 @@
 -- The loop keeps that the first loads are in their places and those left are to come.
-use Rattle.std.proofs.Common.{◌≤◌, ◌-◌, arith, length, rules}
-use Rattle.lent.specs.WordLaws.{WordsRead, read_start, read_more, read_end}
+use Rattle.std.proofs.Common.{◌≤◌, ◌-◌, length}
+use Rattle.lent.specs.WordLaws.{WordsRead}
 use Rattle.lent.proofs.draft_bytes.read_loads.Given as goal
 
 abbrev pub invariant-loop-row : goal.invariant-loop-row

@@ -1,5 +1,5 @@
 -- A word, the frames behind it and the loads behind these are the draft's bytes.
-use Rattle.std.proofs.Common.{◌∙◌, rules}
+use Rattle.std.proofs.Common.{◌∙◌}
 use Rattle.lent.specs.DraftByteLaws.{draft_stored}
 use Rattle.lent.proofs.draft_bytes.write_draft.Goals as goal
 

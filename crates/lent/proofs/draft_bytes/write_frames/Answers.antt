@@ -1,6 +1,6 @@
 -- The loop keeps that the bytes of the first frames are in their places and those of the frames left are to come.
-use Rattle.std.proofs.Common.{◌≤◌, ◌-◌, arith, length, rules}
-use Rattle.lent.specs.WordLaws.{WordsStored, stored_start, stored_more, stored_end}
+use Rattle.std.proofs.Common.{arith}
+use Rattle.lent.specs.WordLaws.{stored_start, stored_more, stored_end}
 use Rattle.lent.proofs.draft_bytes.write_frames.Goals as goal
 
 pub loop-y-init : goal.loop-y-init

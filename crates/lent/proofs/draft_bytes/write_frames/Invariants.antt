@@ -1,6 +1,6 @@
 -- The loop keeps that the bytes of the first frames are in their places and those of the frames left are to come.
-use Rattle.std.proofs.Common.{◌≤◌, ◌-◌, arith, length, rules}
-use Rattle.lent.specs.WordLaws.{WordsStored, stored_start, stored_more, stored_end}
+use Rattle.std.proofs.Common.{◌≤◌, ◌-◌, length}
+use Rattle.lent.specs.WordLaws.{WordsStored}
 use Rattle.lent.proofs.draft_bytes.write_frames.Given as goal
 
 abbrev pub invariant-loop-y : goal.invariant-loop-y

@@ -1,6 +1,6 @@
 -- The loop keeps that the bytes of the first loads are in their places and those of the loads left are to come.
-use Rattle.std.proofs.Common.{◌≤◌, ◌-◌, arith, length, rules}
-use Rattle.lent.specs.WordLaws.{WordsStored, stored_start, stored_more, stored_end}
+use Rattle.std.proofs.Common.{◌≤◌, ◌-◌, length}
+use Rattle.lent.specs.WordLaws.{WordsStored}
 use Rattle.lent.proofs.draft_bytes.write_loads.Given as goal
 
 abbrev pub invariant-loop-row : goal.invariant-loop-row

@@ -1,7 +1,5 @@
 -- The loop keeps that the bytes of the first i pairs are in their places and those of the pairs left are to come.
-use Rattle.std.proofs.Common.{◌≤◌, ◌-◌, ◌+◌, ◌≡◌, arith, length-set, rules}
-use Rattle.cursor.specs.Pieces.{PartWay}
-use Rattle.lent.specs.Entries.{entry_bytes}
+use Rattle.std.proofs.Common.{arith, length-set}
 use Rattle.lent.specs.EntryLaws.{pairs_start, pairs_room, pairs_more, pairs_end}
 use Rattle.lent.proofs.entries.write_pairs.Goals as goal
 

@@ -1,6 +1,5 @@
 -- The ways out are the definition's cases.
-use Rattle.std.proofs.Common.{sym, ◌∙◌, rules}
-use borrow.Author.Tests.{not-true, not-false}
+use Rattle.std.proofs.Common.{sym, ◌∙◌}
 use Rattle.lent.specs.HeaterByteLaws.{heater_short, heater_no_state, heater_no_bits, heater_bits}
 use Rattle.lent.proofs.heater_bytes.is_heater.Goals as goal
 

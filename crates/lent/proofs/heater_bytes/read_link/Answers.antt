@@ -1,5 +1,4 @@
 -- The state and the two bits, each from its bytes.
-use Rattle.std.proofs.Common.{rules}
 use Rattle.lent.specs.HeaterBytes.{link_of}
 use Rattle.lent.proofs.heater_bytes.read_link.Goals as goal
 

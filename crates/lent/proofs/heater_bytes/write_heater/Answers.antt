@@ -1,5 +1,5 @@
 -- The state, and four stores behind it.
-use Rattle.std.proofs.Common.{arith, length-set, rules}
+use Rattle.std.proofs.Common.{arith, length-set}
 use Rattle.lent.specs.HeaterByteLaws.{heater_stored}
 use Rattle.lent.proofs.heater_bytes.write_heater.Goals as goal
 

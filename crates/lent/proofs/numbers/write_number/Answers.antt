@@ -1,6 +1,6 @@
 -- The loop keeps that the first i bytes of the number are in their places and those of what is left of it are to come.
-use Rattle.std.proofs.Common.{◌≤◌, ◌-◌, arith, rules}
-use Rattle.lent.specs.NumberLaws.{CountPart, count_start, count_room, count_more, count_end}
+use Rattle.std.proofs.Common.{arith}
+use Rattle.lent.specs.NumberLaws.{count_start, count_room, count_more, count_end}
 use Rattle.lent.proofs.numbers.write_number.Goals as goal
 
 pub loop-i-init : goal.loop-i-init

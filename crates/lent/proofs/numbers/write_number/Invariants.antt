@@ -1,6 +1,6 @@
 -- The loop keeps that the first i bytes of the number are in their places and those of what is left of it are to come.
-use Rattle.std.proofs.Common.{◌≤◌, ◌-◌, arith, rules}
-use Rattle.lent.specs.NumberLaws.{CountPart, count_start, count_room, count_more, count_end}
+use Rattle.std.proofs.Common.{◌≤◌, ◌-◌}
+use Rattle.lent.specs.NumberLaws.{CountPart}
 use Rattle.lent.proofs.numbers.write_number.Given as goal
 
 abbrev pub invariant-loop-i : goal.invariant-loop-i

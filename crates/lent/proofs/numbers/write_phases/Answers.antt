@@ -1,5 +1,4 @@
 -- Four words, each behind the one before, are the bytes of the counts.
-use Rattle.std.proofs.Common.{rules}
 use Rattle.lent.specs.NumberLaws.{counts_stored}
 use Rattle.lent.proofs.numbers.write_phases.Goals as goal
 

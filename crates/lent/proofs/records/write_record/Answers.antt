@@ -1,5 +1,5 @@
 -- Two bytes and three words one behind the other are the eight bytes.
-use Rattle.std.proofs.Common.{◌∙◌, arith, length-set, rules}
+use Rattle.std.proofs.Common.{arith, length-set}
 use Rattle.lent.specs.RecordLaws.{record_stored}
 use Rattle.lent.proofs.records.write_record.Goals as goal
 

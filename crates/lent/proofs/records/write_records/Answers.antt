@@ -1,7 +1,7 @@
 -- The loop keeps that the records before place y are in their places and those from y on are to come.
-use Rattle.std.proofs.Common.{rules, ◌≤◌, ◌-◌, ◌+◌, ◌*◌, ◌≡◌, arith, length, length-drop}
+use Rattle.std.proofs.Common.{◌≤◌, ◌+◌, arith, length, length-drop}
 use Rattle.cursor.specs.Parts.{rest_part, rest_put}
-use Rattle.lent.specs.RecordLaws.{RecordsPart, records_start, record_room, record_placed, records_end}
+use Rattle.lent.specs.RecordLaws.{records_start, record_room, record_placed, records_end}
 use Rattle.lent.proofs.records.write_records.Goals as goal
 use Rattle.lent.proofs.records.write_records.Goals.{After-record_at-job}
 

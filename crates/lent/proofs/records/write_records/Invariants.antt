@@ -1,7 +1,6 @@
 -- The loop keeps that the records before place y are in their places and those from y on are to come.
-use Rattle.std.proofs.Common.{rules, ◌≤◌, ◌-◌, ◌+◌, ◌*◌, ◌≡◌, arith, length, length-drop}
-use Rattle.cursor.specs.Parts.{rest_part, rest_put}
-use Rattle.lent.specs.RecordLaws.{RecordsPart, records_start, record_room, record_placed, records_end}
+use Rattle.std.proofs.Common.{◌≤◌, ◌-◌, ◌*◌, ◌≡◌}
+use Rattle.lent.specs.RecordLaws.{RecordsPart}
 use Rattle.lent.proofs.records.write_records.Given as goal
 
 abbrev pub invariant-loop-y : goal.invariant-loop-y

@@ -1,5 +1,4 @@
 -- The two ways out are the definition's cases.
-use Rattle.std.proofs.Common.{rules}
 use Rattle.lent.specs.StateLaws.{short, long}
 use Rattle.lent.proofs.state.is_state.Goals as goal
 

@@ -1,6 +1,6 @@
 -- The loop keeps that the counts of the first i tasks are in their places and those of the tasks left are to come.
-use Rattle.std.proofs.Common.{◌≤◌, ◌-◌, arith, length, rules}
-use Rattle.lent.specs.WordLaws.{WordsRead, read_start, read_more, read_end}
+use Rattle.std.proofs.Common.{arith}
+use Rattle.lent.specs.WordLaws.{read_start, read_more, read_end}
 use Rattle.lent.proofs.state.read_counts.Goals as goal
 
 pub loop-i-init : goal.loop-i-init

@@ -1,6 +1,6 @@
 -- The loop keeps that the counts of the first i tasks are in their places and those of the tasks left are to come.
-use Rattle.std.proofs.Common.{◌≤◌, ◌-◌, arith, length, rules}
-use Rattle.lent.specs.WordLaws.{WordsRead, read_start, read_more, read_end}
+use Rattle.std.proofs.Common.{◌≤◌, ◌-◌, length}
+use Rattle.lent.specs.WordLaws.{WordsRead}
 use Rattle.lent.proofs.state.read_counts.Given as goal
 
 abbrev pub invariant-loop-i : goal.invariant-loop-i

@@ -1,5 +1,4 @@
 -- A word, the mark and the counts, each from its bytes.
-use Rattle.std.proofs.Common.{rules}
 use Rattle.lent.specs.State.{state_of}
 use Rattle.lent.proofs.state.read_state.Goals as goal
 

@@ -1,6 +1,6 @@
 -- The loop keeps that the bytes of the first i counts are in their places and those of the counts left are to come.
-use Rattle.std.proofs.Common.{◌≤◌, ◌-◌, arith, length, rules}
-use Rattle.lent.specs.WordLaws.{WordsStored, stored_start, stored_more, stored_end}
+use Rattle.std.proofs.Common.{◌≤◌, ◌-◌, length}
+use Rattle.lent.specs.WordLaws.{WordsStored}
 use Rattle.lent.proofs.state.write_counts.Given as goal
 
 abbrev pub invariant-loop-i : goal.invariant-loop-i

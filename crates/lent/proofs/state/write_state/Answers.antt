@@ -1,5 +1,5 @@
 -- A word, a store behind it, and the counts behind these are the state's bytes.
-use Rattle.std.proofs.Common.{◌∙◌, arith, length-set, rules}
+use Rattle.std.proofs.Common.{◌∙◌, arith, length-set}
 use Rattle.lent.specs.StateLaws.{state_stored}
 use Rattle.lent.proofs.state.write_state.Goals as goal
 

@@ -1,5 +1,5 @@
 -- Each way out is one test of the definition.
-use Rattle.std.proofs.Common.{◌≤◌, ◌<◌, arith, get_or, rules}
+use Rattle.std.proofs.Common.{◌≤◌, ◌<◌, arith, get_or}
 use Rattle.lent.specs.TimerByteLaws.{timer_short, bad_mark, bad_control, status_decides}
 use Rattle.lent.proofs.timer_bytes.is_timer.Goals as goal
 use Rattle.lent.proofs.timer_bytes.is_timer.Goals.{Else-timer-gt1}

@@ -1,5 +1,4 @@
 -- The state, control and status, each from its bytes.
-use Rattle.std.proofs.Common.{rules}
 use Rattle.lent.specs.TimerBytes.{timer_of}
 use Rattle.lent.proofs.timer_bytes.read_timer.Goals as goal
 

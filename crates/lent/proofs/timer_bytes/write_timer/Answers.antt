@@ -1,5 +1,5 @@
 -- The state's bytes, and two stores.
-use Rattle.std.proofs.Common.{arith, length-set, rules}
+use Rattle.std.proofs.Common.{arith, length-set}
 use Rattle.lent.specs.TimerBytes.{timer_bytes}
 use Rattle.lent.proofs.timer_bytes.write_timer.Goals as goal
 

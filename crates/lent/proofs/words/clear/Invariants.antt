@@ -1,8 +1,7 @@
 -- The loop keeps that the first i bytes are 0, and the rest as they were.
-use Rattle.std.proofs.Common.{◌≤◌, ◌-◌, arith}
+use Rattle.std.proofs.Common.{◌≤◌, ◌-◌}
 use Rattle.cursor.specs.Pieces.{PartWay}
 use Rattle.lent.specs.Words.{zeros}
-use Rattle.lent.specs.WordLaws.{cleared_start, cleared_room, cleared_more, cleared_end}
 use Rattle.lent.proofs.words.clear.Given as goal
 
 abbrev pub invariant-loop-i : goal.invariant-loop-i

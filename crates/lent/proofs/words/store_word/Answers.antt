@@ -1,5 +1,5 @@
 -- Two stores, one behind the other.
-use Rattle.std.proofs.Common.{arith, length-set, rules}
+use Rattle.std.proofs.Common.{arith, length-set}
 use Rattle.cursor.specs.WordBytesLaws.{bytes_stored}
 use Rattle.lent.proofs.words.store_word.Goals as goal
 

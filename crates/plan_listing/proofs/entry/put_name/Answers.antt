@@ -1,5 +1,4 @@
 -- The four texts that are put, one behind the other, are the name.
-use Rattle.std.proofs.Common.{rules}
 use Rattle.text.specs.TextLaws.{put_none, put_more, put_append}
 use Rattle.plan_listing.specs.ListingLaws.{named_bytes}
 use Rattle.plan_listing.proofs.entry.put_name.Goals as goal

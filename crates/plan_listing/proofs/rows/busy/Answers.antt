@@ -1,8 +1,6 @@
 -- The loop keeps that the ticks of the places left, added to the sum, are those of all places. Each place adds at most 65,535: no sum wraps.
-use Rattle.std.proofs.Common.{rules, ℕ, ◌+◌, ◌*◌, ◌-◌, ◌≤◌, ◌≡◌, List, zero-add, arith, get_or}
+use Rattle.std.proofs.Common.{zero-add, arith, get_or}
 use native.Mathlib.Nat.{sub-zero}
-use Rattle.table.specs.AnswerLaws.{entries_at}
-use Rattle.plan_listing.specs.Listing.{busy_ticks}
 use Rattle.plan_listing.specs.ListingLaws.{ticks_are, busy_turn, busy_end}
 use Rattle.plan_listing.proofs.rows.busy.Goals as goal
 
@@ -19,7 +17,14 @@ loop-i-preserved c =
       omega arith,
       l.invariant.1,
       omega (arith, c.cost.type_inv, l.invariant.2),
-      λ jobs. omega (arith, c.cost.ensures, ticks_are s.tasks (get_or s.row.tasks l.i 0) c.requires.1, busy_turn s.row.tasks jobs s.row.count l.i s.tasks more, l.invariant.3 jobs),
+      λ jobs. omega (
+        arith,
+        c.cost.ensures,
+        ticks_are s.tasks (get_or s.row.tasks l.i 0) c.requires.1,
+        busy_turn s.row.tasks jobs s.row.count l.i
+            s.tasks more,
+        l.invariant.3 jobs,
+      ),
     )
 
 pub returns : goal.returns

@@ -1,9 +1,7 @@
 -- The loop keeps that the ticks of the places left, added to the sum, are those of all places. Each place adds at most 65,535: no sum wraps.
-use Rattle.std.proofs.Common.{rules, ℕ, ◌+◌, ◌*◌, ◌-◌, ◌≤◌, ◌≡◌, List, zero-add, arith, get_or}
-use native.Mathlib.Nat.{sub-zero}
+use Rattle.std.proofs.Common.{ℕ, ◌+◌, ◌*◌, ◌-◌, ◌≤◌, ◌≡◌, List}
 use Rattle.table.specs.AnswerLaws.{entries_at}
 use Rattle.plan_listing.specs.Listing.{busy_ticks}
-use Rattle.plan_listing.specs.ListingLaws.{ticks_are, busy_turn, busy_end}
 use Rattle.plan_listing.proofs.rows.busy.Given as goal
 
 abbrev pub invariant-loop-i : goal.invariant-loop-i

@@ -1,6 +1,5 @@
 -- The two ways are the two cases of carry.
-use Rattle.std.proofs.Common.{◌≡◌, sym, ◌∙◌, true, false, append-nil, rules}
-use borrow.Author.Tests.{not-true, not-false}
+use Rattle.std.proofs.Common.{◌≡◌, sym, ◌∙◌, true, false, append-nil}
 use Rattle.table.specs.Table.{carried_in}
 use Rattle.table.specs.EntryLaws.{carried_of_byte}
 use Rattle.text.specs.TextLaws.{put_none, put_more, put_append}

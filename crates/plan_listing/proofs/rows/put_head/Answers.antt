@@ -1,5 +1,4 @@
 -- The parts of the line, in their order.
-use Rattle.std.proofs.Common.{rules}
 use Rattle.text.specs.TextLaws.{put_none, put_more, put_append}
 use Rattle.plan_listing.specs.Listing.{head_line}
 use Rattle.plan_listing.proofs.rows.put_head.Goals as goal

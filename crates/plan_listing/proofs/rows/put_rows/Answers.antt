@@ -1,10 +1,8 @@
 -- The loop keeps that putting the lines of the rows left, behind those put, gives the answer, and that the cursor stands at the next row.
-use Rattle.std.proofs.Common.{rules, ◌≤◌, ◌<◌, ◌-◌, ◌≡◌, refl, sym, ◌∙◌, arith, length, drop}
+use Rattle.std.proofs.Common.{◌<◌, refl, sym, ◌∙◌, arith, length}
 use Rattle.cursor.specs.Fields.{Bytes}
 use Rattle.table.specs.Table.{decode}
-use Rattle.table.specs.RowsLeft.{RowsLeft, rows_begin}
-use Rattle.text.specs.Text.{filled_to, put_all_of}
-use Rattle.plan_listing.specs.Listing.{row_lines}
+use Rattle.table.specs.RowsLeft.{rows_begin}
 use Rattle.plan_listing.specs.Answers.{table_in}
 use Rattle.plan_listing.specs.ListingLaws.{rows_turn, rows_end, row_taken}
 use Rattle.plan_listing.proofs.rows.put_rows.Goals as goal

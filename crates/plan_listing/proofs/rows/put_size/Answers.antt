@@ -1,5 +1,5 @@
 -- The name and then the number.
-use Rattle.std.proofs.Common.{sym, rules}
+use Rattle.std.proofs.Common.{sym}
 use Rattle.text.specs.TextLaws.{put_append}
 use Rattle.plan_listing.proofs.rows.put_size.Goals as goal
 

@@ -1,5 +1,5 @@
 -- A place below 16 holds the task, and there is none behind it.
-use Rattle.std.proofs.Common.{rules, lt-ltb, le-ltb}
+use Rattle.std.proofs.Common.{lt-ltb, le-ltb}
 use Rattle.plan_listing.specs.Answers.{ticks_in}
 use Rattle.plan_listing.proofs.ticks.cost.Goals as goal
 

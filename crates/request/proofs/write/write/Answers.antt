@@ -26,4 +26,5 @@ write_sections-length-requires c = (search rules, search rules, long (goal.at.wr
 
 pub returns : goal.returns
 returns c =
-    rw (← c.at_most-count.ensures, ← c.at_most-links.ensures) (all_written _ _ (long (goal.at.returns c).Else-out-request_length) _ _ c.write_sections-length.ensures)
+    rw (← c.at_most-count.ensures, ← c.at_most-links.ensures)
+    (all_written _ _ (long (goal.at.returns c).Else-out-request_length) _ _ c.write_sections-length.ensures)

@@ -25,8 +25,13 @@ bounds-out-at-in-loop-i c = simp length-set (omega (arith, room (goal.at.bounds-
 pub loop-i-preserved : goal.loop-i-preserved
 loop-i-preserved c =
     let l = c.loop-i in
-    let more = c.loop-i-test.true in
-    (omega arith, l.invariant.1, omega arith, section_more _ _ pair_wide _ _ _ _ _ _ _ l.invariant.3 more _ (pair_stored _ _ _ (room (goal.at.loop-i-preserved c).In-loop-i)))
+    let more = c.loop-i-test.true in (
+      omega arith,
+      l.invariant.1,
+      omega arith,
+      section_more _ _ pair_wide _ _ _ _ _ _ _ l.invariant.3 more _
+          (pair_stored _ _ _ (room (goal.at.loop-i-preserved c).In-loop-i)),
+    )
 
 pub returns : goal.returns
 returns c = section_end _ _ pair_wide _ _ _ _ _ _ _ c.loop-i.invariant.3 c.loop-i-test.false

@@ -26,7 +26,8 @@ behind : (c : After-write_pairs-second) → let out = c.write_tasks-first.new.ou
     let at = c.write_tasks-first.result in let end = at + c.write_pairs-second.result in
     (end ≤ length (put_mid at (length out - at) out c.write_pairs-second.new.out)) × (end ≤ length c.args.out.now)
 behind c =
-    rw rest_put (second_within _ _ _ _ (fits (goal.at.After-write_pairs-second c).Start) _ _ c.write_tasks-first.ensures _ _ (rw rest_part at c.write_pairs-second.ensures))
+    rw rest_put (second_within _ _ _ _ (fits (goal.at.After-write_pairs-second c).Start) _ _ c.write_tasks-first.ensures _ _
+    (rw rest_part at c.write_pairs-second.ensures))
 
 -- and the third
 placed : (c : After-write_silent-third) → let a = c.args in let at = c.write_tasks-first.result in let end = at + c.write_pairs-second.result in
@@ -35,7 +36,8 @@ placed : (c : After-write_silent-third) → let a = c.args in let at = c.write_t
 unfolding request_bytes
 placed c =
     let wrote = rw rest_part at c.write_pairs-second.ensures in
-    all_placed _ _ _ _ (fits (goal.at.After-write_silent-third c).Start) _ _ c.write_tasks-first.ensures _ _ wrote _ _ (rw (rest_part, rest_put) at c.write_silent-third.ensures)
+    all_placed _ _ _ _ (fits (goal.at.After-write_silent-third c).Start) _ _ c.write_tasks-first.ensures _ _ wrote _ _
+    (rw (rest_part, rest_put) at c.write_silent-third.ensures)
 
 pub write_tasks-first-requires : goal.write_tasks-first-requires
 write_tasks-first-requires c = (c.requires.0, omega (arith, simp length-append at (fits (goal.at.write_tasks-first-requires c).Start)))

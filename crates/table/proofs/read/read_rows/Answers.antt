@@ -57,7 +57,9 @@ unfolding table_read sizes_of row_answer
 returns-in_default-read_row c =
     let more = c.loop-i-test.true in
     let none = rw c.in_default-read_row.is at c.read_row.ensures in
-    c.no_table-in_default-read_row.ensures ∙ rw (rows_refused _ _ _ _ _ _ _ _ c.loop-i.invariant.1 (height-read (goal.at.returns-in_default-read_row c).Else-not-height_fits) (fits (goal.at.returns-in_default-read_row c).Else-not-height_fits) more none)
+    c.no_table-in_default-read_row.ensures ∙ rw
+    (rows_refused _ _ _ _ _ _ _ _ c.loop-i.invariant.1 (height-read (goal.at.returns-in_default-read_row c).Else-not-height_fits)
+    (fits (goal.at.returns-in_default-read_row c).Else-not-height_fits) more none)
 
 pub loop-i-preserved : goal.loop-i-preserved
 loop-i-preserved c =
@@ -78,8 +80,11 @@ pub returns-then-here-s : goal.returns-then-here-s
 unfolding table_read sizes_of row_answer
 returns-then-here-s c =
     let end = c.loop-i-test.false in
-    c.no_table-then-here-s.ensures ∙ rw (rows_tail _ _ _ _ _ _ _ _ c.loop-i.invariant.1 (height-read (goal.at.returns-then-here-s c).Else-not-height_fits) (fits (goal.at.returns-then-here-s c).Else-not-height_fits) end c.if-here-s.true)
+    c.no_table-then-here-s.ensures ∙ rw
+    (rows_tail _ _ _ _ _ _ _ _ c.loop-i.invariant.1 (height-read (goal.at.returns-then-here-s c).Else-not-height_fits)
+    (fits (goal.at.returns-then-here-s c).Else-not-height_fits) end c.if-here-s.true)
 
 pub returns : goal.returns
 returns c =
-    sym (rows_end _ _ _ _ _ _ _ _ c.loop-i.invariant.1 (height-read (goal.at.returns c).Else-not-height_fits) (fits (goal.at.returns c).Else-not-height_fits) c.loop-i-test.false c.loop-i.invariant.0 c.if-here-s.false)
+    sym (rows_end _ _ _ _ _ _ _ _ c.loop-i.invariant.1 (height-read (goal.at.returns c).Else-not-height_fits)
+    (fits (goal.at.returns c).Else-not-height_fits) c.loop-i-test.false c.loop-i.invariant.0 c.if-here-s.false)
