@@ -1,37 +1,33 @@
 #![tactic(auto)]
 // Reads a request from standard input and writes the table of its plan to standard output. Without a plan it prints `refused N` on
 // standard error and nothing on standard output.
-ghost use Rattle.std.specs.Prelude.{◌≡◌};
-ghost use Rattle.io.specs.Counts.{IsPrefixLen};
+ghost use Rattle.std.specs.Prelude.{◌≡◌, ◌≤◌, length};
 ghost use Rattle.plan_writer.specs.Outcome.{outcome_buffer};
 ghost use Rattle.planner.specs.Outcome.{program_tries, outcome_within, searched_answer};
 
-use libc::{STDERR_FILENO, STDIN_FILENO};
 use planner::Searched;
 
 // The planner's answer and buffer within the tries that a program allows; the answer's length is within the buffer.
 fn plan(request: &[u8], out: &mut [u8]) -> Searched
     ensures value { (result ≡ searched_answer program_tries request.now out.old)
         × (out.new ≡ outcome_buffer (outcome_within program_tries request.now) out.old) }
-    ensures prefix_len { IsPrefixLen result.length out.new }
+    ensures prefix_len { result.length ≤ length out.new }
 {
     planner::plan(request, planner::PROGRAM_TRIES, out)
 }
 
 // A request has at most 164 bytes: what longer input is refused with is decided by its first 165.
-fn main() {
-    let mut input = io::buffer();
-    let n = io::read_full(STDIN_FILENO, &mut input);
-    if !streams::was_read(STDIN_FILENO, b"cannot read standard input") {
+fn main(rt: HostRuntime) {
+    let Some(request) = streams::input(&rt, 4096) else {
         return;
-    }
-    let mut out = io::buffer();
-    let planned = plan(&input[..n], &mut out);
+    };
+    let mut out = [0u8; 4096];
+    let planned = plan(&request, &mut out);
     if planned.refusal != 0 {
         let end = plan_listing::refused(planned.refusal, &mut out);
-        io::write_all(STDERR_FILENO, &out[..end]);
+        let _ = rt.stderr().write_all(&out[..end]);
         return;
     }
     let length = planned.length;
-    streams::print(&out[..length]);
+    streams::print(&rt, &out[..length]);
 }

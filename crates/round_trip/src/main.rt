@@ -1,20 +1,12 @@
 #![tactic(auto)]
 // Plans the requests of the bench sheet that have a plan, checks each table and rewrites it, and prints what the check gives (0: accepted)
 // and whether the bytes are the same. The file `stdout` beside src/ has what it must print.
-use libc::STDOUT_FILENO;
-
-fn print(name: &[u8], refusal: u8, same: bool) {
-    io::write_all(STDOUT_FILENO, name);
-    io::write_all(STDOUT_FILENO, b" ");
-    io::print_decimal(STDOUT_FILENO, refusal as u64);
-    if same {
-        streams::print(b" same\n");
-        return;
-    }
-    streams::print(b" other\n");
+fn print<R: Print + Eprint + AllocGlobal>(rt: &R, name: &str, refusal: u8, same: bool) {
+    let bytes = if same { "same" } else { "other" };
+    streams::was_printed(rt, println!(rt; "{name} {refusal} {bytes}"));
 }
 
-fn show(name: &[u8], request: &[u8]) {
+fn show<R: Print + Eprint + AllocGlobal>(rt: &R, name: &str, request: &[u8]) {
     let mut table = [0u8; 1024];
     let mut again = [0u8; 1024];
     let planned = planner::plan(request, planner::PROGRAM_TRIES, &mut table);
@@ -22,28 +14,27 @@ fn show(name: &[u8], request: &[u8]) {
     let refusal = checker::check(request, &table[..end]);
     let written = rewriter::rewrite(request, &table[..end], &mut again);
     let again_end = arith::at_most(written.length, 1024);
-    print(
-        name,
-        refusal,
-        check::same(&table[..end], &again[..again_end]),
-    );
+    print(rt, name, refusal, table[..end] == again[..again_end]);
 }
 
-fn main() {
+fn main(rt: HostRuntime) {
     show(
-        b"P1",
+        &rt,
+        "P1",
         b"\x03\x05\x00\x14\x00\x14\x00\x00\x00\x05\x00\x14\x00\x14\x00\x00\x00\x0a\x00\x28\x00\x28\x00\x00\x00\x00",
     );
     show(
-        b"P3",
+        &rt,
+        "P3",
         b"\x04\x02\x00\x06\x00\x06\x00\x00\x00\x02\x00\x08\x00\x08\x00\x00\x00\x04\x00\x18\x00\x18\x00\x00\x00\x04\x00\x18\x00\x18\x00\x00\x00\x01\x02\x03",
     );
     show(
-        b"P6",
+        &rt,
+        "P6",
         b"\x03\x0e\x00\x3c\x00\x28\x00\x0a\x00\x0f\x00\x3c\x00\x2d\x00\x0f\x00\x05\x00\x14\x00\x14\x00\x00\x00\x00",
     );
-    show(b"P7", b"\x01\x02\x00\x0a\x00\x09\x00\x06\x00\x00");
-    show(b"P8", b"\x01\x01\x00\x0a\x00\x05\x00\x02\x00\x00");
-    show(b"P9", b"\x01\x01\x00\x00\x01\x01\x00\x00\x00\x00");
-    show(b"P12", b"\x01\x01\x00\x10\x27\x10\x27\x00\x00\x00");
+    show(&rt, "P7", b"\x01\x02\x00\x0a\x00\x09\x00\x06\x00\x00");
+    show(&rt, "P8", b"\x01\x01\x00\x0a\x00\x05\x00\x02\x00\x00");
+    show(&rt, "P9", b"\x01\x01\x00\x00\x01\x01\x00\x00\x00\x00");
+    show(&rt, "P12", b"\x01\x01\x00\x10\x27\x10\x27\x00\x00\x00");
 }
