@@ -6,7 +6,7 @@
  *
  * Build it beside the library, in the folder of the repository:
  *
- *     rt staticlib bus
+ *     tools/libbus
  *     gcc -std=c99 -Wall -Wextra -I include examples/interrupt.c target/staticlib/libbus.a -o interrupt
  *
  * examples/interrupt.txt is what it prints.

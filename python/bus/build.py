@@ -19,21 +19,23 @@ from . import guard
 from .errors import Error
 from .progress import Line, tell
 
-# A wheel has the library in it. In the repository it is built from libbus.a, and that from the crates.
+# A wheel has the library in it. In the repository it is built from libbus.a, and that from the crates, by the archiver.
 PACKAGED = Path(__file__).with_name("libbus.so")
 ROOT = Path(__file__).resolve().parents[2]
 CRATES = ROOT / "crates.txt"
+ARCHIVER = "tools/libbus"
 ARCHIVE = ROOT / "target" / "staticlib" / "libbus.a"
 SHARED = ROOT / "target" / "python" / "libbus.so"
 LOG = SHARED.with_name("build.log")
 LOCK = SHARED.with_name("build.lock")
-LIBRARY = "bus"
+LIBRARY = "bus_c"
 
 SECONDS_BETWEEN_SIGNS = 30
 SECONDS_BETWEEN_LOOKS = 1
 LINES_SHOWN = 8
 ELSEWHERE = "let BUS_LIBRARY name a libbus.so that was built elsewhere"
-DONE = re.compile(r"^rt: (\w+) proved", re.MULTILINE)
+# What a check prints at its end: its crate, and each crate that it took as proved.
+DONE = re.compile(r"^(?:crate|library) (\w+): ", re.MULTILINE)
 
 
 class NotBuilt(Error):
@@ -62,7 +64,7 @@ def crates_of(name, text):
     for line in text.splitlines():
         crate, colon, others = line.partition("#")[0].partition(":")
         if colon:
-            below[crate.strip()] = others.split()
+            below[crate.split()[0]] = others.split()
     found, open_ones = set(), [name]
     while open_ones:
         crate = open_ones.pop()
@@ -74,8 +76,8 @@ def crates_of(name, text):
 
 def _far(begin):
     """How far the build is, by what `rt` has printed so far."""
-    done = set(DONE.findall(LOG.read_text(encoding="utf-8", errors="replace")))
     crates = crates_of(LIBRARY, CRATES.read_text(encoding="utf-8")) if CRATES.exists() else set()
+    done = crates.intersection(DONE.findall(LOG.read_text(encoding="utf-8", errors="replace")))
     seconds = f"{time.monotonic() - begin:.0f} seconds so far"
     if not done or not done < crates:
         return seconds
@@ -137,8 +139,8 @@ def _prove(lock):
     if shutil.which("rt") is None:
         why = "the Rattle toolchain `rt`, which builds it, is not on the path"
         raise CannotBuild(why, f"install it, or {ELSEWHERE}")
-    tell("building the library by `rt staticlib bus`, which proves every function of it: 3 to 5 minutes the first time")
-    tell(f"done in {_run(['rt', 'staticlib', LIBRARY], lock):.0f} seconds")
+    tell(f"building the library by `{ARCHIVER}`, which proves every function of it: 3 to 5 minutes the first time")
+    tell(f"done in {_run([ARCHIVER], lock):.0f} seconds")
 
 
 def _link(lock):

@@ -24,7 +24,7 @@ LIBRARY = "bus/libbus.so"
 
 # The time of every file in a wheel: the first that a zip archive can have. So the same files give the same wheel.
 TIME = (1980, 1, 1, 0, 0, 0)
-LEFT_OUT = {".git", "target", "__pycache__"}
+LEFT_OUT = {".git", "target", "out", "__pycache__"}
 
 
 def _section(name):

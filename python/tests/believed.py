@@ -21,7 +21,7 @@ LET = re.compile(r"\blet\s+(?:\(([^()]*)\)|(\S+))")
 INNER = re.compile(r"^\s+(?:pub )?(\S+) :(?=\s)", re.MULTILINE)
 FIELD = re.compile(r"([{;]\s*)[^\s(){};,@.]+\s+=(?=\s)")
 USE = re.compile(r"^(pub )?(?:unfoldable )?(?:pub )?(?:ghost )?use ([^\s{};]+?)(?:\.(\{[^}]*\}|\*))?(?: as (\S+?))?;?\s*$", re.MULTILINE)
-STATEMENT = re.compile(r"Rattle·(\S+)\.Statement\.statement")
+STATEMENT = re.compile(r"Rattle\.(\S+)\.Statement\.statement")
 
 
 class Declaration:
@@ -104,8 +104,10 @@ class Spec(File):
 
 
 def bound(text):
-    """The names that a text binds: parameters, variables of λ and let, fields, and what stands in a `where`."""
-    found = set(INNER.findall(text))
+    """The names that a text binds: parameters, variables of λ and let, fields, and what stands in a `where`. A field whose own type has its name binds it
+    behind that type alone: there the name is that of a definition."""
+    _, *parts = INNER.split(text)
+    found = {name for name, said in zip(parts[::2], parts[1::2]) if name not in TOKEN.findall(re.split(rf"\n\s*{re.escape(name)}(?=\s)", said)[0])}
     for group in BINDERS.findall(text) + LAMBDA.findall(text):
         found |= set(group.split())
     for several, one in LET.findall(text):
@@ -118,9 +120,9 @@ class Contract(Declaration):
 
     def __init__(self, file, name):
         head = re.search(r"fn %s\b(.*?)\n\{" % name, file.text, re.DOTALL).group(1)
-        clauses = head[re.search(r"\n    (requires|ensures)", head).start():]
+        clauses = re.sub(r"(?m)^(    (?:requires|ensures)) \w+ \{", r"\1 {", head[re.search(r"\n    (requires|ensures)", head).start():])
         super().__init__(file, name, False, clauses)
-        self.bound = bound(clauses) | set(re.findall(r"(\w+): ", head))
+        self.bound = bound(clauses) | set(re.findall(r"(\w+): ", head)) | {"result"}
 
 
 class Repository:
@@ -147,13 +149,13 @@ class Repository:
 
     def at(self, path, inside):
         """What a path names, from a file: a file of specs/, or none."""
-        if not path.startswith("Rattle·"):
+        if not path.startswith("Rattle."):
             return self.module(inside.place[0], inside.place[1].split(".") + path.split("."))
-        crate, kind, *parts = path[len("Rattle·"):].split(".")
-        return self.module(crate.split("·")[0], parts) if kind == "specs" else None
+        crate, kind, *parts = path[len("Rattle."):].split(".")
+        return self.module(crate, parts) if kind == "specs" else None
 
     def find(self, file, word):
-        """The declaration that a word of a file names, if it is one of the repository."""
+        """The declaration that a word of a file names, if it is one of the repository; of a projection, as in `no_task.c`, what it is of."""
         statement = STATEMENT.fullmatch(word)
         if statement:
             crate, _, *parts = statement.group(1).split(".")
@@ -161,8 +163,10 @@ class Repository:
         if "." in word:
             head, name = word.split(".", 1)
             path = file.aliases.get(head) or next((p for g in file.globs for p in [self.at(g, file).aliases.get(head)] if p), None)
-            target = path and self.at(path, file)
-            return self.find(target, name) if target else None
+            if path:
+                target = self.at(path, file)
+                return self.find(target, name) if target else None
+            word = head
         if isinstance(file, Spec) and word in file.names:
             return file.names[word]
         if word in file.uses:
@@ -178,8 +182,8 @@ class Repository:
         """The declarations that count of one."""
         text = FIELD.sub(r"\1", declaration.text)
         for word in set(TOKEN.findall(text)):
-            found = None
-            if word[0] != "." and word.rstrip(".") not in declaration.bound:
+            found, head = None, word.split(".", 1)[0]
+            if head and head not in declaration.bound:
                 found = self.find(declaration.file, word.rstrip("."))
             elif word in declaration.bound:
                 found = self.find(declaration.file, word)
@@ -266,7 +270,7 @@ class Repository:
         """The modules that a contract of any function brings in."""
         found = set()
         for path in self.root.glob("crates/*/src/**/*.rt"):
-            for crate, module in re.findall(r"ghost use Rattle·(\w+?)(?:·specs)?\.specs\.(\w+)", path.read_text(encoding="utf-8")):
+            for crate, module in re.findall(r"ghost use Rattle\.(\w+)\.specs\.(\w+)", path.read_text(encoding="utf-8")):
                 found.add((crate, module))
         return found
 

@@ -29,12 +29,12 @@ EDIT = re.compile(r"(\w+)/must-fail(?:/(\w+))?")
 # What stands in code quotes and is no name of the repository: words, and whole texts.
 OTHERS = {
     "a word of the language": "requires ensures pub self statement met cond lem ac unfolding",
-    "a name of its libraries, or of C": "libc io::read_full io::write_all libc::read memcpy memset PROGMEM",
-    "another tool, or a word or a file of one": "rt gcc g++ cargo sha256sum pcfiledir guides/DESIGN.md",
+    "a name of its libraries, or of C": "libc memcpy memset PROGMEM",
+    "another tool, or a word or a file of one": "rt gcc g++ cargo sha256sum pcfiledir",
     "what is built": "libbus.a target/python/libbus.so py3-none-manylinux_2_17_x86_64",
     "a name in somebody's list, or a word of one": "camera camera/1 camera/2 cells-2 task.job #REF! before from",
     "how a name is written": "crate/File crate/specs/File.antt File.antt crates/crate/specs/File.antt crate::module::function "
-    "smallLetters Capital small-with-dashes small_with_underscores",
+    "Capital small_with_underscores Invariants.antt Answers.antt",
 }
 NO_NAMES = {word for words in OTHERS.values() for word in words.split()}
 TEXTS = re.compile(
@@ -100,7 +100,7 @@ class Names:
         for path in self.root.glob("crates/*/src/**/*.rt"):
             crate, _, *modules = path.relative_to(self.root / "crates").with_suffix("").parts
             names = dict.fromkeys(re.findall(r"\b(?:struct|enum|const|mod) (\w+)", self.text(path)))
-            for name, parameters in re.findall(r"\bfn (\w+)\(([^)]*)\)", self.text(path)):
+            for name, parameters in re.findall(r"\bfn (\w+)(?:<[^(]*>)?\(([^)]*)\)", self.text(path)):
                 names[name] = re.findall(r"(\w+): ", parameters)
             found.setdefault(crate, {})["" if modules == ["lib"] else "::".join(modules)] = names
         return found
@@ -113,12 +113,16 @@ class Names:
             return names.get(name) == parameters.split(", ")
         return name in names or "::".join([*modules, name]) in self.sources.get(crate, {})
 
-    def crate(self, name):
-        """All that stands in a crate."""
-        found = {one: set() for names in self.sources.get(name, {}).values() for one in names}
-        for path in (self.root / "crates" / name).rglob("*.antt"):
+    def stated(self, name):
+        """All that stands in specs/ and proofs/ of a crate."""
+        found = {}
+        for path in [path for kind in ("specs", "proofs") for path in (self.root / "crates" / name / kind).rglob("*.antt")]:
             found.update(self.file(str(path.relative_to(self.root))))
         return found
+
+    def crate(self, name):
+        """All that stands in a crate."""
+        return {**{one: set() for names in self.sources.get(name, {}).values() for one in names}, **self.stated(name)}
 
     @cached_property
     def subcommands(self):
@@ -130,7 +134,12 @@ class Names:
     @cached_property
     def anything(self):
         """Every name of the repository."""
-        found = {name for crate in self.crates for name in self.crate(crate)} | self.crates
+        return self.outside.union(*map(self.stated, self.crates))
+
+    @cached_property
+    def outside(self):
+        """The names of all but what stands in specs/ and proofs/."""
+        found = {name for modules in self.sources.values() for names in modules.values() for name in names} | self.crates
         found |= {path.stem for kind in ("specs/*.antt", "src/*.rt", "must-fail/*.edit") for path in self.root.glob(f"crates/*/{kind}")}
         for path in self.root.glob("python/bus/**/*.py"):
             found.add(path.parent.name if path.stem == "__init__" else path.stem)
@@ -290,7 +299,7 @@ class Block:
                 self.wrong.append(f"{word} stands in no file of its paragraph")
 
     def elsewhere(self, word):
-        return (not self.files or "_" in word) and word in self.names.anything
+        return word in self.names.anything if not self.files else "_" in word and word in self.names.outside
 
 
 def faults(names, text):

@@ -198,8 +198,8 @@ def of_c(text):
 
 
 FILES = (
-    (of_antt, "crates/**/*.antt"),
-    (of_rt, "crates/**/*.rt"),
+    (of_antt, "crates/*/specs/**/*.antt", "crates/*/proofs/**/*.antt"),
+    (of_rt, "crates/*/src/**/*.rt"),
     (of_edit, "crates/*/must-fail/*.edit"),
     (of_markdown, "*.md", "docs/**/*.md", "tests/*.md", "bench/*.md"),
     (of_python, "bus", "python/look", "python/**/*.py"),

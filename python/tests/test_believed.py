@@ -12,6 +12,16 @@ ROOT = Path(__file__).resolve().parents[2]
 REPOSITORY = Repository(ROOT)
 
 
+def functions(crate):
+    """The functions of a crate's src/ by file and name: what stands before the name, the parameters, the result with the clauses, and the body."""
+    found, form = {}, re.compile(r"((?:#\[[^\n]*\]\n)*(?:pub )?(?:extern \"C\" )?fn) (\w+)\(([^)]*)\)(.*?)\n\{\n(.*)", re.DOTALL)
+    for path in (ROOT / "crates" / crate / "src").glob("*.rt"):
+        for one in filter(None, map(form.search, path.read_text(encoding="utf-8").split("\n}\n"))):
+            head, name, parameters, clauses, body = one.groups()
+            found[f"{path.stem}.{name}"] = head, re.findall(r"\w+: [^,\n]+", parameters), clauses.split(), body.strip()
+    return found
+
+
 class Maps(unittest.TestCase):
     maxDiff = None
 
@@ -25,7 +35,7 @@ class Changed(unittest.TestCase):
     def setUp(self):
         self.folder = tempfile.TemporaryDirectory()
         self.root = Path(self.folder.name)
-        shutil.copytree(ROOT / "crates", self.root / "crates", ignore=shutil.ignore_patterns("proofs", "must-fail"))
+        shutil.copytree(ROOT / "crates", self.root / "crates", ignore=shutil.ignore_patterns("out", "proofs", "must-fail"))
         self.addCleanup(self.folder.cleanup)
 
     def change(self, place, *pairs):
@@ -45,12 +55,12 @@ class Changed(unittest.TestCase):
     def test_definition_moved(self):
         """A definition moves from a module that is to be believed to one with laws."""
         text = (self.root / "crates/dispatcher/specs/Dispatch.antt").read_text(encoding="utf-8")
-        moved = re.search(r"abbrev pub freshState : .*\nfreshState = .*\n", text).group(0)
+        moved = re.search(r"abbrev pub fresh_state : .*\nfresh_state = .*\n", text).group(0)
         first = text.splitlines()[0]
-        self.change("dispatcher/specs/Dispatch.antt", (moved, ""), (first, first + "\npub use Rattle·dispatcher·specs.specs.StepLaws.{freshState}"))
+        self.change("dispatcher/specs/Dispatch.antt", (moved, ""), (first, first + "\npub use Rattle.dispatcher.specs.StepLaws.{fresh_state}"))
         path = self.root / "crates/dispatcher/specs/StepLaws.antt"
         path.write_text(path.read_text(encoding="utf-8") + "\n" + moved, encoding="utf-8")
-        self.assertIn("dispatcher: StepLaws stands under 'Laws', and claims rests on it: freshState", "\n".join(self.found()))
+        self.assertIn("dispatcher: StepLaws stands under 'Laws', and claims rests on it: fresh_state", "\n".join(self.found()))
 
     def test_module_moved_out(self):
         self.change("flight/specs/Lib.antt", ("pub mod Timing\n", ""), ("-- Laws:\n", "-- Laws:\npub mod Timing\n"))
@@ -68,8 +78,8 @@ class Changed(unittest.TestCase):
 
     def test_lemma_among_definitions(self):
         path = self.root / "crates/arith/specs/Gcd.antt"
-        path.write_text(path.read_text(encoding="utf-8") + "\npub gcd-self : (a : ℕ) → gcdOf a a ≡ a\ngcd-self a = cc\n", encoding="utf-8")
-        self.assertEqual(self.found(), ["arith: Gcd stands under 'To be believed' and has the lemma gcd-self"])
+        path.write_text(path.read_text(encoding="utf-8") + "\npub gcd_self : (a : ℕ) → gcd_of a a ≡ a\ngcd_self a = cc\n", encoding="utf-8")
+        self.assertEqual(self.found(), ["arith: Gcd stands under 'To be believed' and has the lemma gcd_self"])
 
     def test_type_that_no_contract_names(self):
         self.change("flight/specs/Lib.antt", ("pub mod Serving\n", ""), ("-- Laws:\n", "-- How answers stand in types:\npub mod Serving\n-- Laws:\n"))
@@ -100,13 +110,18 @@ class Claims(unittest.TestCase):
         self.assertEqual([f"{one.file.place} {one.name}" for one in ours - named], [])
 
     def test_every_promise_has_a_row(self):
-        self.assertEqual({name for promises, _ in self.rows() for name in promises}, REPOSITORY.promises() - {"demand-2", "demand-3", "requests", "after"})
+        self.assertEqual({name for promises, _ in self.rows() for name in promises}, REPOSITORY.promises() - {"demand_2", "demand_3", "requests", "after"})
 
     def test_names_every_call_from_c(self):
-        sources = (ROOT / "crates" / "bus" / "src").glob("*.rt")
-        exported = {name for path in sources for name in re.findall(r"pub extern \"C\" fn (\w+)", path.read_text(encoding="utf-8"))}
+        """Each export of `bus_c` hands on to the call of `bus` with its name and its file, says the same of it, and `claims` names that call."""
+        exported, calls = functions("bus_c"), functions("bus")
         self.assertGreater(len(exported), 20)
-        self.assertEqual(exported - set(re.findall(r"proofs\.\w+\.(bus_\w+)\.Met", REPOSITORY.contracts.text)), set())
+        for place, (head, parameters, clauses, body) in exported.items():
+            self.assertEqual(head, '#[unsafe(no_mangle)]\npub extern "C" fn', place)
+            self.assertEqual(("pub fn", parameters, clauses), calls[place][:3], place)
+            names = ", ".join(one.split(":")[0] for one in parameters)
+            self.assertEqual(body, f"bus::{place.replace('.', '::')}({names})", place)
+        self.assertEqual(set(exported) - set(re.findall(r"Rattle\.bus\.proofs\.(\w+\.bus_\w+)\.Met", REPOSITORY.contracts.text)), set())
 
     def test_calls_ask_nothing(self):
         """No contract of a call has a `requires`; the test of a job in a frame is no call of a user."""

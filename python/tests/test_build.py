@@ -16,7 +16,7 @@ from tests.test_command import TEAM_TABLE
 
 TEAM = str(EXAMPLES / "team.csv")
 ARCHIVE = ROOT / "target" / "staticlib" / "libbus.a"
-COPY = f"/bin/mkdir -p target/staticlib && /bin/cp {shlex.quote(str(ARCHIVE))} target/staticlib"
+COPY = f"/bin/mkdir -p crates/bus_c/out && /bin/cp {shlex.quote(str(ARCHIVE))} crates/bus_c/out/libbus_c.a"
 
 
 class FirstTime(Case):
@@ -30,18 +30,22 @@ class FirstTime(Case):
         shutil.copy(ROOT / "crates.txt", self.folder)
         ignore = shutil.ignore_patterns("__pycache__")
         shutil.copytree(ROOT / "python" / "bus", self.folder / "python" / "bus", ignore=ignore)
-        source = self.folder / "crates" / "bus" / "src"
+        source = self.folder / "crates" / "bus_c" / "src"
         source.mkdir(parents=True)
         (source / "lib.rt").write_text("")
-        self.tools = self.folder / "tools"
+        (self.folder / "tools").mkdir()
+        shutil.copy(ROOT / build.ARCHIVER, self.folder / build.ARCHIVER)
+        self.tools = self.folder / "path"
         self.tools.mkdir()
-        for name in ("cc", "gcc", "ld", "as", "sh"):
+        for name in ("cc", "gcc", "ld", "as", "sh", "dirname", "mkdir", "cp", "mv"):
             if shutil.which(name):
                 os.symlink(shutil.which(name), self.tools / name)
 
     def rt(self, body):
+        """`rt lib` in the crate of the library, which does this in the folder of the copy."""
         path = self.tools / "rt"
-        path.write_text(f"#!/bin/sh\n{body}\n")
+        called = f'[ "$(pwd -P) $*" = {shlex.quote(str((self.folder / "crates" / "bus_c").resolve()))}" lib" ] || exit 9'
+        path.write_text(f"#!/bin/sh\n{called}\ncd ../..\n{body}\n")
         path.chmod(0o755)
 
     def start(self, *words):
@@ -140,16 +144,17 @@ class Ended(FirstTime):
 class Signs(FirstTime):
     def test_crates(self):
         """The crates that the library stands on, and itself."""
-        text = "# a comment\narith:\ncursor:\nrequest: cursor\nplan: request io\nbus: request arith # more\n"
-        self.assertEqual(build.crates_of("bus", text), {"bus", "request", "arith", "cursor"})
-        crates = build.crates_of("bus", (ROOT / "crates.txt").read_text(encoding="utf-8"))
-        self.assertLessEqual({"bus", "planner", "arith"}, crates)
+        text = "# a comment\narith:\ncursor:\nrequest: cursor\nplan: request io\nbus: request arith # more\nbus_c staticlib: bus\n"
+        self.assertEqual(build.crates_of("bus_c", text), {"bus_c", "bus", "request", "arith", "cursor"})
+        crates = build.crates_of(build.LIBRARY, (ROOT / "crates.txt").read_text(encoding="utf-8"))
+        self.assertLessEqual({"bus_c", "bus", "planner", "arith"}, crates)
         self.assertNotIn("plan", crates)
 
     def test_how_far(self):
         """By the lines that `rt` prints: so many crates are proved, and the next one is at work."""
-        total = len(build.crates_of("bus", (ROOT / "crates.txt").read_text(encoding="utf-8")))
-        told = "echo 'rt: arith proved (1 s)'; echo 'rt: cursor proved (unchanged since it was last proved)'"
+        total = len(build.crates_of(build.LIBRARY, (ROOT / "crates.txt").read_text(encoding="utf-8")))
+        told = "echo 'library arith: modules loaded=73 checked=0'; echo 'statements core: modules loaded=248 checked=0'"
+        told += "; echo 'crate cursor: modules loaded=139 checked=139'; echo 'fn request::read: proved'"
         self.rt(f"{told}; while [ ! -e go ]; do /bin/sleep 0.05; done; {COPY}")
         module = self.folder / "python" / "bus" / "build.py"
         text = module.read_text(encoding="utf-8")

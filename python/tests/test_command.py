@@ -7,7 +7,7 @@ import subprocess
 import unittest
 
 import bus
-from bus import lists
+from bus import build, lists
 from tests.helper import COMMAND, EXAMPLES, HANGS, ROOT, Case, example
 
 TEAM = EXAMPLES / "team.csv"
@@ -294,12 +294,14 @@ class Build(Case):
         shutil.copy(ROOT / "bus", self.folder)
         ignore = shutil.ignore_patterns("__pycache__")
         shutil.copytree(ROOT / "python" / "bus", self.folder / "python" / "bus", ignore=ignore)
-        source = self.folder / "crates" / "bus" / "src"
+        source = self.folder / "crates" / "bus_c" / "src"
         source.mkdir(parents=True)
         (source / "lib.rt").write_text("")
-        self.tools = self.folder / "tools"
+        (self.folder / "tools").mkdir()
+        shutil.copy(ROOT / build.ARCHIVER, self.folder / build.ARCHIVER)
+        self.tools = self.folder / "path"
         self.tools.mkdir()
-        for name in ("cc", "ld", "as", "sh"):
+        for name in ("cc", "ld", "as", "sh", "dirname", "mkdir", "cp", "mv"):
             if shutil.which(name):
                 os.symlink(shutil.which(name), self.tools / name)
 
@@ -319,11 +321,11 @@ class Build(Case):
         archive = ROOT / "target" / "staticlib" / "libbus.a"
         if not archive.exists():
             self.skipTest("no libbus.a to stand in for the built one")
-        copy = f"/bin/mkdir -p target/staticlib && /bin/cp {shlex.quote(str(archive))} target/staticlib"
-        self.rt(f'[ "$*" = "staticlib bus" ] && {copy}')
+        copy = f"/bin/mkdir -p out && /bin/cp {shlex.quote(str(archive))} out/libbus_c.a"
+        self.rt(f'[ "$(pwd -P) $*" = {shlex.quote(str((self.folder / "crates" / "bus_c").resolve()))}" lib" ] && {copy}')
         status, out, err = self.first("plan", str(TEAM))
         self.assertEqual((status, out), (0, TEAM_TABLE), err)
-        self.assertIn("bus: building the library by `rt staticlib bus`, which proves every function", err)
+        self.assertIn("bus: building the library by `tools/libbus`, which proves every function", err)
         self.assertRegex(err, r"done in \d+ seconds")
         self.assertRegex(err, r"linked target/python/libbus.so from target/staticlib/libbus.a in \d+\.\d seconds")
         self.assertEqual(self.first("plan", str(TEAM)), (0, TEAM_TABLE, ""))
@@ -343,7 +345,7 @@ class Build(Case):
         self.rt("echo proofs are missing; exit 3")
         status, out, err = self.first("plan", str(TEAM))
         self.assertEqual((status, out), (2, ""))
-        self.assertIn("`rt staticlib bus` failed", err)
+        self.assertIn("`tools/libbus` failed", err)
         self.assertIn("proofs are missing", err)
 
     def test_a_library_from_elsewhere(self):

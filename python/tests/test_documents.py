@@ -98,7 +98,7 @@ class Architecture(Case):
         """docs/ARCHITECTURE.md has the groups of crates.txt, and in each the same crates in the same order."""
         listed, groups = {}, re.split(r"^# (\w+): .*\n", text_of("crates.txt"), flags=re.MULTILINE)[1:]
         for name, lines in zip(groups[::2], groups[1::2]):
-            listed[name] = re.findall(r"^(\w+):", lines, re.MULTILINE)
+            listed[name] = re.findall(r"^(\w+)(?: staticlib)?:", lines, re.MULTILINE)
         self.assertEqual(sum(map(len, listed.values())), len(list((ROOT / "crates").iterdir())))
         layers = text_of("docs/ARCHITECTURE.md").split("## Layers\n")[1].split("\n## ")[0]
         told = {}

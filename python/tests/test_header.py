@@ -93,7 +93,7 @@ class Installed(Case):
     def test_readme(self):
         """README's line installs header and library under a prefix, and pkg-config finds them there."""
         library_path()
-        self.assertTrue(ARCHIVE.exists(), "`rt staticlib bus` makes it")
+        self.assertTrue(ARCHIVE.exists(), "`tools/libbus` makes it")
         line = re.search(r"^    (install -D.*)$", README, re.MULTILINE).group(1)
         environment = {**os.environ, "PREFIX": str(self.folder), "PKG_CONFIG_PATH": str(self.folder / "lib/pkgconfig")}
         subprocess.run(["sh", "-c", line], cwd=ROOT, env=environment, check=True)

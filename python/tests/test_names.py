@@ -34,20 +34,21 @@ class Documents(unittest.TestCase):
         self.assertEqual(faults(NAMES, text.replace(old, new)), list(found))
 
     def test_name_that_is_gone(self):
-        self.planted("MODEL", "`cycle/Cycle` jobsIn, jobOf.", "`cycle/Cycle` jobsIn, jobMade.", "jobMade does not stand in cycle/Cycle")
-        self.planted("MODEL", "(wellAsked)", "(askedWell)", "askedWell stands in no file of its paragraph")
-        self.planted("DECISIONS", "`busyTicks`", "`ticksBusy`", "`ticksBusy` is nothing that exists")
+        self.planted("MODEL", "`cycle/Cycle` jobs_in, job_of.", "`cycle/Cycle` jobs_in, job_made.", "job_made does not stand in cycle/Cycle")
+        self.planted("MODEL", "(well_asked)", "(asked_well)", "asked_well stands in no file of its paragraph")
+        self.planted("DECISIONS", "`busy_ticks`", "`ticks_busy`", "`ticks_busy` is nothing that exists")
         self.planted("ARCHITECTURE", "CutExact (the statement)", "CutWhole (the statement)", "CutWhole does not stand in Exactly.antt")
         self.planted("ARCHITECTURE", "`cycle/Cycle.planned`", "`cycle/Cycle.sorted`", "`cycle/Cycle.sorted`: specs/ has no such name")
         self.planted("READING", "must-fail/leaves_time_for_d`", "must-fail/no_time`", "`flight/must-fail/no_time` is nothing that exists")
 
     def test_name_in_the_wrong_file(self):
-        self.planted("MODEL", "`planner/Outcome` outcomeBy", "`planner/Moved` outcomeBy", "outcomeBy does not stand in planner/Moved")
-        fields = [f"{field} is no field of IsPlan" for field in ("not-early", "not-late")]
-        self.planted("MODEL", "`model/Plan` InWindow: not-early", "`model/Plan` IsPlan: not-early", *fields)
+        self.planted("MODEL", "`planner/Outcome` outcome_by", "`planner/Moved` outcome_by", "outcome_by does not stand in planner/Moved")
+        fields = [f"{field} is no field of IsPlan" for field in ("not_early", "not_late")]
+        self.planted("MODEL", "`model/Plan` InWindow: not_early", "`model/Plan` IsPlan: not_early", *fields)
+        self.planted("MODEL", "(well_asked)", "(gcd_of)", "gcd_of stands in no file of its paragraph")
         self.planted("DECISIONS", "`cursor/specs/Padded.antt`", "`cursor/specs/Range.antt`", "`padded` does not stand in cursor/specs/Range.antt")
         self.planted("ARCHITECTURE", "(`Testing` of `searcher/", "(`Testing` of `sweep/", "`Testing` does not stand in sweep/specs/Arrays.antt")
-        self.planted("ARCHITECTURE", "`not-early` of `InWindow`", "`not-early` of `IsPlan`", "`not-early` does not stand in IsPlan")
+        self.planted("ARCHITECTURE", "`not_early` of `InWindow`", "`not_early` of `IsPlan`", "`not_early` does not stand in IsPlan")
         self.planted("READING", "`model/specs/Plan` IsPlan", "`model/specs/Chosen` IsPlan", "IsPlan does not stand in model/specs/Chosen")
 
     def test_function_in_the_wrong_crate(self):

@@ -107,10 +107,10 @@ class Wheel(Case):
         """What an archive of the sources has: all that is needed to build, and nothing that was built."""
         with tarfile.open(self.made("build_sdist")) as archive:
             names = archive.getnames()
-        needed = ["pyproject.toml", "PKG-INFO", "bus", "crates.txt", "crates/bus/src/lib.rt"]
+        needed = ["pyproject.toml", "PKG-INFO", "bus", "crates.txt", "crates/bus/src/lib.rt", "crates/bus_c/src/lib.rt", "tools/libbus"]
         for name in needed:
             self.assertIn(f"wethlak-{__version__}/{name}", names)
-        self.assertFalse([name for name in names if re.search(r"/(target|\.git|__pycache__)/|\.so$", name)])
+        self.assertFalse([name for name in names if re.search(r"/(target|out|\.git|__pycache__)/|\.so$", name)])
 
 
 @unittest.skipUnless(SHARED.exists() or ARCHIVE.exists(), "the library is not built")
