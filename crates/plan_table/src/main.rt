@@ -1,7 +1,7 @@
 #![tactic(auto)]
 // Reads a request from standard input and writes the table of its plan to standard output. Without a plan it prints `refused N` on
 // standard error and nothing on standard output.
-ghost use Rattle.std.specs.Prelude.{◌≡◌, ◌≤◌, length};
+ghost use Rattle.std.specs.Prelude.{◌≡◌, ◌≤◌, length, take};
 ghost use Rattle.plan_writer.specs.Outcome.{outcome_buffer};
 ghost use Rattle.planner.specs.Outcome.{program_tries, outcome_within, searched_answer};
 
@@ -11,7 +11,7 @@ use planner::Searched;
 fn plan(request: &[u8], out: &mut [u8]) -> Searched
     ensures value { (result ≡ searched_answer program_tries request.now out.old)
         × (out.new ≡ outcome_buffer (outcome_within program_tries request.now) out.old) }
-    ensures prefix_len { result.length ≤ length out.new }
+    ensures prefix_len { (result.length ≤ length out.new) × (result.length ≡ length (take result.length out.new)) }
 {
     planner::plan(request, planner::PROGRAM_TRIES, out)
 }

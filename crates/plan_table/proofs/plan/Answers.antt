@@ -1,5 +1,6 @@
 -- The answer and the buffer are the planner's; its length is within the buffer, which keeps its length.
-use Rattle.std.proofs.Common.{◌≤◌, arith, length}
+use Rattle.std.proofs.Common.{◌≤◌, arith, length, sym}
+use Rattle.std.proofs.lemmas.List.{length-take-le}
 use Rattle.planner.specs.Outcome.{program_tries}
 use Rattle.planner.specs.TableLaws.{searched_length}
 use Rattle.plan_table.proofs.plan.Goals as goal
@@ -8,4 +9,5 @@ pub returns-clause-prefix_len : goal.returns-clause-prefix_len
 returns-clause-prefix_len c =
     let size : c.plan.result.length ≤ length c.args.out.now =
     searched_length program_tries c.args.request.now c.args.out.now c.plan.ensures.0 in
-    omega (arith, size, c.plan.auto.out)
+    let within : c.plan.result.length ≤ length c.plan.new.out = omega (arith, size, c.plan.auto.out) in
+    (within, sym (length-take-le c.plan.result.length c.plan.new.out within))
