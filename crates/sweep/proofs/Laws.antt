@@ -107,7 +107,7 @@ module _ (g : List (List ℕ)) (links : List ℕ) (s : List (List ℕ)) (ps : Li
   unfolding rules_in
   skipped_row p e = rw e
 
-  pub no_room : (room : ℕ) → room < cost → false ≡ puts u ps room i
+  pub no_room : (room : ℕ) → room < cost → leb cost room ≡ puts u ps room i
   unfolding rules_in
   no_room room h = rw (lt-leb cost room h)
 
@@ -119,7 +119,7 @@ module _ (g : List (List ℕ)) (links : List ℕ) (s : List (List ℕ)) (ps : Li
   unfolding rules_in
   cost_within room e = leb-true cost room (both_true (leb cost room) (all_in (put_by (sides_in s) ps i) (links_at (counts_in g) links i)) e).0
 
-  pub last_row : (p : ℕ) → get_or (part_in s 1) i 0 ≤ p + 1 → false ≡ leaves u p ps i
+  pub last_row : (p : ℕ) → get_or (part_in s 1) i 0 ≤ p + 1 → ltb (p + 1) (get_or (part_in s 1) i 0) ≡ leaves u p ps i
   unfolding rules_in
   last_row p h = rw (le-ltb (p + 1) (get_or (part_in s 1) i 0) h)
 

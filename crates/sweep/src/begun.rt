@@ -11,7 +11,7 @@ fn add_bit(begun: &mut [u64; 512], k: usize, j: usize)
     requires { (k < 512) × (j < 64) }
     ensures { begun.new ≡ with_bit begun.old k j }
 {
-    begun[k] = begun[k] | (1u64 << (j as u32));
+    begun[k] |= 1u64 << (j as u32);
 }
 
 // Each job has its bit in its first row.
@@ -28,13 +28,10 @@ fn in_first_rows(
 {
     let rows = given[4][0];
     let n = given[4][2] as usize;
-    let mut i = 0;
-    while i < n {
-        let row = swept[0][i];
+    for (i, &row) in swept[0][..n].iter().enumerate() {
         if row < rows {
             add_bit(begun, 2 * (row as usize) + i / 64, i % 64);
         }
-        i += 1;
     }
 }
 
@@ -50,10 +47,8 @@ pub(super) fn begun_of(
     let mut begun = [0u64; 512];
     in_first_rows(given, links, swept, &mut begun);
     let end = 2 * (given[4][0] as usize);
-    let mut k = 2;
-    while k < end {
-        begun[k] = begun[k] | begun[k - 2];
-        k += 1;
+    for k in 2..end {
+        begun[k] |= begun[k - 2];
     }
     begun
 }

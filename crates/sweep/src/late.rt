@@ -16,13 +16,6 @@ pub(super) fn add_at(due: &mut [u32; 257], e: u16, c: u16)
     due[e as usize] += c as u32;
 }
 
-fn later(a: u16, b: u16) -> u16 {
-    if a < b {
-        return b;
-    }
-    a
-}
-
 // Takes c off at place e, if there is one. Answers the later of e and `reach`.
 pub(super) fn take_at(due: &mut [u32; 257], e: u16, c: u16, reach: u16) -> u16
     requires { e ≤ 256 → c ≤ get_or due.old e 0 }
@@ -32,7 +25,7 @@ pub(super) fn take_at(due: &mut [u32; 257], e: u16, c: u16, reach: u16) -> u16
         return e;
     }
     due[e as usize] -= c as u32;
-    later(e, reach)
+    e.max(reach)
 }
 
 // What the jobs take, where none has a row yet.
@@ -46,11 +39,8 @@ pub(super) fn due_times(
 {
     let n = given[4][2] as usize;
     let mut due = [0u32; 257];
-    let mut i = 0;
-    while i < n {
-        let c = searcher::entry(given, 0, i);
-        add_at(&mut due, swept[1][i], c);
-        i += 1;
+    for i in 0..n {
+        add_at(&mut due, swept[1][i], given[0][i]);
     }
     due
 }
@@ -61,16 +51,10 @@ pub(super) fn due_times(
 fn stop_row(rows: u16, p: u16, space: u16, reach: u16) -> u16
     ensures { result ≤ rows }
 {
-    if p < 2 {
+    if p < 2 || space != 0 {
         return rows;
     }
-    if space != 0 {
-        return rows;
-    }
-    if reach > rows {
-        return rows;
-    }
-    reach
+    reach.min(rows)
 }
 
 // Whether the jobs without a row need too much of the rows from p on up to some row.
@@ -93,12 +77,10 @@ pub(super) fn is_late(
     let rows = given[4][0];
     let stop = stop_row(rows, p, space, reach);
     let f = searcher::entry(given, 4, 1) as u32;
-    let mut e = p;
     let mut sum: u32 = 0;
     let mut room: u32 = 0;
-    while e < stop {
-        e += 1;
-        sum += due[e as usize];
+    for e in p..stop {
+        sum += due[e as usize + 1];
         room += f;
         if sum > room {
             return true;

@@ -32,10 +32,7 @@ fn is_skipped(
     requires { i < 128 }
     ensures { result ≡ skips (rules_in given.now links.now swept.now) p flags.now i }
 {
-    if flags[i] {
-        return true;
-    }
-    p < swept[0][i]
+    flags[i] || p < swept[0][i]
 }
 
 // Job i may be put into the row, which has this room left.
@@ -50,10 +47,7 @@ fn may_put(
     requires { LinksBack (counts_in given.now) links.now i }
     ensures { result ≡ puts (rules_in given.now links.now swept.now) flags.now room i }
 {
-    if given[0][i] > room {
-        return false;
-    }
-    order::all_let_put(given, links, swept, flags, i)
+    given[0][i] <= room && order::all_let_put(given, links, swept, flags, i)
 }
 
 // Job i may be left out of row p: it has a later one.
@@ -68,10 +62,7 @@ fn may_leave(
     requires { (p < 65535) × LinksBack (counts_in given.now) links.now i }
     ensures { result ≡ leaves (rules_in given.now links.now swept.now) p flags.now i }
 {
-    if p + 1 >= swept[1][i] {
-        return false;
-    }
-    order::all_let_leave(given, links, swept, flags, i)
+    p + 1 < swept[1][i] && order::all_let_leave(given, links, swept, flags, i)
 }
 
 // Job i, left out of row p, could still be put into it.
@@ -87,16 +78,10 @@ fn could_put(
     requires { LinksBack (counts_in given.now) links.now i }
     ensures { result ≡ true → more (rules_in given.now links.now swept.now) p flags.now room i ≡ true }
 {
-    if given[0][i] > room {
-        return false;
-    }
-    if is_skipped(given, links, swept, flags, p, i) {
-        return false;
-    }
-    if swept[3][i] != 0 {
-        return false;
-    }
-    may_put(given, links, swept, flags, room, i)
+    given[0][i] <= room
+        && !is_skipped(given, links, swept, flags, p, i)
+        && swept[3][i] == 0
+        && may_put(given, links, swept, flags, room, i)
 }
 
 // Some job of the row could.
@@ -141,10 +126,7 @@ fn still_kept(swept: &[[u16; 128]; 4], i: usize, kept: bool) -> bool
     requires { i < 128 }
     ensures { result ≡ true → (kept ≡ true) × (tied_in swept.now i ≡ false) }
 {
-    if swept[3][i] != 0 {
-        return false;
-    }
-    kept
+    kept && swept[3][i] == 0
 }
 
 // The order is kept: so it was, or all jobs are in order.
@@ -159,10 +141,7 @@ fn is_kept(
     requires ordered { kept ≡ true → Ordered (rules_in given.now links.now swept.now) flags.now }
     ensures { result ≡ true → Ordered (rules_in given.now links.now swept.now) flags.now }
 {
-    if kept {
-        return true;
-    }
-    order::all_in_order(given, links, swept, flags)
+    kept || order::all_in_order(given, links, swept, flags)
 }
 
 // A run that began in row p and answered e has shown that the state of the next row fails, and the order is kept there.
@@ -179,10 +158,7 @@ fn is_worth_noting(
     requires ordered { kept ≡ true → Ordered (rules_in given.now links.now swept.now) flags.now }
     ensures { result ≡ true → (p < e) × Ordered (rules_in given.now links.now swept.now) flags.now }
 {
-    if p >= e {
-        return false;
-    }
-    is_kept(given, links, swept, flags, kept)
+    p < e && is_kept(given, links, swept, flags, kept)
 }
 
 // The first job from job i on that is not passed over in row p, or `end`, or i if that is behind it. The bits lead to it, and the job is tested.

@@ -47,19 +47,8 @@ fn free_slot(marks: &[u16; 5120], p: u16, h: usize) -> usize
     ensures { result < 5120 }
 {
     let s = row_slot(p);
-    if marks[s] == 0 {
-        return s;
-    }
-    if marks[s + 1] == 0 {
-        return s + 1;
-    }
-    if marks[s + 2] == 0 {
-        return s + 2;
-    }
-    if marks[s + 3] == 0 {
-        return s + 3;
-    }
-    s + h % 4
+    let free = marks[s..s + 4].iter().position(|&mark| mark == 0);
+    s + free.unwrap_or(h % 4)
 }
 
 // Place s has a state of row p whose flags are these and perhaps more.
@@ -67,13 +56,7 @@ fn covers(marks: &[u16; 5120], words: &[u64], p: u16, low: u64, high: u64, s: us
     requires { (p < 65535) × (s < 5120) × (length marks.now ≡ 5120) × (length words.now ≡ 10240) }
     ensures { result ≡ true → Covers (marks.now ++ words.now) p low high s }
 {
-    if marks[s] != p + 1 {
-        return false;
-    }
-    if (low & words[s]) != low {
-        return false;
-    }
-    (high & words[5120 + s]) == high
+    marks[s] == p + 1 && low & words[s] == low && high & words[5120 + s] == high
 }
 
 // The state of row p is known to fail.
@@ -81,21 +64,11 @@ pub(super) fn known(marks: &[u16; 5120], words: &[u64], p: u16, low: u64, high: 
     requires { (p < 65535) × (length marks.now ≡ 5120) × (length words.now ≡ 10240) }
     ensures { result ≡ true → Knows (marks.now ++ words.now) p low high }
 {
-    let h = slot(p, low, high);
-    if covers(marks, words, p, low, high, h) {
+    if covers(marks, words, p, low, high, slot(p, low, high)) {
         return true;
     }
-    let s = row_slot(p);
-    if covers(marks, words, p, low, high, s) {
-        return true;
-    }
-    if covers(marks, words, p, low, high, s + 1) {
-        return true;
-    }
-    if covers(marks, words, p, low, high, s + 2) {
-        return true;
-    }
-    covers(marks, words, p, low, high, s + 3)
+    let first = row_slot(p);
+    (first..first + 4).any(|s| covers(marks, words, p, low, high, s))
 }
 
 // Stores the state at place s.

@@ -107,12 +107,5 @@ pub(super) fn all_in_order(
     ensures { result ≡ true → AllInOrder (rules_in given.now links.now swept.now) flags.now }
 {
     let n = given[4][2] as usize;
-    let mut i = 0;
-    while i < n {
-        if !is_in_order(given, links, swept, flags, i) {
-            return false;
-        }
-        i += 1;
-    }
-    true
+    (0..n).all(|i| is_in_order(given, links, swept, flags, i))
 }

@@ -5,12 +5,10 @@ use Rattle.sweep.proofs.may_leave.Goals as goal
 
 pub returns-then-p-swept : goal.returns-then-p-swept
 returns-then-p-swept c =
-    let if1 = c.if-p-swept in
-    last_row c.args.given.now c.args.links.now c.args.swept.now c.args.flags.now c.args.i c.args.p if1.true
+    let a = c.args in
+    c.all_let_leave.ensures ∙ later_row a.given.now a.links.now a.swept.now a.flags.now a.i a.p c.if-p-swept.true
 
-pub returns : goal.returns
-returns c =
-    let all-let-leave = c.all_let_leave in
-    let if1 = c.if-p-swept in
-    all-let-leave.ensures ∙ later_row c.args.given.now c.args.links.now c.args.swept.now c.args.flags.now c.args.i
-    c.args.p if1.false
+pub returns-else-p-swept : goal.returns-else-p-swept
+returns-else-p-swept c =
+    let a = c.args in
+    last_row a.given.now a.links.now a.swept.now a.flags.now a.i a.p c.if-p-swept.false

@@ -5,12 +5,10 @@ use Rattle.sweep.proofs.may_put.Goals as goal
 
 pub returns-then-given-i : goal.returns-then-given-i
 returns-then-given-i c =
-    let if1 = c.if-given-i in
-    no_room c.args.given.now c.args.links.now c.args.swept.now c.args.flags.now c.args.i c.args.room if1.true
+    let a = c.args in
+    c.all_let_put.ensures ∙ room_for a.given.now a.links.now a.swept.now a.flags.now a.i a.room c.if-given-i.true
 
-pub returns : goal.returns
-returns c =
-    let all-let-put = c.all_let_put in
-    let if1 = c.if-given-i in
-    all-let-put.ensures ∙ room_for c.args.given.now c.args.links.now c.args.swept.now c.args.flags.now c.args.i
-    c.args.room if1.false
+pub returns-else-given-i : goal.returns-else-given-i
+returns-else-given-i c =
+    let a = c.args in
+    no_room a.given.now a.links.now a.swept.now a.flags.now a.i a.room c.if-given-i.false

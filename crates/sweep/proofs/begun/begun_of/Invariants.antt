@@ -1,11 +1,7 @@
 -- The words one after the other, from the second row on.
-use Rattle.std.proofs.Common.{◌≤◌, ◌-◌}
 use Rattle.searcher.specs.Arrays.{rows_in, jobs_in}
 use Rattle.sweep.specs.Arrays.{rules_in, Beginning}
 use Rattle.sweep.proofs.begun.begun_of.Given as goal
 
 abbrev pub invariant-loop-k : goal.invariant-loop-k
-invariant-loop-k l = (2 ≤ l.k) × Beginning (rules_in l.given l.links l.swept) (rows_in l.given) (jobs_in l.given) l.k l.begun
-
-abbrev pub decreases-loop-k : goal.decreases-loop-k
-decreases-loop-k l = l.end - l.k
+invariant-loop-k l = Beginning (rules_in l.given l.links l.swept) (rows_in l.given) (jobs_in l.given) l.k l.begun

@@ -1,11 +1,7 @@
 -- The jobs one after the other.
-use Rattle.std.proofs.Common.{◌≤◌, ◌-◌, false, replicate}
-use Rattle.searcher.specs.Arrays.{jobs_in}
+use Rattle.std.proofs.Common.{false, replicate}
 use Rattle.sweep.specs.Arrays.{rules_in, Due}
 use Rattle.sweep.proofs.late.due_times.Given as goal
 
 abbrev pub invariant-loop-i : goal.invariant-loop-i
-invariant-loop-i l = (l.i ≤ jobs_in l.given) × Due (rules_in l.given l.links l.swept) (replicate 128 false) l.i l.due
-
-abbrev pub decreases-loop-i : goal.decreases-loop-i
-decreases-loop-i l = l.n - l.i
+invariant-loop-i l = Due (rules_in l.given l.links l.swept) (replicate 128 false) l.i l.due

@@ -1,13 +1,8 @@
 -- The rows one after the other, up to one where no more is asked: what is needed up to this one, and what there is.
-use Rattle.std.proofs.Common.{◌-◌}
 use Rattle.searcher.specs.Arrays.{rows_in}
 use Rattle.sweep.specs.Arrays.{rules_in}
 use Rattle.sweep.proofs.LateLaws.{Comparing}
 use Rattle.sweep.proofs.late.is_late.Given as goal
 
 abbrev pub invariant-loop-e : goal.invariant-loop-e
-invariant-loop-e l =
-    Comparing (rules_in l.given l.links l.swept) (rows_in l.given) l.p l.flags l.e l.sum l.room
-
-abbrev pub decreases-loop-e : goal.decreases-loop-e
-decreases-loop-e l = l.stop - l.e
+invariant-loop-e l = Comparing (rules_in l.given l.links l.swept) (rows_in l.given) l.p l.flags l.e l.sum l.room
