@@ -4,7 +4,7 @@ use Rattle.std.specs.Int.Bits.{bit_or}
 use Rattle.search.specs.Placing.{links_at}
 use Rattle.searcher.specs.Arrays.{part_in, counts_in, rows_in, jobs_in, LinksBack}
 use Rattle.exact.specs.Sweep.{Rules, sum, skips, From, Rest, Ordered}
-use Rattle.exact.specs.Sided.{Jobs, rules_of}
+use Rattle.exact.specs.Sided.{Jobs, rules_of, put_by, leave_by}
 use Rattle.exact.specs.SweepLaws.{Putting}
 use Rattle.exact.specs.Words.{word_at}
 use Rattle.sweep.specs.Memo.{Sound}
@@ -38,6 +38,10 @@ pub record Sweepable (g : List (List ℕ)) (links : List ℕ) : Type 0 where
   pub few : jobs_in g ≤ 128
   pub few_rows : rows_in g ≤ 256
   pub back : (i : ℕ) → i < jobs_in g → LinksBack (counts_in g) links i
+
+-- link l of job i lets it be put into the row, or left out of it
+abbrev pub lets_by : Bool → (ℕ → ℕ) → List Bool → ℕ → ℕ → Bool
+lets_by put side ps i l = cond put (put_by side ps i l) (leave_by side ps i l)
 
 -- bit j of a number
 abbrev pub bit : ℕ → ℕ → ℕ

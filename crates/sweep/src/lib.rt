@@ -47,7 +47,7 @@ fn may_put(
     requires { LinksBack (counts_in given.now) links.now i }
     ensures { result ≡ puts (rules_in given.now links.now swept.now) flags.now room i }
 {
-    given[0][i] <= room && order::all_let_put(given, links, swept, flags, i)
+    given[0][i] <= room && order::all_let(given, links, swept, flags, i, true)
 }
 
 // Job i may be left out of row p: it has a later one.
@@ -62,7 +62,7 @@ fn may_leave(
     requires { (p < 65535) × LinksBack (counts_in given.now) links.now i }
     ensures { result ≡ leaves (rules_in given.now links.now swept.now) p flags.now i }
 {
-    p + 1 < swept[1][i] && order::all_let_leave(given, links, swept, flags, i)
+    p + 1 < swept[1][i] && order::all_let(given, links, swept, flags, i, false)
 }
 
 // Job i, left out of row p, could still be put into it.

@@ -3,80 +3,41 @@ ghost use Rattle.std.specs.Prelude.{◌≡◌, true, ◌<◌};
 ghost use Rattle.search.specs.Placing.{links_at};
 ghost use Rattle.searcher.specs.Arrays.{counts_in, LinksBack};
 ghost use Rattle.exact.specs.Sweep.{in_order, AllInOrder};
-ghost use Rattle.exact.specs.Sided.{all_in, put_by, leave_by};
-ghost use Rattle.sweep.specs.Arrays.{sides_in, rules_in, Sweepable};
+ghost use Rattle.exact.specs.Sided.{all_in};
+ghost use Rattle.sweep.specs.Arrays.{sides_in, lets_by, rules_in, Sweepable};
 
-// Link l of job i lets it be put into the row: the partner that must not be later has a row.
-fn lets_put(swept: &[[u16; 128]; 4], flags: &[bool; 128], i: usize, l: u8) -> bool
-    requires { i < 128 }
-    ensures { result ≡ put_by (sides_in swept.now) flags.now i l }
+// The links of job i.
+fn links_of<'a>(given: &[[u16; 128]; 5], links: &'a [u8; 2048], i: usize) -> &'a [u8]
+    requires { LinksBack (counts_in given.now) links.now i }
+    ensures { result.now ≡ links_at (counts_in given.now) links.now i }
 {
-    if l >= 128 {
-        return true;
-    }
-    if swept[2][l as usize] != swept[2][i] {
-        return true;
-    }
-    flags[l as usize]
+    let first = 16 * i;
+    &links[first..first + given[3][i] as usize]
 }
 
-// Link l of job i lets it be left out of the row: the partner that must not be earlier has no row.
-fn lets_leave(swept: &[[u16; 128]; 4], flags: &[bool; 128], i: usize, l: u8) -> bool
+// If `put`, link l of job i lets it be put into the row: the partner that must not be later has a row. If not, the link lets it be left out of the row:
+// the partner that must not be earlier has none.
+fn lets(swept: &[[u16; 128]; 4], flags: &[bool; 128], i: usize, l: u8, put: bool) -> bool
     requires { i < 128 }
-    ensures { result ≡ leave_by (sides_in swept.now) flags.now i l }
+    ensures { result ≡ lets_by put (sides_in swept.now) flags.now i l }
 {
-    if l < 128 {
-        return true;
-    }
-    let z = (l - 128) as usize;
-    if swept[2][z] != swept[2][i] {
-        return true;
-    }
-    !flags[z]
+    let partner = (l % 128) as usize;
+    (l >= 128) == put || swept[2][partner] != swept[2][i] || flags[partner] == put
 }
 
-// Every link of job i lets it be put into the row.
-pub(super) fn all_let_put(
+// Every link of job i lets it be put into the row, or left out of it.
+pub(super) fn all_let(
     given: &[[u16; 128]; 5],
     links: &[u8; 2048],
     swept: &[[u16; 128]; 4],
     flags: &[bool; 128],
     i: usize,
+    put: bool,
 ) -> bool
     requires { LinksBack (counts_in given.now) links.now i }
-    ensures { result ≡ all_in (put_by (sides_in swept.now) flags.now i) (links_at (counts_in given.now) links.now i) }
+    ensures { result ≡ all_in (lets_by put (sides_in swept.now) flags.now i) (links_at (counts_in given.now) links.now i) }
 {
-    let mut at = 16 * i;
-    let end = at + given[3][i] as usize;
-    while at < end {
-        if !lets_put(swept, flags, i, links[at]) {
-            return false;
-        }
-        at += 1;
-    }
-    true
-}
-
-// Every link of job i lets it be left out of the row.
-pub(super) fn all_let_leave(
-    given: &[[u16; 128]; 5],
-    links: &[u8; 2048],
-    swept: &[[u16; 128]; 4],
-    flags: &[bool; 128],
-    i: usize,
-) -> bool
-    requires { LinksBack (counts_in given.now) links.now i }
-    ensures { result ≡ all_in (leave_by (sides_in swept.now) flags.now i) (links_at (counts_in given.now) links.now i) }
-{
-    let mut at = 16 * i;
-    let end = at + given[3][i] as usize;
-    while at < end {
-        if !lets_leave(swept, flags, i, links[at]) {
-            return false;
-        }
-        at += 1;
-    }
-    true
+    links_of(given, links, i).iter().all(|&l| lets(swept, flags, i, l, put))
 }
 
 // The tests of the order hold of job i between two rows.
@@ -90,10 +51,7 @@ fn is_in_order(
     requires { LinksBack (counts_in given.now) links.now i }
     ensures { result ≡ in_order (rules_in given.now links.now swept.now) flags.now i }
 {
-    if flags[i] {
-        return all_let_put(given, links, swept, flags, i);
-    }
-    all_let_leave(given, links, swept, flags, i)
+    all_let(given, links, swept, flags, i, flags[i])
 }
 
 // They hold of all jobs.

@@ -6,7 +6,7 @@ use Rattle.sweep.proofs.may_put.Goals as goal
 pub returns-then-given-i : goal.returns-then-given-i
 returns-then-given-i c =
     let a = c.args in
-    c.all_let_put.ensures ∙ room_for a.given.now a.links.now a.swept.now a.flags.now a.i a.room c.if-given-i.true
+    c.all_let.ensures ∙ room_for a.given.now a.links.now a.swept.now a.flags.now a.i a.room c.if-given-i.true
 
 pub returns-else-given-i : goal.returns-else-given-i
 returns-else-given-i c =

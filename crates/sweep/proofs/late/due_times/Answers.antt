@@ -1,5 +1,5 @@
 -- None takes anything at first, and each job adds its cost.
-use Rattle.std.proofs.Common.{arith, rules, sym, refl, false, replicate}
+use Rattle.std.proofs.Common.{rules, sym, false, replicate}
 use Rattle.sweep.specs.Arrays.{rules_in}
 use Rattle.sweep.proofs.LateLaws.{end_of, cost_of_lem, sided_of, no_flag, due_none, due_more}
 use Rattle.sweep.proofs.late.due_times.Goals as goal
