@@ -11,7 +11,7 @@ fn add_bit(begun: &mut [u64; 512], k: usize, j: usize)
     requires { (k < 512) × (j < 64) }
     ensures { begun.new ≡ with_bit begun.old k j }
 {
-    begun[k] |= 1u64 << (j as u32);
+    begun[k] |= 1u64 << j;
 }
 
 // Each job has its bit in its first row.
@@ -58,7 +58,8 @@ fn free_place(begun: u64, put: u64, i: usize) -> usize
     requires { i < 64 }
     ensures { (i ≤ result) × (result ≤ 128) × Unfree begun put i result }
 {
-    i + (u64::trailing_zeros((begun & (begun ^ put)) >> (i as u32)) as usize)
+    let free = begun & (begun ^ put);
+    i + (free >> i).trailing_zeros() as usize
 }
 
 // Jobs from job i on up to the answer are passed over in row p.

@@ -10,14 +10,10 @@ pub(super) fn with_flag(flags: &[bool; 128], i: usize, w: u64, a: usize) -> u64
     requires { (i < 128) × (length flags.now ≡ 128) × (get_or flags.now i false ≡ false) × (w ≡ word_at flags.now a) }
     ensures { result ≡ word_at (set flags.now i true) a }
 {
-    if i < a {
+    if i < a || i - a >= 64 {
         return w;
     }
-    let j = (i - a) as u32;
-    if j >= 64 {
-        return w;
-    }
-    w + (1u64 << j)
+    w + (1u64 << (i - a))
 }
 
 // The middle of a sum of products: words that are near each other come far apart.

@@ -4,12 +4,6 @@ use lib.Count.{trailing_le}
 use Rattle.sweep.proofs.BitLaws.{unfree}
 use Rattle.sweep.proofs.begun.free_place.Goals as goal
 
-pub overflow_cast-result-3 : goal.overflow_cast-result-3
-overflow_cast-result-3 c = omega (arith, trailing_le 64 (bit_and c.args.begun (bit_xor c.args.begun c.args.put) / 2 ^ c.args.i))
-
-pub overflow_add-result : goal.overflow_add-result
-overflow_add-result c = omega (arith, c.requires, trailing_le 64 (bit_and c.args.begun (bit_xor c.args.begun c.args.put) / 2 ^ c.args.i))
-
 pub returns : goal.returns
 returns c = (
   omega arith,

@@ -3,17 +3,6 @@ use Rattle.std.proofs.Common.{arith, ◌≡◌, ◌++◌, length}
 use Rattle.sweep.specs.Memo.{memo_size, noted_both}
 use Rattle.sweep.proofs.memory.note.Goals as goal
 
-pub store-requires : goal.store-requires
-store-requires c = (c.requires.0, omega (arith, c.slot-h.ensures), c.requires.1, c.requires.2)
-
-pub store-requires-2 : goal.store-requires-2
-store-requires-2 c = (
-  c.requires.0,
-  c.free_slot-s.ensures,
-  c.store.ensures.1,
-  c.store.ensures.2,
-)
-
 pub returns : goal.returns
 returns c =
     let store = c.store in
