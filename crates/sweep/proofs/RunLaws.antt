@@ -1,7 +1,9 @@
 -- Laws of the run through the rows, one for each way through its code: what is left to run answers for the whole, and, once the next row has
 -- begun, for that row. All rows of one run have the same flags. Assumes nothing.
 use mathlib.Core.Path.{◌≡◌, refl, sym, ap, subst, ◌∙◌}
-use mathlib.Core.Bool.{Bool, true, false}
+use mathlib.Core.Bool.{Bool, true, false, not, false≢true}
+use Rattle.std.specs.Option.{IfSome, is_some}
+use Rattle.std.specs.Prelude.{Option, None, Some}
 use mathlib.Core.Logic.{⊎_elim}
 use mathlib.Core.List.{List, ◌++◌}
 use Prim.Native.Nat.{ℕ, zero, suc, ◌+◌, ◌-◌, ◌≤◌, ◌<◌}
@@ -269,6 +271,15 @@ going_first u rows e {due} {words} d n = record {
   times = subst (λ (k : ℕ). Due u (replicate 128 false) k due) (sym e) d;
   memory = record { marks_size = length-replicate {A = ℕ} 5120 0; words_size = n; sound = sound_first u rows words };
 }
+
+-- what the answer says
+pub failed_at : {u : Rules} {rows p i room : ℕ} {ps : List Bool} {due : List ℕ} {r : Option ℕ} {e : ℕ} {ps' : List Bool} {due' marks' words' : List ℕ}
+    → r ≡ Some e → IfSome r (λ e. Failed u rows p i room ps due e ps' due' marks' words') → Failed u rows p i room ps due e ps' due' marks' words'
+failed_at is h = rw is at h
+
+pub some_of : (r : Option ℕ) {none : Bool} → is_some r ≡ not none → none ≡ false → (e : ℕ) × (r ≡ Some e)
+some_of None n e = absurd (false≢true (n ∙ ap not e))
+some_of (Some k) n e = (k, refl)
 
 pub swept_false : {u : Rules} {rows : ℕ} → 0 < rows → {room e : ℕ} {due : List ℕ} {ps' : List Bool} {due' marks' words' : List ℕ} → room ≡ u.f
     → Failed u rows 0 0 room (replicate 128 false) due e ps' due' marks' words' → From u rows 0 (replicate 128 false)

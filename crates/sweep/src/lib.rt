@@ -14,7 +14,7 @@ mod least;
 mod memory;
 mod order;
 
-ghost use Rattle.std.specs.Prelude.{◌≡◌, true, false, ◌≤◌, ◌<◌, replicate};
+ghost use Rattle.std.specs.Prelude.{◌≡◌, true, false, ◌≤◌, ◌<◌, replicate, IfSome};
 ghost use Rattle.searcher.specs.Arrays.{counts_in, rows_in, jobs_in, LinksBack};
 ghost use Rattle.exact.specs.Words.{word_at};
 ghost use Rattle.exact.specs.Sweep.{any_below, more, skips, puts, leaves, From, Ordered};
@@ -194,7 +194,7 @@ fn next_job(
 }
 
 // Runs through the jobs of row p, from job i on, and through the rows after it, with the jobs that have no row yet. Answers the row where there
-// was no way on; or the number of rows, which says nothing. At most `left` jobs are put, each by one call more. The jobs put into row p so far may
+// was no way on; `None` says nothing. At most `left` jobs are put, each by one call more. The jobs put into row p so far may
 // stand only in rows before row `reach`. At the end of a row the jobs are in order again, so this is tested there, once for all that follows.
 #[cycle(put_run)]
 fn run(
@@ -216,13 +216,13 @@ fn run(
     room: u16,
     left: u16,
     reach: u16,
-) -> u16
+) -> Option<u16>
     requires sweepable { Sweepable given.now links.now }
     requires p_bound { (p < rows_in given.now) × (i ≤ jobs_in given.now)
         × Begun (rules_in given.now links.now swept.now) (rows_in given.now) begun.now }
     requires going { Going (rules_in given.now links.now swept.now) (rows_in given.now) flags.old due.old marks.old words.old low high kept }
-    ensures { result < rows_in given.now → Failed (rules_in given.now links.now swept.now)
-        (rows_in given.now) p i room flags.old due.old result flags.new due.new marks.new words.new }
+    ensures { IfSome result (λ e. Failed (rules_in given.now links.now swept.now)
+        (rows_in given.now) p i room flags.old due.old e flags.new due.new marks.new words.new) }
 {
     let n = given[4][2] as usize;
     let rows = given[4][0];
@@ -235,19 +235,19 @@ fn run(
         job = next_job(given, links, swept, begun, flags, low, high, row, job, n);
         if job >= n {
             if row + 1 == rows {
-                return rows;
+                return None;
             }
             if one_more(
                 given, links, swept, begun, least, flags, low, high, row, space,
             ) {
-                return row;
+                return Some(row);
             }
             row += 1;
             if memory::known(marks, words, row, low, high) {
-                return row;
+                return Some(row);
             }
             if late::is_late(given, links, swept, flags, due, row, space, far) {
-                return row;
+                return Some(row);
             }
             ordered = is_kept(given, links, swept, flags, ordered);
             job = 0;
@@ -259,14 +259,14 @@ fn run(
             given, links, swept, begun, least, flags, found, due, marks, words, low, high, ordered,
             row, job, space, left, far,
         ) {
-            return rows;
+            return None;
         }
         if !may_leave(given, links, swept, flags, row, job) {
-            return row;
+            return Some(row);
         }
         job += 1;
     }
-    rows
+    None
 }
 
 // Puts job i into row p, if it may, and runs on. An answer false says that this fails, and leaves the flags and the times as they were.
@@ -312,7 +312,7 @@ fn put(
     flags[i] = true;
     found[i] = p;
     let far = late::take_at(due, swept[1][i], c, reach);
-    let e = run(
+    let Some(e) = run(
         given,
         links,
         swept,
@@ -331,10 +331,9 @@ fn put(
         room - c,
         left - 1,
         far,
-    );
-    if e >= given[4][0] {
+    ) else {
         return true;
-    }
+    };
     late::add_at(due, swept[1][i], c);
     if is_worth_noting(given, links, swept, flags, still, p, e) {
         memory::note(marks, words, p + 1, lows, highs);
@@ -373,7 +372,7 @@ pub fn sweep(
     let mut flags = [false; 128];
     let mut due = late::due_times(given, links, swept);
     let mut marks = [0u16; 5120];
-    let e = run(
+    let failed = run(
         given,
         links,
         swept,
@@ -393,5 +392,5 @@ pub fn sweep(
         given[4][2],
         0,
     );
-    e >= rows
+    failed.is_none()
 }

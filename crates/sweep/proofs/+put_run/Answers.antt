@@ -7,7 +7,7 @@ use Rattle.sweep.specs.Arrays.{rules_in, tied_in}
 use Rattle.sweep.proofs.Laws.{cost_within, not_skipped, free_of}
 use Rattle.sweep.proofs.LateLaws.{end_of, cost_of_lem, sided_of}
 use Rattle.sweep.proofs.RunLaws.{n_is, f_is, run_start, run_next, run_end, run_full, run_known, run_late, run_row, run_stuck, run_left}
-use Rattle.sweep.proofs.RunLaws.{Chosen, times_for, time_there, time_room, put_going, put_ordered, put_failed, put_noted}
+use Rattle.sweep.proofs.RunLaws.{Chosen, failed_at, times_for, time_there, time_room, put_going, put_ordered, put_failed, put_noted}
 use Rattle.sweep.proofs.+put_run.Goals as goal
 
 -- job i, which is not passed over, with its cost
@@ -44,8 +44,8 @@ put-overflow_sub-room t c =
     let may = sym c.may_put.ensures ∙ c.if-not-may_put.false in
     rw c.entry-c.ensures (cost_within a.given.now a.links.now a.swept.now a.flags.now a.i a.room may)
 
-pub put-run-e-requires : goal.put-run-e-requires
-put-run-e-requires t c =
+pub put-run-requires : goal.put-run-requires
+put-run-requires t c =
     let a = c.args in
     let r = c.requires in
     let x = chosen a.given.now a.links.now a.swept.now a.flags.now a.i a.p c.entry-c.result r.p_bound.1 r.sweepable.few r.i_value c.entry-c.ensures in
@@ -66,7 +66,7 @@ put-add_at-requires t c =
     let a = c.args in
     let r = c.requires in
     let x = chosen a.given.now a.links.now a.swept.now a.flags.now a.i a.p c.entry-c.result r.p_bound.1 r.sweepable.few r.i_value c.entry-c.ensures in
-    let failed = c.run-e.ensures (omega (arith, c.if-e-given.false)) in
+    let failed = failed_at c.in-Some.is c.run.ensures in
     time_room a.p a.i a.room r.going x (failed.same_due ∙ c.take_at-far.ensures) (omega (arith, c.entry-c.type_inv))
 
 pub put-is_worth_noting-requires-clause-ordered : goal.put-is_worth_noting-requires-clause-ordered
@@ -76,7 +76,7 @@ put-is_worth_noting-requires-clause-ordered t c =
     let x = chosen a.given.now a.links.now a.swept.now a.flags.now a.i a.p c.entry-c.result r.p_bound.1 r.sweepable.few r.i_value c.entry-c.ensures in
     let may = sym c.may_put.ensures ∙ c.if-not-may_put.false in
     let free = kept_free a.given.now a.links.now a.swept.now a.flags.now a.i a.room a.kept c.still_kept-still.result may c.still_kept-still.ensures in
-    let failed = c.run-e.ensures (omega (arith, c.if-e-given.false)) in
+    let failed = failed_at c.in-Some.is c.run.ensures in
     λ e. subst (λ (qs : List Bool). Ordered (rules_in a.given.now a.links.now a.swept.now) qs) (sym failed.same) (put_ordered a.p a.i a.room r.going x free e)
 
 pub put-returns-then-is_worth_noting : goal.put-returns-then-is_worth_noting
@@ -84,7 +84,7 @@ put-returns-then-is_worth_noting t c =
     let a = c.args in
     let r = c.requires in
     let x = chosen a.given.now a.links.now a.swept.now a.flags.now a.i a.p c.entry-c.result r.p_bound.1 r.sweepable.few r.i_value c.entry-c.ensures in
-    let failed = c.run-e.ensures (omega (arith, c.if-e-given.false)) in
+    let failed = failed_at c.in-Some.is c.run.ensures in
     let kept = c.is_worth_noting.ensures c.if-is_worth_noting.true in
     λ _. put_noted a.p a.i a.room r.going x c.take_at-far.ensures failed c.add_at.ensures c.with_flag-lows.ensures c.with_flag-highs.ensures kept.0 kept.1
     c.note.ensures.0 c.note.ensures.1 c.note.ensures.2
@@ -94,7 +94,7 @@ put-returns t c =
     let a = c.args in
     let r = c.requires in
     let x = chosen a.given.now a.links.now a.swept.now a.flags.now a.i a.p c.entry-c.result r.p_bound.1 r.sweepable.few r.i_value c.entry-c.ensures in
-    let failed = c.run-e.ensures (omega (arith, c.if-e-given.false)) in
+    let failed = failed_at c.in-Some.is c.run.ensures in
     λ _. put_failed a.p a.i a.room r.going x c.take_at-far.ensures failed c.add_at.ensures
 
 pub run-loop-row-init : goal.run-loop-row-init
@@ -105,12 +105,12 @@ run-loop-row-init t c =
 pub run-returns-then-one_more : goal.run-returns-then-one_more
 run-returns-then-one_more t c =
     let n = n_is c.args.given.now c.args.links.now c.args.swept.now in
-    λ _. run_full (run_end c.loop-row.invariant n c.next_job-job.ensures c.if-job-n.true) n (c.one_more.ensures c.if-one_more.true)
+    run_full (run_end c.loop-row.invariant n c.next_job-job.ensures c.if-job-n.true) n (c.one_more.ensures c.if-one_more.true)
 
 pub run-returns-then-known : goal.run-returns-then-known
 run-returns-then-known t c =
     let n = n_is c.args.given.now c.args.links.now c.args.swept.now in
-    λ _. run_known (run_end c.loop-row.invariant n c.next_job-job.ensures c.if-job-n.true) (c.known.ensures c.if-known.true)
+    run_known (run_end c.loop-row.invariant n c.next_job-job.ensures c.if-job-n.true) (c.known.ensures c.if-known.true)
 
 pub run-is_late-requires-clause-due : goal.run-is_late-requires-clause-due
 run-is_late-requires-clause-due t c = times_for c.loop-row.invariant.going (n_is c.args.given.now c.args.links.now c.args.swept.now)
@@ -118,7 +118,7 @@ run-is_late-requires-clause-due t c = times_for c.loop-row.invariant.going (n_is
 pub run-returns-then-is_late : goal.run-returns-then-is_late
 run-returns-then-is_late t c =
     let n = n_is c.args.given.now c.args.links.now c.args.swept.now in
-    λ _. run_late (run_end c.loop-row.invariant n c.next_job-job.ensures c.if-job-n.true) (c.is_late.ensures c.if-is_late.true)
+    run_late (run_end c.loop-row.invariant n c.next_job-job.ensures c.if-job-n.true) (c.is_late.ensures c.if-is_late.true)
 
 pub run-loop-row-preserved-then-job-n : goal.run-loop-row-preserved-then-job-n
 run-loop-row-preserved-then-job-n t c =
@@ -131,7 +131,7 @@ pub run-returns-then-not-may_leave : goal.run-returns-then-not-may_leave
 run-returns-then-not-may_leave t c =
     let n = n_is c.args.given.now c.args.links.now c.args.swept.now in
     let next = c.next_job-job.ensures in
-    λ _. run_stuck (run_next c.loop-row.invariant n next) (omega (arith, c.if-job-n.false, n)) (next.here c.if-job-n.false) (c.put.ensures c.if-put.false)
+    run_stuck (run_next c.loop-row.invariant n next) (omega (arith, c.if-job-n.false, n)) (next.here c.if-job-n.false) (c.put.ensures c.if-put.false)
     (sym c.may_leave.ensures ∙ c.if-not-may_leave.true)
 
 pub run-loop-row-preserved : goal.run-loop-row-preserved
