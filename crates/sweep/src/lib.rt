@@ -84,7 +84,7 @@ fn could_put(
         && may_put(given, links, swept, flags, room, i)
 }
 
-// Some job of the row could.
+// Some job of the row could. The bits say how far the loop goes on, so it counts nothing.
 fn one_more(
     given: &[[u16; 128]; 5],
     links: &[u8; 2048],
@@ -162,6 +162,7 @@ fn is_worth_noting(
 }
 
 // The first job from job i on that is not passed over in row p, or `end`, or i if that is behind it. The bits lead to it, and the job is tested.
+// They say how far the loop goes on, so it counts nothing.
 fn next_job(
     given: &[[u16; 128]; 5],
     links: &[u8; 2048],
@@ -196,6 +197,7 @@ fn next_job(
 // Runs through the jobs of row p, from job i on, and through the rows after it, with the jobs that have no row yet. Answers the row where there
 // was no way on; `None` says nothing. At most `left` jobs are put, each by one call more. The jobs put into row p so far may
 // stand only in rows before row `reach`. At the end of a row the jobs are in order again, so this is tested there, once for all that follows.
+// Each turn goes on to a job or to a row, so the loop counts neither.
 #[cycle(put_run)]
 fn run(
     given: &[[u16; 128]; 5],

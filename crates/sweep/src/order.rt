@@ -37,7 +37,9 @@ pub(super) fn all_let(
     requires { LinksBack (counts_in given.now) links.now i }
     ensures { result ≡ all_in (lets_by put (sides_in swept.now) flags.now i) (links_at (counts_in given.now) links.now i) }
 {
-    links_of(given, links, i).iter().all(|&l| lets(swept, flags, i, l, put))
+    links_of(given, links, i)
+        .iter()
+        .all(|&l| lets(swept, flags, i, l, put))
 }
 
 // The tests of the order hold of job i between two rows.
