@@ -147,22 +147,8 @@ module _ {u : Rules} {rows i : ℕ} {ws : List ℕ} (v : Beginning u rows i 0 ws
           let ne : x ≡ i → ⊥ = eqb-false x i t in
           keeps (2 * q + x / 64) (x % 64) (v.each q x l (omega arith) a (λ k. e)) (eqb (2 * q + x / 64) (2 * r + i / 64)) refl
 
-pub beginning_first : (u : Rules) (rows : ℕ) {ws : List ℕ} → length ws ≡ 512 → Beginning u rows 0 0 ws
-beginning_first u rows e = record { size = e; each = λ q x l m a k. absurd (omega arith) }
-
-pub beginning_all : {u : Rules} {rows i n : ℕ} {ws : List ℕ} → Beginning u rows i 0 ws → i ≤ n → n ≤ i → Beginning u rows n 0 ws
-beginning_all {u} {rows} {ws = ws} v le ge = subst (λ (k : ℕ). Beginning u rows k 0 ws) (omega arith) v
-
 -- each word gets the bits of the row before
 module _ {u : Rules} {rows n : ℕ} {ws : List ℕ} where
-  -- the first row has none before it
-  pub beginning_two : Beginning u rows n 0 ws → Beginning u rows n 2 ws
-  beginning_two v = record { size = v.size; each = λ q x l m a k. v.each q x l m a (λ t. go q x a k (ltb (2 * q + x / 64) 2) refl) }
-    where
-      go : (q x : ℕ) → u.first x ≤ q → (2 ≤ 2 * q + x / 64 → u.first x ≡ q) → (b : Bool) → ltb (2 * q + x / 64) 2 ≡ b → u.first x ≡ q
-      go q x a k true t = omega (arith, ltb-true (2 * q + x / 64) 2 t)
-      go q x a k false t = k (ltb-false (2 * q + x / 64) 2 t)
-
   module _ {k : ℕ} (v : Beginning u rows n k ws) where
     pub beginning_word : 2 ≤ k → k < 512 → {ws' : List ℕ} → ws' ≡ set ws k (bit_or (get_or ws k 0) (get_or ws (k - 2) 0)) → Beginning u rows n (k + 1) ws'
     beginning_word two room {ws'} we = record {
@@ -249,12 +235,3 @@ module _ (g : List (List ℕ)) (links : List ℕ) (s : List (List ℕ)) (ps : Li
       go false t =
           let h : 64 ≤ y = ltb-false y 64 t in
           high_passed b row e highs y (omega arith) lt few job
-
--- a test that holds from i on below j, and from j on below k
-pub all_from_on : (t : ℕ → Bool) {i j k : ℕ} → ((y : ℕ) → i ≤ y → y < j → t y ≡ true) → ((y : ℕ) → j ≤ y → y < k → t y ≡ true)
-    → (y : ℕ) → i ≤ y → y < k → t y ≡ true
-all_from_on t {j = j} before on y le lt = go (ltb y j) refl
-  where
-    go : (c : Bool) → ltb y j ≡ c → t y ≡ true
-    go true e = before y le (ltb-true y j e)
-    go false e = on y (ltb-false y j e) lt

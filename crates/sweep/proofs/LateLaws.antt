@@ -9,19 +9,12 @@ use native.Mathlib.Omega.{arith}
 use lib.ListN.{length, get_or, set, replicate, length-set, length-replicate}
 use lib.Seq.{get_or-set_same, get_or-set_other, set-set, set-get_or}
 use lib.Dec.{leb, eqb}
-use borrow.Author.Tests.{le-leb, lt-leb, leb-true, leb-false, eq-eqb, ne_eqb, eqb-true, eqb-false}
+use borrow.Author.Tests.{leb-true, leb-false, eq-eqb, ne_eqb, eqb-true, eqb-false}
 use Rattle.exact.specs.Sweep.{Rules, sum, waiting, From}
 use Rattle.exact.specs.Intervals.{sum_snoc, due_at, waiting_more}
 use Rattle.exact.specs.SweepLaws.{row_late}
 use Rattle.searcher.specs.Arrays.{part_in}
 use Rattle.sweep.specs.Arrays.{rules_in, due_share, Due, added_at, taken_at}
-
--- one place more, or none
-pub not_added : (due : List ℕ) (e c : ℕ) → 256 < e → due ≡ added_at due e c
-not_added due e c h = rw (lt-leb e 256 h)
-
-pub is_added : (due : List ℕ) (e c : ℕ) → e ≤ 256 → set due e (get_or due e 0 + c) ≡ added_at due e c
-is_added due e c h = rw (le-leb e 256 h)
 
 -- the rules' ends and costs
 module _ (g : List (List ℕ)) (links : List ℕ) (s : List (List ℕ)) (i : ℕ) where
@@ -211,13 +204,6 @@ due_restored due e c has size = go (leb e 256) refl
         ap (λ (j : ℕ). j + c) (get_or-set_same due e (get_or due e 0 - c) 0 (omega arith)) ∙ back (get_or due e 0) (has t) in
         rw k (set-set due e (get_or due e 0 - c) (get_or due e 0) ∙ set-get_or due e 0)
 
--- one place less, or none
-pub not_taken : (due : List ℕ) (e c : ℕ) → 256 < e → due ≡ taken_at due e c
-not_taken due e c h = rw (lt-leb e 256 h)
-
-pub is_taken : (due : List ℕ) (e c : ℕ) → e ≤ 256 → set due e (get_or due e 0 - c) ≡ taken_at due e c
-is_taken due e c h = rw (le-leb e 256 h)
-
 -- the pass over the rows: `need` is no more than what waits for the rows from p to before e, `room` is what they have
 pub record Comparing (u : Rules) (rows p : ℕ) (ps : List Bool) (e need room : ℕ) : Type 0 where
   pub begun : p ≤ e
@@ -226,13 +212,6 @@ pub record Comparing (u : Rules) (rows p : ℕ) (ps : List Bool) (e need room : 
   pub has : room ≡ u.f * (e - p)
   pub need_small : need ≤ (e - p) * 8388480
   pub room_small : room ≤ (e - p) * 65535
-
-pub comparing_start : (u : Rules) {rows p : ℕ} (ps : List Bool) → p ≤ rows → Comparing u rows p ps p 0 0
-comparing_start u {rows} {p} ps h = let z : p - p ≡ 0 = omega arith in
-    record { begun = omega arith; most = h; waits = omega arith; has = rw z (sym (mul_none u.f)); need_small = omega arith; room_small = omega arith }
-  where
-    mul_none : (k : ℕ) → k * 0 ≡ 0
-    mul_none k = omega arith
 
 module _ {u : Rules} {rows p : ℕ} {ps : List Bool} {e need room : ℕ} (v : Comparing u rows p ps e need room) (more : e < rows) (few : rows ≤ 256)
     {due : List ℕ} {n : ℕ} (n_is : u.n ≡ n) (jobs : n ≤ 128) (d : Due u ps n due) {f : ℕ} (f_is : f ≡ u.f) (fits : f ≤ 65535) where

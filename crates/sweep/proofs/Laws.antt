@@ -31,10 +31,6 @@ module _ (g : List (List ℕ)) (links : List ℕ) (s : List (List ℕ)) (ps : Li
   abbrev cost : ℕ
   cost = get_or (part_in g 0) i 0
 
-  pub skipped_flag : (p : ℕ) → get_or ps i false ≡ true → true ≡ skips u p ps i
-  unfolding rules_in
-  skipped_flag p e = rw e
-
   pub skipped_row : (p : ℕ) → get_or ps i false ≡ false → ltb p first ≡ skips u p ps i
   unfolding rules_in
   skipped_row p e = rw e

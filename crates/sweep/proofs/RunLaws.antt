@@ -284,17 +284,3 @@ some_of (Some k) n e = (k, refl)
 pub swept_false : {u : Rules} {rows : ℕ} → 0 < rows → {room e : ℕ} {due : List ℕ} {ps' : List Bool} {due' marks' words' : List ℕ} → room ≡ u.f
     → Failed u rows 0 0 room (replicate 128 false) due e ps' due' marks' words' → From u rows 0 (replicate 128 false)
 swept_false {u} {rows} h e d = row_begun u rows 0 (replicate 128 false) h (rw e at d.fails)
-
--- a test that holds of all from i on below j, and of j
-pub all_from_more : (t : ℕ → Bool) {i j : ℕ} → ((y : ℕ) → i ≤ y → y < j → t y ≡ true) → t j ≡ true → (y : ℕ) → i ≤ y → y < j + 1 → t y ≡ true
-all_from_more t {i} {j} h e y a l = ⊎_elim (λ q. rw q e) (h y a) (eq-or-lt_of_le (le_here l))
-  where
-    le_here : {y j : ℕ} → y < j + 1 → y ≤ j
-    le_here l = omega arith
-
--- a test that holds of all below i, and of i
-pub all_below_more : (t : ℕ → Bool) {i : ℕ} → ((j : ℕ) → j < i → t j ≡ true) → t i ≡ true → (j : ℕ) → j < i + 1 → t j ≡ true
-all_below_more t {i} h e j l = ⊎_elim (λ q. rw q e) (h j) (eq-or-lt_of_le (le_here l))
-  where
-    le_here : {j i : ℕ} → j < i + 1 → j ≤ i
-    le_here l = omega arith
