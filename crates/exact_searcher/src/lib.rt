@@ -3,69 +3,34 @@
 // the search finds. `place_job` tries the frames of one job; `try_frame` tests one of them, asks whether it is pruned, and hands over to
 // `place_job` for the next. Data as for the search.
 //
-// `found` has the rows of the last sweep, and `hint` those of the last one that said perhaps: its entry 128 is 1 if they stand. Where the frame
-// tried is in the hinted row, it is not asked. `words` is the sweep's. Nothing is known of the three, and nothing need be.
-ghost use Rattle.std.specs.Prelude.{◌≡◌, true, false, cond, [], ◌+◌, ◌≤◌, ◌<◌, min, take};
+// `found` has the rows of the last sweep, and `hint` those of the last one that said perhaps, while they stand. Where the frame tried is in the
+// hinted row, it is not asked. `words` is the sweep's. Nothing is known of the three, and nothing need be.
+ghost use Rattle.std.specs.Prelude.{◌≡◌, true, false, [], ◌+◌, ◌≤◌, ◌<◌, take};
 ghost use Rattle.search.specs.Search.{none};
 ghost use Rattle.search.specs.Placing.{plan_walk};
 ghost use Rattle.searcher.specs.Arrays.{Placeable, problem_of, counts_in, jobs_in, problem_in};
 ghost use Rattle.prune.specs.Arrays.{Packed, Filled, Marked};
-ghost use Rattle.exact_searcher.specs.Arrays.{low_by, high_by, PlacedSoFar, Searching, Probing, DecidedJob, DecidedFrame, found_answer};
+ghost use Rattle.exact_searcher.specs.Arrays.{low_from, high_from, PlacedSoFar, Searching, Probing, DecidedJob, DecidedFrame, found_answer};
 
 use searcher::Given;
 
-// The frame of each job; or none, if there is no placing.
-#[derive(Clone, Copy)]
-pub struct FirstPlacing {
-    pub found: bool,
-    pub frames: [u16; 128],
-}
-
-fn choice(b: bool, x: u16, y: u16) -> u16
-    ensures { result ≡ cond b x y }
+// The domains, from `low` to before `high`, where the first `at` jobs are placed: a placed job has its frame alone, the others their windows.
+fn domains(
+    first: &[u16; 128],
+    end: &[u16; 128],
+    place: &[u16; 128],
+    at: usize,
+) -> ([u16; 128], [u16; 128])
+    requires { at ≤ 128 }
+    ensures { Filled (low_from first.now place.now at) 128 result.0 × Filled (high_from end.now place.now at) 128 result.1 }
 {
-    if b { x } else { y }
-}
-
-// One past frame k, but not past e.
-fn after(k: u16, e: u16) -> u16
-    ensures { result ≡ min (k + 1) e }
-{
-    if k < e {
-        return k + 1;
+    let mut low = *first;
+    let mut high = *end;
+    for (i, k) in place[..at].iter().enumerate() {
+        low[i] = *k;
+        high[i] = end[i].min(k.saturating_add(1));
     }
-    e
-}
-
-// The first frame of each job's domain, where the first `at` jobs are placed.
-fn low_frames(given: &[[u16; 128]; 5], place: &[u16; 128], at: usize) -> [u16; 128]
-    requires { jobs_in given.now ≤ 128 }
-    ensures { Filled (low_by given.now place.now at) (jobs_in given.now) result }
-{
-    let n = given[4][2] as usize;
-    let mut out = [0u16; 128];
-    let mut i = 0;
-    while i < n {
-        out[i] = choice(i < at, place[i], given[1][i]);
-        i += 1;
-    }
-    out
-}
-
-// One past the last.
-fn high_frames(given: &[[u16; 128]; 5], place: &[u16; 128], at: usize) -> [u16; 128]
-    requires { jobs_in given.now ≤ 128 }
-    ensures { Filled (high_by given.now place.now at) (jobs_in given.now) result }
-{
-    let n = given[4][2] as usize;
-    let mut out = [0u16; 128];
-    let mut i = 0;
-    while i < n {
-        let e = searcher::entry(given, 2, i);
-        out[i] = choice(i < at, after(place[i], e), e);
-        i += 1;
-    }
-    out
+    (low, high)
 }
 
 // Whether some rows must hold too much whatever the placing; false says nothing.
@@ -73,8 +38,7 @@ fn is_crowded(given: &[[u16; 128]; 5], links: &[u8; 2048], place: &[u16; 128]) -
     requires { Packed given.now links.now }
     ensures { result ≡ true → (plan_walk (problem_in given.now links.now) []).found ≡ none }
 {
-    let low = low_frames(given, place, 0);
-    let high = high_frames(given, place, 0);
+    let (low, high) = domains(&given[1], &given[2], place, 0);
     prune::is_crowded(given, links, low, high)
 }
 
@@ -94,33 +58,8 @@ fn is_hopeless(
     requires placed_so_far { PlacedSoFar (problem_in given.now links.now) (take at place.now) at }
     ensures { result ≡ true → (plan_walk (problem_in given.now links.now) (take at place.now)).found ≡ none }
 {
-    let low = low_frames(given, place, at);
-    let high = high_frames(given, place, at);
+    let (low, high) = domains(&given[1], &given[2], place, at);
     !prune::may(given, links, *tied, found, words, low, high, 16)
-}
-
-// Keeps the rows of the last sweep.
-fn keep_hint(hint: &mut [u16; 129], found: &[u16; 128]) {
-    let mut i = 0;
-    while i < 128 {
-        hint[i] = found[i];
-        i += 1;
-    }
-    hint[128] = 1;
-}
-
-fn is_hinted(hint: &[u16; 129], i: usize, row: usize) -> bool
-    requires { i < 128 }
-{
-    if hint[128] == 0 {
-        return false;
-    }
-    let h = hint[i];
-    row == wide(h)
-}
-
-fn wide(x: u16) -> usize {
-    x as usize
 }
 
 // Whether job i, placed in this row, is to be passed over.
@@ -130,7 +69,7 @@ fn is_pruned(
     tied: &[u16; 128],
     found: &mut [u16; 128],
     words: &mut [u64],
-    hint: &mut [u16; 129],
+    hint: &mut Option<[u16; 128]>,
     place: &[u16; 128],
     i: usize,
     row: usize,
@@ -141,13 +80,13 @@ fn is_pruned(
     requires placed_so_far { PlacedSoFar (problem_in given.now links.now) (take (i + 1) place.now) (i + 1) }
     ensures { result ≡ true → (plan_walk (problem_in given.now links.now) (take (i + 1) place.now)).found ≡ none }
 {
-    if is_hinted(hint, i, row) {
+    if hint.as_ref().is_some_and(|rows| rows[i] as usize == row) {
         return false;
     }
     if is_hopeless(given, links, tied, found, words, place, i + 1) {
         return true;
     }
-    keep_hint(hint, found);
+    *hint = Some(*found);
     false
 }
 
@@ -159,7 +98,7 @@ fn place_job(
     tied: &[u16; 128],
     found: &mut [u16; 128],
     words: &mut [u64],
-    hint: &mut [u16; 129],
+    hint: &mut Option<[u16; 128]>,
     place: &mut [u16; 128],
     load: &mut [u16; 256],
     i: usize,
@@ -198,7 +137,7 @@ fn try_frame(
     tied: &[u16; 128],
     found: &mut [u16; 128],
     words: &mut [u64],
-    hint: &mut [u16; 129],
+    hint: &mut Option<[u16; 128]>,
     place: &mut [u16; 128],
     load: &mut [u16; 256],
     i: usize,
@@ -224,12 +163,12 @@ fn try_frame(
         return true;
     }
     load[row] = l;
-    hint[128] = 0;
+    *hint = None;
     false
 }
 
 // The first placing of the jobs, if there is one.
-pub fn place_all(given: Given) -> FirstPlacing
+pub fn place_all(given: Given) -> Option<[u16; 128]>
     requires { Placeable given }
     ensures { result ≡ found_answer (plan_walk (problem_of given) []).found }
 {
@@ -238,23 +177,16 @@ pub fn place_all(given: Given) -> FirstPlacing
     let tied = prune::tied_jobs(&packed, &links);
     let mut found = [0u16; 128];
     let mut words = [0u64; sweep::WORDS];
-    let mut hint = [0u16; 129];
     let mut frames = [0u16; 128];
     let mut load = [0u16; 256];
     if is_crowded(&packed, &links, &frames) {
-        return FirstPlacing {
-            found: false,
-            frames: [0; 128],
-        };
+        return None;
     }
     if is_hopeless(&packed, &links, &tied, &mut found, &mut words, &frames, 0) {
-        return FirstPlacing {
-            found: false,
-            frames: [0; 128],
-        };
+        return None;
     }
-    keep_hint(&mut hint, &found);
-    let answer = place_job(
+    let mut hint = Some(found);
+    if place_job(
         &packed,
         &links,
         &tied,
@@ -264,15 +196,8 @@ pub fn place_all(given: Given) -> FirstPlacing
         &mut frames,
         &mut load,
         0,
-    );
-    if answer {
-        return FirstPlacing {
-            found: answer,
-            frames,
-        };
+    ) {
+        return Some(frames);
     }
-    FirstPlacing {
-        found: answer,
-        frames: [0; 128],
-    }
+    None
 }
