@@ -39,12 +39,19 @@ module _ {f f' : ℕ → ℕ} {out : List ℕ} {j v : ℕ} where
       go i t true q = let z : i ≡ j = eqb-true i j q in rw z (get_or-set_same out j v 0 (omega (arith, w.size)) ∙ e)
       go i t false q = let z : i ≡ j → ⊥ = eqb-false i j q in get_or-set_other out j i v 0 z ∙ w.each i t ∙ sym (same i z)
 
+module _ (window place : List ℕ) (i : ℕ) where
+  pub low_window : get_or window i 0 ≡ low_from window place 0 i
+  low_window = rw (le-ltb i 0 (omega arith))
+
+  pub high_window : get_or window i 0 ≡ high_from window place 0 i
+  high_window = rw (le-ltb i 0 (omega arith))
+
 module _ (window place : List ℕ) (all : length window ≡ 128) where
   pub lows_none : Filled (low_from window place 0) 128 window
-  lows_none = record { size = all; each = λ i h. rw (le-ltb i 0 (omega arith)) }
+  lows_none = record { size = all; each = λ i h. low_window window place i }
 
   pub highs_none : Filled (high_from window place 0) 128 window
-  highs_none = record { size = all; each = λ i h. rw (le-ltb i 0 (omega arith)) }
+  highs_none = record { size = all; each = λ i h. high_window window place i }
 
 module _ (window place : List ℕ) {j : ℕ} {out : List ℕ} {v : ℕ} where
   pub lows_more : Filled (low_from window place j) 128 out → j < 128 → v ≡ get_or place j 0 → Filled (low_from window place (j + 1)) 128 (set out j v)
@@ -62,7 +69,8 @@ module _ {g : List (List ℕ)} {links : List ℕ} (c : Packed g links) (place : 
   size : length (take m place) ≡ m
   size = so_far.all
 
-  module _ {low high : List ℕ} (lows : Filled (low_by g place m) 128 low) (highs : Filled (high_by g place m) 128 high) where
+  module _ {low high : List ℕ} (lows : (i : ℕ) → i < n → get_or low i 0 ≡ low_by g place m i)
+      (highs : (i : ℕ) → i < n → get_or high i 0 ≡ high_by g place m i) where
     placed : Placed c.proper (take m place) (domains low high)
     placed = record {
       low_placed = λ i t. low_here i (omega (arith, size));
@@ -75,21 +83,21 @@ module _ {g : List (List ℕ)} {links : List ℕ} (c : Packed g links) (place : 
         frame i h = get_or-take m place i 0 h
 
         low_here : (i : ℕ) → i < m → get_or low i 0 ≤ get_or (take m place) i 0
-        low_here i h = let e : get_or low i 0 ≡ get_or place i 0 = lows.each i (omega (arith, c.few)) ∙ rw (lt-ltb i m h) in omega (arith, frame i h)
+        low_here i h = let e : get_or low i 0 ≡ get_or place i 0 = lows i (omega arith) ∙ rw (lt-ltb i m h) in omega (arith, frame i h)
 
         high_here : (i : ℕ) → i < m → get_or (take m place) i 0 < get_or (take n (part_in g 2)) i 0 → get_or (take m place) i 0 < get_or high i 0
         high_here i h w =
-            let e : get_or high i 0 ≡ min (get_or place i 0 + 1) (get_or (part_in g 2) i 0) = highs.each i (omega (arith, c.few)) ∙ rw (lt-ltb i m h) in
+            let e : get_or high i 0 ≡ min (get_or place i 0 + 1) (get_or (part_in g 2) i 0) = highs i (omega arith) ∙ rw (lt-ltb i m h) in
             omega (arith, frame i h, get_or-take n (part_in g 2) i 0 (omega arith))
 
         low_there : (i : ℕ) → m ≤ i → i < n → get_or low i 0 ≤ get_or (take n (part_in g 1)) i 0
         low_there i h l =
-            let e : get_or low i 0 ≡ get_or (part_in g 1) i 0 = lows.each i (omega (arith, c.few)) ∙ rw (le-ltb i m h) in
+            let e : get_or low i 0 ≡ get_or (part_in g 1) i 0 = lows i (omega arith) ∙ rw (le-ltb i m h) in
             omega (arith, get_or-take n (part_in g 1) i 0 l)
 
         high_there : (i : ℕ) → m ≤ i → i < n → get_or (take n (part_in g 2)) i 0 ≤ get_or high i 0
         high_there i h l =
-            let e : get_or high i 0 ≡ get_or (part_in g 2) i 0 = highs.each i (omega (arith, c.few)) ∙ rw (le-ltb i m h) in
+            let e : get_or high i 0 ≡ get_or (part_in g 2) i 0 = highs i (omega arith) ∙ rw (le-ltb i m h) in
             omega (arith, get_or-take n (part_in g 2) i 0 l)
 
     pub hopeless : None (problem_in g links) (domains low high) → (plan_walk (problem_in g links) (take m place)).found ≡ none
