@@ -15,12 +15,11 @@ ghost use Rattle.exact_searcher.specs.Arrays.{found_answer};
 
 use cursor::Written;
 use cycle::Cycle;
-use exact_searcher::FirstPlacing;
 use planner::choose::ChosenPlan;
 use problem::JobLinks;
 
 // The first plan with frames of length f.
-fn plan_with(cycle: Cycle, cost: [u32; 128], links: JobLinks, f: u16) -> FirstPlacing
+fn plan_with(cycle: Cycle, cost: [u32; 128], links: JobLinks, f: u16) -> Option<[u16; 128]>
     requires { Searchable cycle cost links f }
     ensures { result ≡ found_answer (plan_walk (problem_at (instance_of cycle) f) []).found }
 {
@@ -37,12 +36,11 @@ fn choose_exactly(cycle: Cycle) -> ChosenPlan
     let links = problem::links(cycle);
     let mut some = false;
     let mut rows = planner::choose::next_tried(cycle, 0);
+    // No count: the next length is the one that `next_tried` gives.
     while rows <= planner::choose::MOST_ROWS {
         some = true;
         let f = cycle.h / rows;
-        let plan = plan_with(cycle, cost, links, f);
-        if plan.found {
-            let frames = plan.frames;
+        if let Some(frames) = plan_with(cycle, cost, links, f) {
             return ChosenPlan {
                 refusal: 0,
                 f,

@@ -4,6 +4,7 @@ use mathlib.Core.Bool.{Bool, true, false}
 use mathlib.Core.List.{List, []}
 use Prim.Native.Nat.{ℕ, ◌≤◌}
 use native.Mathlib.Omega.{arith}
+use Rattle.std.specs.Prelude.{Some, None}
 use lib.ListN.{length, replicate, length-replicate}
 use Rattle.cursor.specs.ArrayLaws.{blank_behind}
 use Rattle.search.specs.Search.{Found, none}
@@ -14,7 +15,6 @@ use Rattle.searcher.proofs.AllLaws.{begins}
 use Rattle.prune.specs.Arrays.{Packed, Marked}
 use Rattle.exact_searcher.proofs.HopelessLaws.{is_packed, none_placed}
 use Rattle.exact_searcher.specs.Arrays.{Searching, Decided, DecidedJob, found_answer}
-use Rattle.exact_searcher.specs.declared.FirstPlacing.{FirstPlacing}
 
 -- what is given is packed, and the problem is the same
 module _ {given : Given} (p : Placeable given) (packed : List (List ℕ)) (same : (problem_in packed given.links ≡ problem_of given) × (jobs_in packed ≡ given.n)) where
@@ -38,7 +38,7 @@ module _ {given : Given} (p : Placeable given) (packed : List (List ℕ)) (same 
   same_found = ap (λ (y : Problem). (plan_walk y []).found) same.0
 
   -- what is answered where nothing is found
-  pub none_answered : (plan_walk x []).found ≡ none → ◌≡◌ {A = FirstPlacing} (record { found = false; frames = replicate 128 0 }) (found_answer o)
+  pub none_answered : (plan_walk x []).found ≡ none → None ≡ found_answer o
   unfolding found_answer
   none_answered e = let q : o ≡ none = sym same_found ∙ e in rw q
 
@@ -46,13 +46,13 @@ module _ {given : Given} (p : Placeable given) (packed : List (List ℕ)) (same 
     d : Decided o n (replicate 128 0) (replicate 256 0) 0 answer place load
     d = subst (λ (q : Found). Decided q n (replicate 128 0) (replicate 256 0) 0 answer place load) same_found e
 
-    pub yes_answered : answer ≡ true → ◌≡◌ {A = FirstPlacing} (record { found = answer; frames = place }) (found_answer o)
+    pub yes_answered : answer ≡ true → Some place ≡ found_answer o
     unfolding found_answer
     yes_answered q =
         let few : n ≤ 128 = packed_first.few in
         let room : n ≤ length place = omega (arith, d.size, length-replicate {A = ℕ} 128 0, few) in
-        rw (d.yes q, blank_behind 128 0 place n room d.beyond, q)
+        rw (d.yes q, blank_behind 128 0 place n room d.beyond)
 
-    pub no_answered : answer ≡ false → ◌≡◌ {A = FirstPlacing} (record { found = answer; frames = replicate 128 0 }) (found_answer o)
+    pub no_answered : answer ≡ false → None ≡ found_answer o
     unfolding found_answer
-    no_answered q = rw (d.no q, q)
+    no_answered q = rw (d.no q)

@@ -1,5 +1,5 @@
 -- The pruned search in arrays: what its functions require and ensure. What it finds is what the search finds. Assumes nothing.
-use Rattle.std.specs.Prelude.{◌≡◌, Bool, true, false, cond, List, ℕ, ◌+◌, ◌≤◌, ◌<◌, min, length, get_or, take, drop, replicate, ltb}
+use Rattle.std.specs.Prelude.{◌≡◌, Bool, true, false, cond, List, ℕ, ◌+◌, ◌≤◌, ◌<◌, min, length, get_or, take, drop, ltb, Option, Some, None}
 use Rattle.cursor.specs.Padded.{padded}
 use Rattle.search.specs.Search.{Found, none, at}
 use Rattle.search.specs.Best as best
@@ -7,14 +7,20 @@ use Rattle.search.specs.Placing.{Problem, fits, window_start, frame_count, plan_
 use Rattle.search.specs.Counting.{attempt_walk}
 use Rattle.searcher.specs.Arrays.{part_in, counts_in, jobs_in, problem_in, Placing, Testing}
 use Rattle.prune.specs.Arrays.{Marked}
-use Rattle.exact_searcher.specs.declared.FirstPlacing.{FirstPlacing}
 
--- the domain of job i where the first `at` jobs are placed: its own frame, or its window
+-- the domain of job i where the first m jobs are placed: its own frame, or its window
+abbrev pub low_from : List ℕ → List ℕ → ℕ → ℕ → ℕ
+low_from first place m i = cond (ltb i m) (get_or place i 0) (get_or first i 0)
+
+abbrev pub high_from : List ℕ → List ℕ → ℕ → ℕ → ℕ
+high_from end place m i = cond (ltb i m) (min (get_or place i 0 + 1) (get_or end i 0)) (get_or end i 0)
+
+-- the same of what is given
 abbrev pub low_by : List (List ℕ) → List ℕ → ℕ → ℕ → ℕ
-low_by g place m i = cond (ltb i m) (get_or place i 0) (get_or (part_in g 1) i 0)
+low_by g place = low_from (part_in g 1) place
 
 abbrev pub high_by : List (List ℕ) → List ℕ → ℕ → ℕ → ℕ
-high_by g place m i = cond (ltb i m) (min (get_or place i 0 + 1) (get_or (part_in g 2) i 0)) (get_or (part_in g 2) i 0)
+high_by g place = high_from (part_in g 2) place
 
 -- the jobs of p are placed, each in its window where it may stand
 abbrev pub PlacedSoFar : Problem → List ℕ → ℕ → Type 0
@@ -57,6 +63,6 @@ abbrev pub DecidedFrame : Problem → ℕ → List ℕ → List ℕ → ℕ → 
 DecidedFrame x n place load i k r place' load' = Decided (attempt_walk x (take i place) k).found n place load i r place' load'
 
 -- what is found, as it is answered
-unfoldable pub found_answer : Found → FirstPlacing
-found_answer (at frames) = record { found = true; frames = padded 128 0 frames }
-found_answer none = record { found = false; frames = replicate 128 0 }
+unfoldable pub found_answer : Found → Option (List ℕ)
+found_answer (at frames) = Some (padded 128 0 frames)
+found_answer none = None

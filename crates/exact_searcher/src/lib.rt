@@ -2,189 +2,134 @@
 // The search for the first placing, pruned: a frame is also passed over where no placing begins with the jobs placed so far. What it finds is what
 // the search finds. `place_job` tries the frames of one job; `try_frame` tests one of them, asks whether it is pruned, and hands over to
 // `place_job` for the next. Data as for the search.
-//
-// `found` has the rows of the last sweep, and `hint` those of the last one that said perhaps: its entry 128 is 1 if they stand. Where the frame
-// tried is in the hinted row, it is not asked. `words` is the sweep's. Nothing is known of the three, and nothing need be.
-ghost use Rattle.std.specs.Prelude.{◌≡◌, true, false, cond, [], ◌+◌, ◌≤◌, ◌<◌, min, take};
+ghost use Rattle.std.specs.Prelude.{◌≡◌, true, false, [], ◌+◌, ◌≤◌, ◌<◌, take};
 ghost use Rattle.search.specs.Search.{none};
 ghost use Rattle.search.specs.Placing.{plan_walk};
 ghost use Rattle.searcher.specs.Arrays.{Placeable, problem_of, counts_in, jobs_in, problem_in};
 ghost use Rattle.prune.specs.Arrays.{Packed, Filled, Marked};
-ghost use Rattle.exact_searcher.specs.Arrays.{low_by, high_by, PlacedSoFar, Searching, Probing, DecidedJob, DecidedFrame, found_answer};
+ghost use Rattle.exact_searcher.specs.Arrays.{low_from, high_from, PlacedSoFar, Searching, Probing, DecidedJob, DecidedFrame, found_answer};
 
 use searcher::Given;
 
-// The frame of each job; or none, if there is no placing.
-#[derive(Clone, Copy)]
-pub struct FirstPlacing {
-    pub found: bool,
-    pub frames: [u16; 128],
-}
-
-fn choice(b: bool, x: u16, y: u16) -> u16
-    ensures { result ≡ cond b x y }
-{
-    if b { x } else { y }
-}
-
-// One past frame k, but not past e.
-fn after(k: u16, e: u16) -> u16
-    ensures { result ≡ min (k + 1) e }
-{
-    if k < e {
-        return k + 1;
-    }
-    e
-}
-
-// The first frame of each job's domain, where the first `at` jobs are placed.
-fn low_frames(given: &[[u16; 128]; 5], place: &[u16; 128], at: usize) -> [u16; 128]
-    requires { jobs_in given.now ≤ 128 }
-    ensures { Filled (low_by given.now place.now at) (jobs_in given.now) result }
-{
-    let n = given[4][2] as usize;
-    let mut out = [0u16; 128];
-    let mut i = 0;
-    while i < n {
-        out[i] = choice(i < at, place[i], given[1][i]);
-        i += 1;
-    }
-    out
-}
-
-// One past the last.
-fn high_frames(given: &[[u16; 128]; 5], place: &[u16; 128], at: usize) -> [u16; 128]
-    requires { jobs_in given.now ≤ 128 }
-    ensures { Filled (high_by given.now place.now at) (jobs_in given.now) result }
-{
-    let n = given[4][2] as usize;
-    let mut out = [0u16; 128];
-    let mut i = 0;
-    while i < n {
-        let e = searcher::entry(given, 2, i);
-        out[i] = choice(i < at, after(place[i], e), e);
-        i += 1;
-    }
-    out
-}
-
-// Whether some rows must hold too much whatever the placing; false says nothing.
-fn is_crowded(given: &[[u16; 128]; 5], links: &[u8; 2048], place: &[u16; 128]) -> bool
-    requires { Packed given.now links.now }
-    ensures { result ≡ true → (plan_walk (problem_in given.now links.now) []).found ≡ none }
-{
-    let low = low_frames(given, place, 0);
-    let high = high_frames(given, place, 0);
-    prune::is_crowded(given, links, low, high)
-}
-
-// Whether no placing begins with the first `at` jobs as they are placed; false says nothing.
-fn is_hopeless(
-    given: &[[u16; 128]; 5],
-    links: &[u8; 2048],
-    tied: &[u16; 128],
-    found: &mut [u16; 128],
-    words: &mut [u64],
+// The domains, from `low` to before `high`, where the first `at` jobs are placed: a placed job has its frame alone, the others their windows.
+fn domains(
+    first: &[u16; 128],
+    end: &[u16; 128],
     place: &[u16; 128],
     at: usize,
-) -> bool
-    requires packed { Packed given.now links.now }
-    requires marked { Marked (counts_in given.now) links.now (jobs_in given.now) tied.now }
-    requires at_bound { at ≤ jobs_in given.now }
-    requires placed_so_far { PlacedSoFar (problem_in given.now links.now) (take at place.now) at }
-    ensures { result ≡ true → (plan_walk (problem_in given.now links.now) (take at place.now)).found ≡ none }
+) -> ([u16; 128], [u16; 128])
+    requires { at ≤ 128 }
+    ensures { Filled (low_from first.now place.now at) 128 result.0 × Filled (high_from end.now place.now at) 128 result.1 }
 {
-    let low = low_frames(given, place, at);
-    let high = high_frames(given, place, at);
-    !prune::may(given, links, *tied, found, words, low, high, 16)
+    let mut low = *first;
+    let mut high = *end;
+    for (i, k) in place[..at].iter().enumerate() {
+        low[i] = *k;
+        high[i] = end[i].min(k.saturating_add(1));
+    }
+    (low, high)
 }
 
-// Keeps the rows of the last sweep.
-fn keep_hint(hint: &mut [u16; 129], found: &[u16; 128]) {
-    let mut i = 0;
-    while i < 128 {
-        hint[i] = found[i];
-        i += 1;
-    }
-    hint[128] = 1;
+// What the search goes by: the jobs and their links as `pack` leaves them, and which of the jobs are tied.
+#[derive(Drop)]
+struct Jobs {
+    given: [[u16; 128]; 5],
+    links: [u8; 2048],
+    tied: [u16; 128],
 }
 
-fn is_hinted(hint: &[u16; 129], i: usize, row: usize) -> bool
-    requires { i < 128 }
-{
-    if hint[128] == 0 {
-        return false;
+impl Jobs {
+    // Whether some rows must hold too much whatever the placing; false says nothing.
+    fn is_crowded(&self) -> bool
+        requires { Packed self.now.given self.now.links }
+        ensures { result ≡ true → (plan_walk (problem_in self.now.given self.now.links) []).found ≡ none }
+    {
+        prune::is_crowded(&self.given, &self.links, self.given[1], self.given[2])
     }
-    let h = hint[i];
-    row == wide(h)
 }
 
-fn wide(x: u16) -> usize {
-    x as usize
+// Where the jobs stand: the frame of each, and the load of each row.
+#[derive(Drop)]
+struct Board {
+    place: [u16; 128],
+    load: [u16; 256],
 }
 
-// Whether job i, placed in this row, is to be passed over.
-fn is_pruned(
-    given: &[[u16; 128]; 5],
-    links: &[u8; 2048],
-    tied: &[u16; 128],
-    found: &mut [u16; 128],
-    words: &mut [u64],
-    hint: &mut [u16; 129],
-    place: &[u16; 128],
-    i: usize,
-    row: usize,
-) -> bool
-    requires packed { Packed given.now links.now }
-    requires marked { Marked (counts_in given.now) links.now (jobs_in given.now) tied.now }
-    requires i_bound { i < jobs_in given.now }
-    requires placed_so_far { PlacedSoFar (problem_in given.now links.now) (take (i + 1) place.now) (i + 1) }
-    ensures { result ≡ true → (plan_walk (problem_in given.now links.now) (take (i + 1) place.now)).found ≡ none }
-{
-    if is_hinted(hint, i, row) {
-        return false;
+// The sweep's words, the rows of its last answer, and those of the last one that said perhaps, while they stand. Nothing is known of the three, and
+// nothing need be.
+#[derive(Drop)]
+struct Sweeps {
+    words: [u64; sweep::WORDS],
+    found: [u16; 128],
+    hint: Option<[u16; 128]>,
+}
+
+impl Sweeps {
+    // Whether no placing begins with the first `at` jobs as they are placed; false says nothing.
+    fn is_hopeless(&mut self, jobs: &Jobs, place: &[u16; 128], at: usize) -> bool
+        requires packed { Packed jobs.now.given jobs.now.links }
+        requires marked { Marked (counts_in jobs.now.given) jobs.now.links (jobs_in jobs.now.given) jobs.now.tied }
+        requires at_bound { at ≤ jobs_in jobs.now.given }
+        requires placed_so_far { PlacedSoFar (problem_in jobs.now.given jobs.now.links) (take at place.now) at }
+        ensures { result ≡ true → (plan_walk (problem_in jobs.now.given jobs.now.links) (take at place.now)).found ≡ none }
+    {
+        let (low, high) = domains(&jobs.given[1], &jobs.given[2], place, at);
+        let may = prune::may(
+            &jobs.given,
+            &jobs.links,
+            jobs.tied,
+            &mut self.found,
+            &mut self.words,
+            low,
+            high,
+            16,
+        );
+        if may {
+            self.hint = Some(self.found);
+        }
+        !may
     }
-    if is_hopeless(given, links, tied, found, words, place, i + 1) {
-        return true;
+
+    // Whether job i, placed in this row, is to be passed over. It is not asked where the row is the hinted one.
+    fn is_pruned(&mut self, jobs: &Jobs, place: &[u16; 128], i: usize, row: usize) -> bool
+        requires packed { Packed jobs.now.given jobs.now.links }
+        requires marked { Marked (counts_in jobs.now.given) jobs.now.links (jobs_in jobs.now.given) jobs.now.tied }
+        requires i_bound { i < jobs_in jobs.now.given }
+        requires placed_so_far { PlacedSoFar (problem_in jobs.now.given jobs.now.links) (take (i + 1) place.now) (i + 1) }
+        ensures { result ≡ true → (plan_walk (problem_in jobs.now.given jobs.now.links) (take (i + 1) place.now)).found ≡ none }
+    {
+        if self
+            .hint
+            .as_ref()
+            .is_some_and(|rows| rows[i] as usize == row)
+        {
+            return false;
+        }
+        self.is_hopeless(jobs, place, i + 1)
     }
-    keep_hint(hint, found);
-    false
 }
 
 // Places job i and those after it: tries the frames of its window, the earliest first. The jobs before i stay as they stand.
 #[cycle(place_job_try_frame)]
-fn place_job(
-    given: &[[u16; 128]; 5],
-    links: &[u8; 2048],
-    tied: &[u16; 128],
-    found: &mut [u16; 128],
-    words: &mut [u64],
-    hint: &mut [u16; 129],
-    place: &mut [u16; 128],
-    load: &mut [u16; 256],
-    i: usize,
-) -> bool
-    requires { Searching given.now links.now tied.now place.old load.old i }
-    ensures { DecidedJob (problem_in given.now links.now) (jobs_in given.now)
-        place.old load.old i result place.new load.new }
+fn place_job(jobs: &Jobs, sweeps: &mut Sweeps, board: &mut Board, i: usize) -> bool
+    requires { Searching jobs.now.given jobs.now.links jobs.now.tied board.old.place board.old.load i }
+    ensures { DecidedJob (problem_in jobs.now.given jobs.now.links) (jobs_in jobs.now.given)
+        board.old.place board.old.load i result board.new.place board.new.load }
 {
-    let n = given[4][2] as usize;
+    let n = jobs.given[4][2] as usize;
     if i == n {
         return true;
     }
-    let low = searcher::lower_bound(given, links, place, i);
-    let high = searcher::upper_bound(given, links, place, i);
-    let rows = given[4][0];
-    let e = searcher::entry(given, 2, i);
-    let mut k = given[1][i];
-    let mut row = (k % rows) as usize;
-    while k < e {
-        if try_frame(
-            given, links, tied, found, words, hint, place, load, i, k, row, low, high,
-        ) {
+    let low = searcher::lower_bound(&jobs.given, &jobs.links, &board.place, i);
+    let high = searcher::upper_bound(&jobs.given, &jobs.links, &board.place, i);
+    let rows = jobs.given[4][0];
+    let first = jobs.given[1][i];
+    let e = searcher::entry(&jobs.given, 2, i);
+    let mut row = (first % rows) as usize;
+    for k in first..e {
+        if try_frame(jobs, sweeps, board, i, k, row, low, high) {
             return true;
         }
-        k += 1;
         row = searcher::next_row(row, rows);
     }
     false
@@ -193,86 +138,76 @@ fn place_job(
 // Tests job i in frame k, and where it may stand there puts it there, with the jobs after it. Its links leave it the frames from `low` to `high`.
 #[cycle(place_job_try_frame)]
 fn try_frame(
-    given: &[[u16; 128]; 5],
-    links: &[u8; 2048],
-    tied: &[u16; 128],
-    found: &mut [u16; 128],
-    words: &mut [u64],
-    hint: &mut [u16; 129],
-    place: &mut [u16; 128],
-    load: &mut [u16; 256],
+    jobs: &Jobs,
+    sweeps: &mut Sweeps,
+    board: &mut Board,
     i: usize,
     k: u16,
     row: usize,
     low: u16,
     high: u16,
 ) -> bool
-    requires { Probing given.now links.now tied.now place.old load.old i k row low high }
-    ensures { DecidedFrame (problem_in given.now links.now) (jobs_in given.now)
-        place.old load.old i k result place.new load.new }
+    requires { Probing jobs.now.given jobs.now.links jobs.now.tied board.old.place board.old.load i k row low high }
+    ensures { DecidedFrame (problem_in jobs.now.given jobs.now.links) (jobs_in jobs.now.given)
+        board.old.place board.old.load i k result board.new.place board.new.load }
 {
-    if !searcher::may_stand(given, links, place, load, i, k, row, low, high) {
+    if !searcher::may_stand(
+        &jobs.given,
+        &jobs.links,
+        &board.place,
+        &board.load,
+        i,
+        k,
+        row,
+        low,
+        high,
+    ) {
         return false;
     }
-    place[i] = k;
-    if is_pruned(given, links, tied, found, words, hint, place, i, row) {
+    board.place[i] = k;
+    if sweeps.is_pruned(jobs, &board.place, i, row) {
         return false;
     }
-    let l = load[row];
-    load[row] = l + given[0][i];
-    if place_job(given, links, tied, found, words, hint, place, load, i + 1) {
+    let l = board.load[row];
+    board.load[row] = l + jobs.given[0][i];
+    if place_job(jobs, sweeps, board, i + 1) {
         return true;
     }
-    load[row] = l;
-    hint[128] = 0;
+    board.load[row] = l;
+    sweeps.hint = None;
     false
 }
 
 // The first placing of the jobs, if there is one.
-pub fn place_all(given: Given) -> FirstPlacing
+pub fn place_all(given: Given) -> Option<[u16; 128]>
     requires { Placeable given }
     ensures { result ≡ found_answer (plan_walk (problem_of given) []).found }
 {
     let packed = searcher::pack(given);
     let links = given.links;
     let tied = prune::tied_jobs(&packed, &links);
-    let mut found = [0u16; 128];
-    let mut words = [0u64; sweep::WORDS];
-    let mut hint = [0u16; 129];
-    let mut frames = [0u16; 128];
-    let mut load = [0u16; 256];
-    if is_crowded(&packed, &links, &frames) {
-        return FirstPlacing {
-            found: false,
-            frames: [0; 128],
-        };
+    let jobs = Jobs {
+        given: packed,
+        links,
+        tied,
+    };
+    if jobs.is_crowded() {
+        return None;
     }
-    if is_hopeless(&packed, &links, &tied, &mut found, &mut words, &frames, 0) {
-        return FirstPlacing {
-            found: false,
-            frames: [0; 128],
-        };
+    let mut board = Board {
+        place: [0; 128],
+        load: [0; 256],
+    };
+    let mut sweeps = Sweeps {
+        words: [0; sweep::WORDS],
+        found: [0; 128],
+        hint: None,
+    };
+    if sweeps.is_hopeless(&jobs, &board.place, 0) {
+        return None;
     }
-    keep_hint(&mut hint, &found);
-    let answer = place_job(
-        &packed,
-        &links,
-        &tied,
-        &mut found,
-        &mut words,
-        &mut hint,
-        &mut frames,
-        &mut load,
-        0,
-    );
-    if answer {
-        return FirstPlacing {
-            found: answer,
-            frames,
-        };
+    if place_job(&jobs, &mut sweeps, &mut board, 0) {
+        return Some(board.place);
     }
-    FirstPlacing {
-        found: answer,
-        frames: [0; 128],
-    }
+    None
 }

@@ -2,7 +2,7 @@
 use mathlib.Core.Path.{◌≡◌, refl, sym, ap, ◌∙◌}
 use mathlib.Core.Bool.{Bool, true, false, cond}
 use mathlib.Core.List.{List}
-use Prim.Native.Nat.{ℕ, zero, suc, ◌+◌, ◌-◌, ◌*◌, ◌/◌, ◌%◌, ◌≤◌, ◌<◌, min}
+use Prim.Native.Nat.{ℕ, zero, suc, ◌+◌, ◌*◌, ◌/◌, ◌%◌, ◌≤◌, ◌<◌, max}
 use native.Mathlib.Nat.{zero-add, mul-add, add-mul, div-add-mod', mul-le-mul_right}
 use native.Mathlib.Numerals.{add-one}
 use native.Mathlib.Omega.{arith}
@@ -13,10 +13,10 @@ use borrow.Author.Tests.{ltb-true, lt-ltb, eq-eqb, ne_eqb, eqb-true, eqb-false}
 use Rattle.searcher.specs.Arrays.{part_in, rows_in, jobs_in, problem_in}
 use Rattle.exact.specs.Sweep.{sum}
 use Rattle.exact.specs.Intervals.{sum_le, sum_add, sum_snoc}
-use Rattle.exact.specs.Arcs.{step_of, room_of, last_in, arc_need}
+use Rattle.exact.specs.Arcs.{step_of, room_of, arc_need}
 use Rattle.exact.specs.ArcsLaws.{none_arc}
 use Rattle.exact.specs.None.{None}
-use Rattle.prune.specs.Arrays.{Packed, domains, Filled}
+use Rattle.prune.specs.Arrays.{Packed, domains}
 use Rattle.prune.specs.Arcs.{step_by, last_by, weight_by, Light, Needed, Over, SomeOver}
 
 -- a step of each kind
@@ -50,29 +50,14 @@ module _ (f k c : ℕ) where
       bound : (k : ℕ) → k ≤ 4 → k + 1 ≤ 5
       bound k h = omega arith
 
-  pub room_none : k ≡ 0 → f ≡ room_of f k
-  unfolding room_of
-  room_none e = rw (eq-eqb k 0 e)
-
-  pub room_some : (k ≡ 0 → ⊥) → k * f ≡ room_of f k
-  unfolding room_of
-  room_some n = rw (ne_eqb k 0 n)
-
--- the last place
-module _ (rows s l h : ℕ) where
-  pub last_round : rows ≤ (l + (rows - s)) % rows + (h - 1 - l) → rows - 1 ≡ last_in rows s l h
-  unfolding last_in
-  last_round e = round ((l + (rows - s)) % rows + (h - 1 - l)) e
-    where
-      round : (k : ℕ) → rows ≤ k → rows - 1 ≡ min k (rows - 1)
-      round k e = omega arith
-
-  pub last_near : (l + (rows - s)) % rows + (h - 1 - l) < rows → (l + (rows - s)) % rows + (h - 1 - l) ≡ last_in rows s l h
-  unfolding last_in
-  last_near e = near ((l + (rows - s)) % rows + (h - 1 - l)) e
-    where
-      near : (k : ℕ) → k < rows → k ≡ min k (rows - 1)
-      near k e = omega arith
+-- what a row holds
+pub room_is : (f k : ℕ) → max k 1 * f ≡ room_of f k
+unfolding room_of
+room_is f zero = omega arith
+room_is f (suc k) =
+    let e : max (suc k) 1 ≡ suc k = omega arith in
+    let ne : suc k ≡ 0 → ⊥ = λ z. absurd (omega arith) in
+    rw (e, ne_eqb (suc k) 0 ne)
 
 -- the pass over the jobs
 zeros_at : (k e : ℕ) → get_or {A = ℕ} (replicate k 0) e 0 ≡ 0
@@ -178,18 +163,19 @@ light_more {weights} {j} v size h w le = record { each = λ i l. go i l (eqb i j
     go i l false q = let z : i ≡ j → ⊥ = eqb-false i j q in omega (arith, get_or-set_other weights j i v 0 z, w.each i (omega arith))
 
 -- what is over is none
-pub none_of_over : {g : List (List ℕ)} {links : List ℕ} (v : Packed g links) {low high weights : List ℕ} (k : ℕ) {room : ℕ} → 0 < get_or (part_in g 4) 1 0
-    → Filled (step_by (get_or (part_in g 4) 1 0) k (part_in g 0)) (jobs_in g) weights → room ≡ room_of (get_or (part_in g 4) 1 0) k
-    → SomeOver (rows_in g) low high (weight_by weights) (jobs_in g) room → None (problem_in g links) (domains low high)
+pub none_of_over : {g : List (List ℕ)} {links : List ℕ} (v : Packed g links) {low high : List ℕ} (weights : List ℕ) (k : ℕ) {room : ℕ} → 0 < get_or (part_in g 4) 1 0
+    → length weights ≡ jobs_in g → ((i : ℕ) → i < jobs_in g → get_or weights i 0 ≡ step_by (get_or (part_in g 4) 1 0) k (part_in g 0) i)
+    → room ≡ room_of (get_or (part_in g 4) 1 0) k
+    → SomeOver (rows_in g) low high (weight_by weights) (length weights) room → None (problem_in g links) (domains low high)
 unfolding arc_need
-none_of_over {g} {links} v {low} {high} {weights} k {room} some w r o =
-    none_arc v.proper some k o.start o.inside (domains low high) o.over.width (rw (← r) (rw v.jobs (omega (arith, o.over.more, asks))))
+none_of_over {g} {links} v {low} {high} weights k {room} some n w r o =
+    none_arc v.proper some k o.start o.inside (domains low high) o.over.width (rw (← r) (rw v.jobs (omega (arith, rw n at o.over.more, asks))))
   where
     asks : sum (λ i. cond (ltb (last_by (rows_in g) o.start low high i) o.over.width) (weight_by weights i) 0) (jobs_in g) 0
         ≤ sum (λ i. cond (ltb (last_by (rows_in g) o.start low high i) o.over.width) (step_of (get_or (part_in g 4) 1 0) k (get_or (take (jobs_in g) (part_in g 0)) i 0)) 0) (jobs_in g) 0
     asks = sum_le (λ i. cond (ltb (last_by (rows_in g) o.start low high i) o.over.width) (weight_by weights i) 0)
         (λ i. cond (ltb (last_by (rows_in g) o.start low high i) o.over.width) (step_of (get_or (part_in g 4) 1 0) k (get_or (take (jobs_in g) (part_in g 0)) i 0)) 0) (jobs_in g) 0
-        (λ i l. let h : i < jobs_in g = omega arith in rw (get_or-take (jobs_in g) (part_in g 0) i 0 h, w.each i h) (omega arith))
+        (λ i l. let h : i < jobs_in g = omega arith in rw (get_or-take (jobs_in g) (part_in g 0) i 0 h, w i h) (omega arith))
 
 -- products that fit
 pub product_small : (a c : ℕ) → a ≤ 5 → c ≤ 65535 → a * c ≤ 327675

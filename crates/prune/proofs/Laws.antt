@@ -4,16 +4,15 @@ use mathlib.Core.Bool.{Bool, true, false, not, cond}
 use mathlib.Core.Logic.{◌⊎◌, inl, inr, ⊎_elim}
 use mathlib.Core.List.Memᴰ
 use mathlib.Core.List.{List, [], ◌∷◌, Memᴰ}
-use Prim.Native.Nat.{ℕ, zero, suc, ◌+◌, ◌-◌, ◌*◌, ◌≤◌, ◌<◌, min, max}
+use Prim.Native.Nat.{ℕ, zero, suc, ◌+◌, ◌-◌, ◌≤◌, ◌<◌}
 use native.Mathlib.Nat.{eq-or-lt_of_le}
 use native.Mathlib.Numerals.{add-one}
 use native.Mathlib.Omega.{arith}
-use lib.ListN.{length, get_or, set, replicate, length-set, length-replicate}
-use lib.Seq.{get_or-take, drop-cons, get_or-set_same, get_or-set_other, set-get_or}
+use lib.ListN.{length, get_or, set, drop, replicate, length-set, length-replicate, drop_of_length-le}
+use lib.Seq.{get_or-take, drop-cons, get_or-set_same, get_or-set_other}
 use lib.Dec.{ltb, eqb}
 use borrow.Author.Tests.{le-leb, lt-leb, ltb-true, ltb-false, lt-ltb, le-ltb, eq-eqb, ne_eqb, eqb-true, eqb-false}
 use Rattle.search.specs.Placing.{Problem, links_at, links_of}
-use Rattle.search.specs.PlacingLaws.{part, link_in}
 use Rattle.searcher.specs.Arrays.{part_in, counts_in, rows_in, jobs_in, problem_in, LinksBack}
 use Rattle.searcher.proofs.Laws as place_laws
 use Rattle.exact.specs.Domains.{Domains}
@@ -22,19 +21,6 @@ use Rattle.exact.specs.Sided.{side_in, from_side, Stated}
 use Rattle.exact.specs.None.{None, none_link, none_empty, none_swept, none_split}
 use Rattle.sweep.specs.Arrays.{jobs_of, rules_in, Sweepable}
 use Rattle.prune.specs.Arrays.{Packed, domains, raised, lowered, Linked, Tightened, Empty, Filled, side_by, row_by, marked_by, Marked}
-
--- one frame moved, or not
-pub not_raised : (low : List ℕ) (i v : ℕ) → v ≤ get_or low i 0 → low ≡ raised low i v
-not_raised low i v h = let e : max (get_or low i 0) v ≡ get_or low i 0 = omega arith in rw e (sym (set-get_or low i 0))
-
-pub is_raised : (low : List ℕ) (i v : ℕ) → get_or low i 0 < v → set low i v ≡ raised low i v
-is_raised low i v h = let e : max (get_or low i 0) v ≡ v = omega arith in rw e
-
-pub not_lowered : (high : List ℕ) (i v : ℕ) → get_or high i 0 ≤ v → high ≡ lowered high i v
-not_lowered high i v h = let e : min (get_or high i 0) v ≡ get_or high i 0 = omega arith in rw e (sym (set-get_or high i 0))
-
-pub is_lowered : (high : List ℕ) (i v : ℕ) → v < get_or high i 0 → set high i v ≡ lowered high i v
-is_lowered high i v h = let e : min (get_or high i 0) v ≡ v = omega arith in rw e
 
 -- what is given is one problem, and its links are those of the arrays
 module _ {g : List (List ℕ)} {links : List ℕ} (c : Packed g links) where
@@ -79,31 +65,11 @@ tight_same = record { keeps = λ n. n }
 pub tight_more : {x : Problem} {d e f : Domains} → Tightened x d e → Tightened x e f → Tightened x d f
 tight_more a b = record { keeps = λ n. a.keeps (b.keeps n) }
 
--- the loop over the links of job i
-pub record Ranging (counts links : List ℕ) (i end at : ℕ) : Type 0 where
-  pub begun : 16 * i ≤ at
-  pub most : at ≤ end
-  pub stop : end ≡ 16 * i + get_or counts i 0
-  pub room : end ≤ length links
-  pub short : end ≤ 2048
-
-module _ {counts links : List ℕ} {i : ℕ} (g : LinksBack counts links i) where
-  pub ranging_start : Ranging counts links i (16 * i + get_or counts i 0) (16 * i)
-  ranging_start = record {
-    begun = omega arith;
-    most = omega arith;
-    stop = refl;
-    room = omega (arith, g.room, g.few);
-    short = omega
-        (arith, g.is_job, g.few);
-  }
-
-module _ {counts links : List ℕ} {i end at : ℕ} (r : Ranging counts links i end at) (h : at < end) where
-  pub ranging_turn : Ranging counts links i end (at + 1)
-  ranging_turn = record { begun = omega (arith, r.begun); most = omega arith; stop = r.stop; room = r.room; short = r.short }
-
-  pub in_links : Memᴰ (get_or links at 0) (links_at counts links i)
-  in_links = link_in counts links i at r.begun (omega (arith, r.stop)) (omega (arith, r.room))
+-- an entry of a list is one of it
+pub entry_in : (l : List ℕ) (j : ℕ) → j < length l → Memᴰ (get_or l j 0) l
+entry_in [] j h = absurd (omega arith)
+entry_in (y ∷ ys) zero h = Memᴰ.head refl
+entry_in (y ∷ ys) (suc j) h = Memᴰ.tail (entry_in ys j (omega arith))
 
 -- an array is filled
 pub filled_none : (f : ℕ → ℕ) → Filled f 0 (replicate 128 0)
@@ -115,6 +81,15 @@ filled_more {f} {j} {out} v w h e = record { size = length-set out j v ∙ w.siz
     go : (i : ℕ) → i < j + 1 → (b : Bool) → eqb i j ≡ b → get_or (set out j v) i 0 ≡ f i
     go i t true q = let z : i ≡ j = eqb-true i j q in rw z (get_or-set_same out j v 0 (omega (arith, w.size)) ∙ e)
     go i t false q = let z : i ≡ j → ⊥ = eqb-false i j q in get_or-set_other out j i v 0 z ∙ w.each i (omega arith)
+
+-- the frames of a job as rows, by its side
+abbrev pub sided_row : ℕ → List ℕ → List ℕ → List ℕ → ℕ → ℕ → ℕ
+sided_row rows low high frames away i = from_side (side_by rows low high i) (get_or frames i 0) away
+
+module _ (rows : ℕ) (low high frames : List ℕ) (away : ℕ) where
+  pub by_sides : {n : ℕ} {sides out : List ℕ} → Filled (side_by rows low high) n sides
+      → Filled (sided_row rows low high frames away) n out → Filled (row_by frames sides away) n out
+  by_sides s w = record { size = w.size; each = λ i h. rw (s.each i h) (w.each i h) }
 
 -- the side of a job
 module _ (rows l h : ℕ) where
@@ -138,10 +113,6 @@ module _ (side v away : ℕ) where
   pub from_away : side ≡ 1024 → away ≡ from_side side v away
   unfolding from_side
   from_away e = rw (eq-eqb side 1024 e)
-
-  pub from_none : (side ≡ 1024 → ⊥) → v < side → 0 ≡ from_side side v away
-  unfolding from_side
-  from_none e h = rw (ne_eqb side 1024 e) (omega arith)
 
   pub from_some : (side ≡ 1024 → ⊥) → v - side ≡ from_side side v away
   unfolding from_side
@@ -182,27 +153,22 @@ module _ (out : List ℕ) (l : ℕ) where
 pub marked_none : (counts links : List ℕ) → Marked counts links 0 (replicate 128 0)
 marked_none counts links = record { size = length-replicate {A = ℕ} 128 0; each = λ y l h m t. absurd (omega arith) }
 
-part_more : (links : List ℕ) (at end : ℕ) → at < end → end ≤ length links → part at end links ≡ get_or links at 0 ∷ part (at + 1) end links
-part_more links at end h room =
-    let z : end - at ≡ suc (end - (at + 1)) = omega arith in
-    rw (z, drop-cons links at 0 (omega arith), add-one at)
-
 -- the loop over the links of job y: each is left, or its job is marked
-pub record Marking (counts links : List ℕ) (y end at : ℕ) (out : List ℕ) : Type 0 where
-  pub range : Ranging counts links y end at
+pub record Marking (counts links : List ℕ) (y at : ℕ) (out : List ℕ) : Type 0 where
   pub before : Marked counts links y out
-  pub left : (l : ℕ) → Memᴰ l (links_at counts links y) → 128 ≤ l → Memᴰ l (part at end links) ⊎ (get_or out (l - 128) 0 ≡ 1)
+  pub left : (l : ℕ) → Memᴰ l (links_at counts links y) → 128 ≤ l → Memᴰ l (drop at (links_at counts links y)) ⊎ (get_or out (l - 128) 0 ≡ 1)
 
-module _ {counts links : List ℕ} {y : ℕ} (g : LinksBack counts links y) where
-  pub marking_start : {out : List ℕ} → Marked counts links y out → Marking counts links y (16 * y + get_or counts y 0) (16 * y) out
-  marking_start w =
-      let z : 16 * y + get_or counts y 0 - 16 * y ≡ get_or counts y 0 = omega arith in
-      record { range = ranging_start g; before = w; left = λ l m h. inl (rw z m) }
+module _ {counts links : List ℕ} {y : ℕ} where
+  pub marking_start : {out : List ℕ} → Marked counts links y out → Marking counts links y 0 out
+  marking_start w = record { before = w; left = λ l m h. inl m }
 
-  module _ {end at : ℕ} {out : List ℕ} (v : Marking counts links y end at out) where
-    pub marking_turn : at < end → {out' : List ℕ} → out' ≡ marked_by out (get_or links at 0) → Marking counts links y end (at + 1) out'
-    marking_turn h {out'} e = record {
-      range = ranging_turn v.range h;
+  module _ {at : ℕ} {out : List ℕ} (v : Marking counts links y at out) where
+    abbrev ls : List ℕ
+    ls = links_at counts links y
+
+    pub marking_turn : LinksBack counts links y → at < length ls → {out' : List ℕ} → out' ≡ marked_by out (get_or ls at 0)
+        → Marking counts links y (at + 1) out'
+    marking_turn g h {out'} e = record {
       before = record {
         size = rw e (marked_size out this ∙ v.before.size);
         each = λ z l t m b. rw e (still_marked out this (l - 128) (v.before.each z l t m b));
@@ -212,19 +178,18 @@ module _ {counts links : List ℕ} {y : ℕ} (g : LinksBack counts links y) wher
     }
       where
         this : ℕ
-        this = get_or links at 0
+        this = get_or ls at 0
 
-        unrolled : (l : ℕ) → Memᴰ l (part at end links) → Memᴰ l (this ∷ part (at + 1) end links)
-        unrolled l w = subst (λ (ls : List ℕ). Memᴰ l ls) (part_more links at end h v.range.room) w
+        unrolled : (l : ℕ) → Memᴰ l (drop at ls) → Memᴰ l (this ∷ drop (at + 1) ls)
+        unrolled l w = rw (drop-cons ls at 0 h, ← add-one at) at w
 
-        next : (l : ℕ) → Memᴰ l (links_at counts links y) → 128 ≤ l → (l ≡ this) ⊎ Memᴰ l (part (at + 1) end links)
-            → Memᴰ l (part (at + 1) end links) ⊎ (get_or out' (l - 128) 0 ≡ 1)
+        next : (l : ℕ) → Memᴰ l ls → 128 ≤ l → (l ≡ this) ⊎ Memᴰ l (drop (at + 1) ls) → Memᴰ l (drop (at + 1) ls) ⊎ (get_or out' (l - 128) 0 ≡ 1)
         next l m b (inl q) =
             let p : l - 128 < y = rw (le-ltb l 128 b) at (g.back l m) in
             inr (rw (e, ← q) (this_marked out l b (omega (arith, g.is_job, v.before.size))))
         next l m b (inr q) = inl q
 
-    pub marking_stop : end ≤ at → Marked counts links (y + 1) out
+    pub marking_stop : length ls ≤ at → Marked counts links (y + 1) out
     marking_stop h = record {
       size = v.before.size;
       each = λ z l t m b. ⊎_elim (λ q. same z l q m b) (λ q. v.before.each z l q m b)
@@ -234,8 +199,8 @@ module _ {counts links : List ℕ} {y : ℕ} (g : LinksBack counts links y) wher
         at_most : (z : ℕ) → z < y + 1 → z ≤ y
         at_most z t = omega arith
 
-        empty : (l : ℕ) → Memᴰ l (part at end links) → ⊥
-        empty l m = let z : end - at ≡ 0 = omega arith in Memᴰ.not-nil (rw z at m)
+        empty : (l : ℕ) → Memᴰ l (drop at ls) → ⊥
+        empty l m = let z : drop at ls ≡ [] = drop_of_length-le ls h in Memᴰ.not-nil (rw z at m)
 
         same : (z l : ℕ) → z ≡ y → Memᴰ l (links_at counts links z) → 128 ≤ l → get_or out (l - 128) 0 ≡ 1
         same z l q m b = ⊎_elim (λ w. absurd (empty l w)) (λ w. w) (v.left l (rw q at m) b)

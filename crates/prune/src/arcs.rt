@@ -1,6 +1,6 @@
 // Arcs: rows that follow each other, round the cycle too. The jobs that must stand in some arc count too much for it, by their costs or by a step
 // function of them. Costs of at most f together count no more than a row holds, by every step.
-ghost use Rattle.std.specs.Prelude.{◌≡◌, true, ◌-◌, ◌≤◌, ◌<◌};
+ghost use Rattle.std.specs.Prelude.{◌≡◌, true, ◌≤◌, ◌<◌, length};
 ghost use Rattle.searcher.specs.Arrays.{part_in, problem_in};
 ghost use Rattle.exact.specs.None.{None};
 ghost use Rattle.exact.specs.Arcs.{step_of, room_of, last_in};
@@ -10,7 +10,8 @@ ghost use Rattle.prune.specs.Arcs.{step_by, last_by, weight_by, Light, Needed, O
 // What cost c counts by step k, where a row holds f.
 fn weight(c: u16, f: u16, k: u16) -> u32
     requires { (0 < f) × (k ≤ 4) }
-    ensures { result ≡ step_of f k c }
+    ensures is_step { result ≡ step_of f k c }
+    ensures small { result ≤ 327675 }
 {
     if k == 0 {
         return c as u32;
@@ -27,10 +28,7 @@ fn room_of(f: u16, k: u16) -> u32
     requires { k ≤ 4 }
     ensures { result ≡ room_of f k }
 {
-    if k == 0 {
-        return f as u32;
-    }
-    (k as u32) * (f as u32)
+    k.max(1) as u32 * f as u32
 }
 
 // What the jobs count by step k.
@@ -39,23 +37,10 @@ fn weights_of(given: &[[u16; 128]; 5], n: usize, f: u16, k: u16) -> [u32; 128]
     ensures { Filled (step_by f k (part_in given.now 0)) n result × Light result n }
 {
     let mut out = [0u32; 128];
-    let mut i = 0;
-    while i < n {
-        let c = searcher::entry(given, 0, i);
-        out[i] = weight(c, f, k);
-        i += 1;
+    for (i, c) in given[0][..n].iter().enumerate() {
+        out[i] = weight(*c, f, k);
     }
     out
-}
-
-// The frames from l to before h, less one.
-fn span(l: u16, h: u16) -> u16
-    ensures { result ≡ h - 1 - l }
-{
-    if h <= l {
-        return 0;
-    }
-    h - 1 - l
 }
 
 // The place of the last of these frames, counted from row s on; the last place of all, if they go round.
@@ -64,58 +49,42 @@ fn last_place(l: u16, h: u16, rows: u16, s: u16) -> usize
     ensures { (result ≡ last_in rows s l h) × (result < rows) }
 {
     let from = (l as u32 + (rows - s) as u32) % (rows as u32);
-    let last = from + span(l, h) as u32;
-    if last >= rows as u32 {
-        return (rows - 1) as usize;
-    }
-    last as usize
+    let last = from + h.saturating_sub(l).saturating_sub(1) as u32;
+    last.min(rows as u32 - 1) as usize
 }
 
 // At each place what the jobs count that have their last frame there.
-fn needs_of(
-    weights: &[u32; 128],
-    low: &[u16; 128],
-    high: &[u16; 128],
-    n: usize,
-    rows: u16,
-    s: u16,
-) -> [u32; 256]
-    requires n_bound { (n ≤ 128) × (0 < rows) × (rows ≤ 256) × (s ≤ rows) }
-    requires light { Light weights.now n }
-    ensures { Needed (last_by rows s low.now high.now) (weight_by weights.now) n result }
+fn needs_of(weights: &[u32], low: &[u16; 128], high: &[u16; 128], rows: u16, s: u16) -> [u32; 256]
+    requires n_bound { (length weights.now ≤ 128) × (0 < rows) × (rows ≤ 256) × (s ≤ rows) }
+    requires light { Light weights.now (length weights.now) }
+    ensures { Needed (last_by rows s low.now high.now) (weight_by weights.now) (length weights.now) result }
 {
     let mut need = [0u32; 256];
-    let mut i = 0;
-    while i < n {
-        let at = last_place(low[i], high[i], rows, s);
-        need[at] = need[at] + weights[i];
-        i += 1;
+    for (i, w) in weights.iter().enumerate() {
+        need[last_place(low[i], high[i], rows, s)] += *w;
     }
     need
 }
 
 // Whether the jobs that lie in some rows from row s on count more than these hold, each of them `room`.
 fn is_over(
-    weights: &[u32; 128],
+    weights: &[u32],
     low: &[u16; 128],
     high: &[u16; 128],
-    n: usize,
     rows: u16,
     s: u16,
     room: u32,
 ) -> bool
-    requires n_bound { (n ≤ 128) × (0 < rows) × (rows ≤ 256) × (s ≤ rows) }
-    requires light { Light weights.now n }
-    ensures { result ≡ true → Over (last_by rows s low.now high.now) (weight_by weights.now) n room }
+    requires n_bound { (length weights.now ≤ 128) × (0 < rows) × (rows ≤ 256) × (s ≤ rows) }
+    requires light { Light weights.now (length weights.now) }
+    ensures { result ≡ true → Over (last_by rows s low.now high.now) (weight_by weights.now) (length weights.now) room }
 {
-    let need = needs_of(weights, low, high, n, rows, s);
-    let mut e: u16 = 0;
+    let need = needs_of(weights, low, high, rows, s);
     let mut sum: u64 = 0;
     let mut has: u64 = 0;
-    while e < rows {
-        sum += need[e as usize] as u64;
+    for asked in &need[..rows as usize] {
+        sum += *asked as u64;
         has += room as u64;
-        e += 1;
         if sum > has {
             return true;
         }
@@ -124,24 +93,15 @@ fn is_over(
 }
 
 // The same from any row on.
-fn some_over(
-    weights: &[u32; 128],
-    low: &[u16; 128],
-    high: &[u16; 128],
-    n: usize,
-    rows: u16,
-    room: u32,
-) -> bool
-    requires n_bound { (n ≤ 128) × (0 < rows) × (rows ≤ 256) }
-    requires light { Light weights.now n }
-    ensures { result ≡ true → SomeOver rows low.now high.now (weight_by weights.now) n room }
+fn some_over(weights: &[u32], low: &[u16; 128], high: &[u16; 128], rows: u16, room: u32) -> bool
+    requires n_bound { (length weights.now ≤ 128) × (0 < rows) × (rows ≤ 256) }
+    requires light { Light weights.now (length weights.now) }
+    ensures { result ≡ true → SomeOver rows low.now high.now (weight_by weights.now) (length weights.now) room }
 {
-    let mut s: u16 = 0;
-    while s < rows {
-        if is_over(weights, low, high, n, rows, s, room) {
+    for s in 0..rows {
+        if is_over(weights, low, high, rows, s, room) {
             return true;
         }
-        s += 1;
     }
     false
 }
@@ -165,7 +125,7 @@ fn is_full(
         return false;
     }
     let weights = weights_of(given, n, f, k);
-    some_over(&weights, low, high, n, rows, room_of(f, k))
+    some_over(&weights[..n], low, high, rows, room_of(f, k))
 }
 
 // The same by any step up to 4.
@@ -178,12 +138,10 @@ pub(super) fn some_full(
     requires { Packed given.now links.now }
     ensures { result ≡ true → None (problem_in given.now links.now) (domains low.now high.now) }
 {
-    let mut k: u16 = 0;
-    while k <= 4 {
+    for k in 0..=4 {
         if is_full(given, links, low, high, k) {
             return true;
         }
-        k += 1;
     }
     false
 }

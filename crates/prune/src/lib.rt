@@ -7,6 +7,7 @@ mod sides;
 mod tighten;
 
 ghost use Rattle.std.specs.Prelude.{◌≡◌, true, false, ◌+◌};
+ghost use Rattle.search.specs.Placing.{links_at};
 ghost use Rattle.searcher.specs.Arrays.{counts_in, jobs_in, problem_in, LinksBack};
 ghost use Rattle.exact.specs.None.{None};
 ghost use Rattle.prune.specs.Arrays.{Packed, domains, marked_by, Marked};
@@ -15,10 +16,18 @@ ghost use Rattle.prune.specs.Arrays.{Packed, domains, marked_by, Marked};
 fn mark(out: &mut [u16; 128], l: u8)
     ensures { out.new ≡ marked_by out.old l }
 {
-    if l < 128 {
-        return;
+    if l >= 128 {
+        out[(l - 128) as usize] = 1;
     }
-    out[(l - 128) as usize] = 1;
+}
+
+// The links of job i.
+fn links_of<'a>(given: &[[u16; 128]; 5], links: &'a [u8; 2048], i: usize) -> &'a [u8]
+    requires { LinksBack (counts_in given.now) links.now i }
+    ensures { result.now ≡ links_at (counts_in given.now) links.now i }
+{
+    let at = 16 * i;
+    &links[at..at + given[3][i] as usize]
 }
 
 // Marks the jobs that the links of job y name.
@@ -27,11 +36,8 @@ fn mark_links(given: &[[u16; 128]; 5], links: &[u8; 2048], out: &mut [u16; 128],
     requires marked { Marked (counts_in given.now) links.now y out.old }
     ensures { Marked (counts_in given.now) links.now (y + 1) out.new }
 {
-    let mut at = 16 * y;
-    let end = at + given[3][y] as usize;
-    while at < end {
-        mark(out, links[at]);
-        at += 1;
+    for l in links_of(given, links, y) {
+        mark(out, *l);
     }
 }
 
@@ -42,10 +48,8 @@ pub fn tied_jobs(given: &[[u16; 128]; 5], links: &[u8; 2048]) -> [u16; 128]
 {
     let n = given[4][2] as usize;
     let mut out = [0u16; 128];
-    let mut y = 0;
-    while y < n {
+    for y in 0..n {
         mark_links(given, links, &mut out, y);
-        y += 1;
     }
     out
 }
@@ -89,9 +93,7 @@ pub fn may(
     if tighten::is_empty(&l, &h, n) {
         return false;
     }
-    let sides = sides::sides_of(&l, &h, n, rows);
-    let firsts = sides::rows_of(&l, &sides, n, 1024);
-    let ends = sides::rows_of(&h, &sides, n, 1025);
+    let (sides, firsts, ends) = sides::rows_of(&l, &h, n, rows);
     let swept = [firsts, ends, sides, tied];
     if !sweep::sweep(given, links, &swept, found, words) {
         return false;
@@ -99,10 +101,9 @@ pub fn may(
     if depth == 0 {
         return true;
     }
-    let i = sides::first_unsided(&sides, n);
-    if i == n {
+    let Some(i) = sides[..n].iter().position(|side| *side == 1024) else {
         return true;
-    }
+    };
     let mut e = h;
     e[i] = rows;
     if may(given, links, tied, found, words, l, e, depth - 1) {

@@ -25,53 +25,32 @@ fn from_side(side: u16, v: u16, away: u16) -> u16
     ensures { result ≡ from_side side v away }
 {
     if side == 1024 {
-        return away;
+        away
+    } else {
+        v.saturating_sub(side)
     }
-    if v < side {
-        return 0;
-    }
-    v - side
 }
 
-// The sides of n jobs.
-pub(super) fn sides_of(low: &[u16; 128], high: &[u16; 128], n: usize, rows: u16) -> [u16; 128]
+// The sides of n jobs, their first frames as rows, and the ends of their frames as rows.
+pub(super) fn rows_of(
+    low: &[u16; 128],
+    high: &[u16; 128],
+    n: usize,
+    rows: u16,
+) -> ([u16; 128], [u16; 128], [u16; 128])
     requires { (n ≤ 128) × (rows ≤ 256) }
-    ensures { Filled (side_by rows low.now high.now) n result }
+    ensures { Filled (side_by rows low.now high.now) n result.0
+        × Filled (row_by low.now result.0 1024) n result.1
+        × Filled (row_by high.now result.0 1025) n result.2 }
 {
-    let mut out = [0u16; 128];
-    let mut i = 0;
-    while i < n {
-        out[i] = side_of(rows, low[i], high[i]);
-        i += 1;
+    let mut sides = [0u16; 128];
+    let mut firsts = [0u16; 128];
+    let mut ends = [0u16; 128];
+    for i in 0..n {
+        let side = side_of(rows, low[i], high[i]);
+        sides[i] = side;
+        firsts[i] = from_side(side, low[i], 1024);
+        ends[i] = from_side(side, high[i], 1025);
     }
-    out
-}
-
-// The frames of n jobs as rows.
-pub(super) fn rows_of(frames: &[u16; 128], sides: &[u16; 128], n: usize, away: u16) -> [u16; 128]
-    requires { n ≤ 128 }
-    ensures { Filled (row_by frames.now sides.now away) n result }
-{
-    let mut out = [0u16; 128];
-    let mut i = 0;
-    while i < n {
-        out[i] = from_side(sides[i], frames[i], away);
-        i += 1;
-    }
-    out
-}
-
-// The first job that is not sided; n, if all are.
-pub(super) fn first_unsided(sides: &[u16; 128], n: usize) -> usize
-    requires { n ≤ 128 }
-    ensures { result ≤ n }
-{
-    let mut i = 0;
-    while i < n {
-        if sides[i] == 1024 {
-            return i;
-        }
-        i += 1;
-    }
-    n
+    (sides, firsts, ends)
 }

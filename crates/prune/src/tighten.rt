@@ -1,37 +1,16 @@
 // Domains tightened by the links: for each job the frames from `low` to before `high`. What they leave out is no placing.
-ghost use Rattle.std.specs.Prelude.{◌≡◌, true, ◌≤◌, ◌<◌};
+ghost use Rattle.std.specs.Prelude.{◌≡◌, true, ◌≤◌, ◌<◌, set};
 ghost use Rattle.searcher.specs.Arrays.{jobs_in, problem_in};
-ghost use Rattle.prune.specs.Arrays.{Packed, domains, raised, lowered, Tied, Linked, Tightened, Empty};
+ghost use Rattle.prune.specs.Arrays.{Packed, domains, Tied, Linked, Tightened, Empty};
 
-fn either(a: bool, b: bool) -> bool {
-    if a {
-        return true;
-    }
-    b
-}
-
-// Raises one frame to v, if it is less; says whether it was.
-fn raise(low: &mut [u16; 128], i: usize, v: u16) -> bool
+// Moves frame i to v; says whether it was another.
+fn moves(frames: &mut [u16; 128], i: usize, v: u16) -> bool
     requires { i < 128 }
-    ensures { low.new ≡ raised low.old i v }
+    ensures { frames.new ≡ set frames.old i v }
 {
-    if low[i] >= v {
-        return false;
-    }
-    low[i] = v;
-    true
-}
-
-// Lowers one frame to v, if it is greater; says whether it was.
-fn lower(high: &mut [u16; 128], i: usize, v: u16) -> bool
-    requires { i < 128 }
-    ensures { high.new ≡ lowered high.old i v }
-{
-    if high[i] <= v {
-        return false;
-    }
-    high[i] = v;
-    true
+    let moved = frames[i] != v;
+    frames[i] = v;
+    moved
 }
 
 // Job a is not in a later frame than job b.
@@ -39,11 +18,9 @@ fn tie(low: &mut [u16; 128], high: &mut [u16; 128], a: usize, b: usize) -> bool
     requires { (a < 128) × (b < 128) }
     ensures { Tied low.old high.old a b low.new high.new }
 {
-    let v = low[a];
-    let w = high[b];
-    let p = raise(low, b, v);
-    let q = lower(high, a, w);
-    either(p, q)
+    let first = low[b].max(low[a]);
+    let end = high[a].min(high[b]);
+    moves(low, b, first) | moves(high, a, end)
 }
 
 // What link l of job i says: below 128 the partner is not later, from 128 on it is not earlier.
@@ -70,13 +47,9 @@ fn tie_links(
     ensures { Tightened (problem_in given.now links.now)
         (domains low.old high.old) (domains low.new high.new) }
 {
-    let mut at = 16 * i;
-    let end = at + given[3][i] as usize;
     let mut moved = false;
-    while at < end {
-        let m = tie_link(low, high, i, links[at]);
-        moved = either(moved, m);
-        at += 1;
+    for l in super::links_of(given, links, i) {
+        moved |= tie_link(low, high, i, *l);
     }
     moved
 }
@@ -93,12 +66,9 @@ fn pass(
         (domains low.old high.old) (domains low.new high.new) }
 {
     let n = given[4][2] as usize;
-    let mut i = 0;
     let mut moved = false;
-    while i < n {
-        let m = tie_links(given, links, low, high, i);
-        moved = either(moved, m);
-        i += 1;
+    for i in 0..n {
+        moved |= tie_links(given, links, low, high, i);
     }
     moved
 }
@@ -114,12 +84,10 @@ pub(super) fn tighten(
     ensures { Tightened (problem_in given.now links.now)
         (domains low.old high.old) (domains low.new high.new) }
 {
-    let mut k: u8 = 0;
-    while k < 16 {
+    for _ in 0..16 {
         if !pass(given, links, low, high) {
             return;
         }
-        k += 1;
     }
 }
 
@@ -128,12 +96,8 @@ pub(super) fn is_empty(low: &[u16; 128], high: &[u16; 128], n: usize) -> bool
     requires { n ≤ 128 }
     ensures { result ≡ true → Empty low.now high.now n }
 {
-    let mut i = 0;
-    while i < n {
-        if high[i] <= low[i] {
-            return true;
-        }
-        i += 1;
-    }
-    false
+    low[..n]
+        .iter()
+        .zip(&high[..n])
+        .any(|(first, end)| end <= first)
 }

@@ -29,45 +29,45 @@ place_job-returns-then-i-n t c = all_placed c.requires.placing.ready c.if-i-n.tr
 pub place_job-lower_bound-low-requires : goal.place_job-lower_bound-low-requires
 place_job-lower_bound-low-requires t c =
     let a = c.args in
-    linked a.given.now a.links.now a.place.now a.load.now a.i c.requires.placing.ready (is_left c.requires.placing c.if-i-n.false)
+    linked a.jobs.now.given a.jobs.now.links a.board.now.place a.board.now.load a.i c.requires.placing.ready (is_left c.requires.placing c.if-i-n.false)
 
 pub place_job-upper_bound-high-requires : goal.place_job-upper_bound-high-requires
 place_job-upper_bound-high-requires t c =
     let a = c.args in
-    linked a.given.now a.links.now a.place.now a.load.now a.i c.requires.placing.ready (is_left c.requires.placing c.if-i-n.false)
+    linked a.jobs.now.given a.jobs.now.links a.board.now.place a.board.now.load a.i c.requires.placing.ready (is_left c.requires.placing c.if-i-n.false)
 
 pub place_job-loop-k-init : goal.place_job-loop-k-init
 place_job-loop-k-init t c =
     let more = is_left c.requires.placing c.if-i-n.false in
-    none_tried more c.requires.placing.ready (entry_is c.args.given.now 1 c.args.i _ more refl)
+    none_tried more c.requires.placing.ready (entry_is c.args.jobs.now.given 1 c.args.i _ more refl)
 
 pub place_job-try_frame-requires : goal.place_job-try_frame-requires
 place_job-try_frame-requires t c =
-    let g = c.args.given.now in
+    let g = c.args.jobs.now.given in
     let more = is_left c.requires.placing c.if-i-n.false in
     let v = c.loop-k.invariant in
     let end = entry_is g 2 c.args.i _ more c.entry-e.ensures in
-    let bounds = same_bounds (counts_in g) c.args.links.now (jobs_in g) c.args.i more c.requires.placing.ready.proper.linked
-    c.args.place.now c.loop-k.place v.kept
+    let bounds = same_bounds (counts_in g) c.args.jobs.now.links (jobs_in g) c.args.i more c.requires.placing.ready.proper.linked
+    c.args.board.now.place c.loop-k.board.place v.kept
     c.lower_bound-low.ensures c.upper_bound-high.ensures in
     (omega (arith, c.decreases, more, c.entry-e.type_inv, c.entry-e.ensures, c.loop-k-test.true), probe more c.requires v end c.loop-k-test.true bounds)
 
 pub place_job-returns-then-try_frame : goal.place_job-returns-then-try_frame
 place_job-returns-then-try_frame t c =
     let more = is_left c.requires.placing c.if-i-n.false in
-    let end = entry_is c.args.given.now 2 c.args.i _ more c.entry-e.ensures in
+    let end = entry_is c.args.jobs.now.given 2 c.args.i _ more c.entry-e.ensures in
     pass_yes more c.requires.placing.ready c.loop-k.invariant end c.loop-k-test.true c.try_frame.ensures c.if-try_frame.true
 
 pub place_job-loop-k-preserved : goal.place_job-loop-k-preserved
 place_job-loop-k-preserved t c =
     let more = is_left c.requires.placing c.if-i-n.false in
-    let end = entry_is c.args.given.now 2 c.args.i _ more c.entry-e.ensures in
+    let end = entry_is c.args.jobs.now.given 2 c.args.i _ more c.entry-e.ensures in
     pass_on more c.requires.placing.ready c.loop-k.invariant end c.loop-k-test.true c.try_frame.ensures c.if-try_frame.false c.next_row-row.ensures
 
 pub place_job-returns : goal.place_job-returns
 place_job-returns t c =
     let more = is_left c.requires.placing c.if-i-n.false in
-    let end = entry_is c.args.given.now 2 c.args.i _ more c.entry-e.ensures in
+    let end = entry_is c.args.jobs.now.given 2 c.args.i _ more c.entry-e.ensures in
     none_left more c.requires.placing.ready c.loop-k.invariant end c.loop-k-test.false
 
 -- it may not stand there
@@ -87,27 +87,27 @@ pub try_frame-returns-then-is_pruned : goal.try_frame-returns-then-is_pruned
 try_frame-returns-then-is_pruned t c =
     pruned_off c.requires (sym c.may_stand.ensures ∙ c.if-not-may_stand.false) (c.is_pruned.ensures c.if-is_pruned.true)
 
-pub try_frame-overflow_add-load : goal.try_frame-overflow_add-load
-try_frame-overflow_add-load t c =
+pub try_frame-overflow_add-board : goal.try_frame-overflow_add-board
+try_frame-overflow_add-board t c =
     let p = c.requires.testing in
-    let sum = sum_is c.args.given.now c.args.load.now c.args.i c.args.row p.more in
+    let sum = sum_is c.args.jobs.now.given c.args.board.now.load c.args.i c.args.row p.more in
     omega (arith, fits_in p (sym c.may_stand.ensures ∙ c.if-not-may_stand.false), sum, p.ready.short)
 
 -- it is put there
 pub try_frame-place_job-requires : goal.try_frame-place_job-requires
 try_frame-place_job-requires t c =
-    let sum = sum_is c.args.given.now c.args.load.now c.args.i c.args.row c.requires.testing.more in
+    let sum = sum_is c.args.jobs.now.given c.args.board.now.load c.args.i c.args.row c.requires.testing.more in
     let may = sym c.may_stand.ensures ∙ c.if-not-may_stand.false in
     (omega (arith, c.decreases, c.requires.testing.more), put_searching c.requires may sum)
 
 pub try_frame-returns-then-place_job : goal.try_frame-returns-then-place_job
 try_frame-returns-then-place_job t c =
-    let sum = sum_is c.args.given.now c.args.load.now c.args.i c.args.row c.requires.testing.more in
+    let sum = sum_is c.args.jobs.now.given c.args.board.now.load c.args.i c.args.row c.requires.testing.more in
     let may = sym c.may_stand.ensures ∙ c.if-not-may_stand.false in
     went c.requires may sum c.place_job.ensures c.if-place_job.true
 
 pub try_frame-returns : goal.try_frame-returns
 try_frame-returns t c =
-    let sum = sum_is c.args.given.now c.args.load.now c.args.i c.args.row c.requires.testing.more in
+    let sum = sum_is c.args.jobs.now.given c.args.board.now.load c.args.i c.args.row c.requires.testing.more in
     let may = sym c.may_stand.ensures ∙ c.if-not-may_stand.false in
     back c.requires may sum c.place_job.ensures c.if-place_job.false

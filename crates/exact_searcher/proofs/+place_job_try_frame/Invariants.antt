@@ -5,14 +5,11 @@ use Rattle.exact_searcher.proofs.Laws.{Trying}
 use Rattle.exact_searcher.proofs.+place_job_try_frame.Given as goal
 
 abbrev pub decreases-place_job : goal.decreases-place_job
-decreases-place_job l = (jobs_in l.given.now - l.i) * 65537 + 65536
+decreases-place_job l = (jobs_in l.jobs.now.given - l.i) * 65537 + 65536
 
 abbrev pub decreases-try_frame : goal.decreases-try_frame
-decreases-try_frame l = (jobs_in l.given.now - l.i) * 65537 + (get_or (part_in l.given.now 2) l.i 0 - l.k)
+decreases-try_frame l = (jobs_in l.jobs.now.given - l.i) * 65537 + (get_or (part_in l.jobs.now.given 2) l.i 0 - l.k)
 
 abbrev pub invariant-place_job-loop-k : goal.invariant-place_job-loop-k
 invariant-place_job-loop-k l =
-    Trying (problem_in l.given l.links) (jobs_in l.given) l.initial.place l.initial.load l.i l.place l.load l.k l.row
-
-abbrev pub decreases-place_job-loop-k : goal.decreases-place_job-loop-k
-decreases-place_job-loop-k l = l.e - l.k
+    Trying (problem_in l.jobs.given l.jobs.links) (jobs_in l.jobs.given) l.initial.board.place l.initial.board.load l.i l.board.place l.board.load l.k l.row

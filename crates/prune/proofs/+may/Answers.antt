@@ -10,9 +10,9 @@ sweep-requires t c = sweepable c.requires.packed
 
 pub returns-then-not-sweep : goal.returns-then-not-sweep
 returns-then-not-sweep t c =
-    λ _. c.tighten.ensures.keeps (none_of_sweep c.requires.packed c.sides_of-sides.ensures c.rows_of-firsts.ensures c.rows_of-ends.ensures c.requires.marked
+    λ _. c.tighten.ensures.keeps (none_of_sweep c.requires.packed c.rows_of.ensures.0 c.rows_of.ensures.1 c.rows_of.ensures.2 c.requires.marked
     (c.sweep.ensures c.if-not-sweep.true))
 
 pub returns : goal.returns
 returns t c =
-    λ e. c.tighten.ensures.keeps (none_of_both c.requires.packed c.first_unsided-i.result (c.may.ensures c.if-may.false) (c.may-2.ensures e))
+    λ e. c.tighten.ensures.keeps (none_of_both c.requires.packed _ (c.may.ensures c.if-may.false) (c.may-2.ensures e))

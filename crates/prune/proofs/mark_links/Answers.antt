@@ -2,19 +2,13 @@
 use Rattle.prune.proofs.Laws.{marking_start, marking_turn, marking_stop}
 use Rattle.prune.proofs.mark_links.Goals as goal
 
-pub loop-at-init : goal.loop-at-init
-loop-at-init c =
-    marking_start c.requires.links_back c.requires.marked
+pub loop-l-init : goal.loop-l-init
+loop-l-init c = marking_start c.requires.marked
 
-pub loop-at-preserved : goal.loop-at-preserved
-loop-at-preserved c =
-    let loop = c.loop-at in
-    let test = c.loop-at-test in
-    let mark = c.mark in
-    marking_turn c.requires.links_back loop.invariant test.true mark.ensures
+pub loop-l-preserved : goal.loop-l-preserved
+loop-l-preserved c =
+    let e = c.links_of-l-items.ensures in
+    marking_turn c.loop-l.invariant c.requires.links_back (rw e at c.loop-l-test.true) (rw e at c.mark.ensures)
 
 pub returns : goal.returns
-returns c =
-    let loop = c.loop-at in
-    let test = c.loop-at-test in
-    marking_stop c.requires.links_back loop.invariant test.false
+returns c = marking_stop c.loop-l.invariant (rw c.links_of-l-items.ensures at c.loop-l-test.false)

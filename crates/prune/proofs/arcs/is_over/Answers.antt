@@ -1,34 +1,16 @@
 -- The places one after the other: what is needed up to this one, and what there is.
-use Rattle.std.proofs.Common.{arith}
-use Rattle.prune.specs.Arcs.{last_by, weight_by}
-use Rattle.prune.proofs.ArcLaws.{comparing_start, need_small, comparing_more, over_here}
+use Rattle.std.proofs.Common.{arith, ◌<◌, get_or-take, length-take}
+use Rattle.prune.proofs.ArcLaws.{comparing_more, over_here}
 use Rattle.prune.proofs.arcs.is_over.Goals as goal
-
-pub loop-e-init : goal.loop-e-init
-loop-e-init c =
-    comparing_start (last_by c.args.rows c.args.s c.args.low.now c.args.high.now) (weight_by c.args.weights.now) c.args.n c.args.rows c.args.room
-
-pub bounds-need-e : goal.bounds-need-e
-bounds-need-e c = omega (arith, c.loop-e-test.true, c.requires.n_bound.2)
-
-pub overflow_add-sum : goal.overflow_add-sum
-overflow_add-sum c =
-    let v = c.loop-e.invariant in
-    omega (arith, v.need_small, v.most, c.requires.n_bound.2, need_small v c.loop-e-test.true c.requires.n_bound.2 c.requires.n_bound.0 c.needs_of-need.ensures)
-
-pub overflow_add-has : goal.overflow_add-has
-overflow_add-has c =
-    let v = c.loop-e.invariant in
-    omega (arith, v.has_small, v.most, c.requires.n_bound.2)
 
 pub returns-then-sum-has : goal.returns-then-sum-has
 returns-then-sum-has c =
-    let v = c.loop-e.invariant in
-    let test = c.loop-e-test in
-    λ e. over_here (comparing_more v test.true c.requires.n_bound.2 c.requires.n_bound.0 c.needs_of-need.ensures (omega arith)) c.if-sum-has.true
+    let h : c.loop-asked.asked-index < c.args.rows = omega (arith, length-take c.args.rows c.needs_of-need.result) in
+    let more = comparing_more c.loop-asked.invariant h c.requires.n_bound.2 c.requires.n_bound.0 c.needs_of-need.ensures (omega arith) in
+    λ e. over_here more (rw (get_or-take c.args.rows c.needs_of-need.result c.loop-asked.asked-index 0 h) at c.if-sum-has.true)
 
-pub loop-e-preserved : goal.loop-e-preserved
-loop-e-preserved c =
-    let v = c.loop-e.invariant in
-    let test = c.loop-e-test in
-    comparing_more v test.true c.requires.n_bound.2 c.requires.n_bound.0 c.needs_of-need.ensures (omega arith)
+pub loop-asked-preserved : goal.loop-asked-preserved
+loop-asked-preserved c =
+    let h : c.loop-asked.asked-index < c.args.rows = omega (arith, length-take c.args.rows c.needs_of-need.result) in
+    rw (get_or-take c.args.rows c.needs_of-need.result c.loop-asked.asked-index 0 h)
+    (comparing_more c.loop-asked.invariant h c.requires.n_bound.2 c.requires.n_bound.0 c.needs_of-need.ensures (omega arith))

@@ -1,10 +1,6 @@
 -- One job after the other.
-use Rattle.std.proofs.Common.{◌≤◌, ◌-◌}
 use Rattle.prune.specs.Arcs.{last_by, weight_by, Needed}
 use Rattle.prune.proofs.arcs.needs_of.Given as goal
 
 abbrev pub invariant-loop-i : goal.invariant-loop-i
-invariant-loop-i l = (l.i ≤ l.n) × Needed (last_by l.rows l.s l.low l.high) (weight_by l.weights) l.i l.need
-
-abbrev pub decreases-loop-i : goal.decreases-loop-i
-decreases-loop-i l = l.n - l.i
+invariant-loop-i l = Needed (last_by l.rows l.s l.low l.high) (weight_by l.weights) l.i l.need

@@ -1,10 +1,11 @@
 -- One job after the other.
-use Rattle.std.proofs.Common.{◌≤◌, ◌-◌}
-use Rattle.prune.specs.Arrays.{Filled, row_by}
+use Rattle.prune.specs.Arrays.{Filled, side_by}
+use Rattle.prune.proofs.Laws.{sided_row}
 use Rattle.prune.proofs.sides.rows_of.Given as goal
 
 abbrev pub invariant-loop-i : goal.invariant-loop-i
-invariant-loop-i l = (l.i ≤ l.n) × Filled (row_by l.frames l.sides l.away) l.i l.out
-
-abbrev pub decreases-loop-i : goal.decreases-loop-i
-decreases-loop-i l = l.n - l.i
+invariant-loop-i l = record {
+  sides : Filled (side_by l.rows l.low l.high) l.i l.sides;
+  firsts : Filled (sided_row l.rows l.low l.high l.low 1024) l.i l.firsts;
+  ends : Filled (sided_row l.rows l.low l.high l.high 1025) l.i l.ends;
+}

@@ -1,12 +1,7 @@
 -- The jobs one after the other: no placing is left out.
-use Rattle.std.proofs.Common.{◌≤◌, ◌-◌}
-use Rattle.searcher.specs.Arrays.{jobs_in, problem_in}
+use Rattle.searcher.specs.Arrays.{problem_in}
 use Rattle.prune.specs.Arrays.{domains, Tightened}
 use Rattle.prune.proofs.tighten.pass.Given as goal
 
 abbrev pub invariant-loop-i : goal.invariant-loop-i
-invariant-loop-i l =
-    (l.i ≤ jobs_in l.given) × Tightened (problem_in l.given l.links) (domains l.initial.low l.initial.high) (domains l.low l.high)
-
-abbrev pub decreases-loop-i : goal.decreases-loop-i
-decreases-loop-i l = l.n - l.i
+invariant-loop-i l = Tightened (problem_in l.given l.links) (domains l.initial.low l.initial.high) (domains l.low l.high)

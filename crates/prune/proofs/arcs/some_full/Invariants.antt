@@ -1,9 +1,0 @@
--- The steps one after the other.
-use Rattle.std.proofs.Common.{◌≤◌, ◌-◌}
-use Rattle.prune.proofs.arcs.some_full.Given as goal
-
-abbrev pub invariant-loop-k : goal.invariant-loop-k
-invariant-loop-k l = l.k ≤ 5
-
-abbrev pub decreases-loop-k : goal.decreases-loop-k
-decreases-loop-k l = 5 - l.k
