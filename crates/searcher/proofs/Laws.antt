@@ -1,4 +1,4 @@
--- Laws of the search's functions, one for each way through their code, in terms of the arrays' lists: the loop over a job's links, the loop
+-- Laws of the search's functions, one for each way through their code, in terms of the arrays' lists: the bounds by a job's links, the loop
 -- over the frames of its window, with the row as a running number, and the ways through one try. Invariant of that loop: tries left + tries of
 -- the whole search = tries allowed + tries of the frames not yet tested. Assumes nothing.
 use mathlib.Core.Path.{◌≡◌, refl, sym, ap, subst, ◌∙◌}
@@ -16,8 +16,9 @@ use Rattle.cursor.specs.Padded.{padded}
 use Rattle.cursor.specs.PaddedLaws.{set_padded}
 use Rattle.search.specs.Search.{Found, none, at, Walk, go_on}
 use Rattle.search.specs.Counting.{on_none, on_found, one_more, attempt_walk, from_walk, walk_end, walk_more, walk_all, walk_next, walk_may, walk_not}
-use Rattle.search.specs.Placing.{plan_walk, Problem, links_at, links_of, partner, has_room, fits, fold, earliest, latest, Bounds, Linked, LoadsKept}
-use Rattle.search.specs.PlacingLaws.{put_loads, part, fold_end, fold_more, link_in, kept_between}
+use Rattle.std.specs.List.{fold as taken_in}
+use Rattle.search.specs.Placing.{plan_walk, Problem, links_at, links_of, has_room, fits, raise, lower, fold, earliest, latest, Bounds, Linked, LoadsKept}
+use Rattle.search.specs.PlacingLaws.{put_loads, frame_before, kept_between}
 use Rattle.search.specs.LoadLaws.{tested_by_load, fits_room}
 use Rattle.searcher.specs.Arrays.{LinksBack, Ready, Placing, Testing, number, Tried, TriedJob, TriedFrame}
 
@@ -28,38 +29,18 @@ one_stored xs j h room =
     rw (add-one j, take-suc xs j 0 h)
     (ap (λ (i : ℕ). set (padded 128 0 (take j xs)) i (get_or xs j 0)) (sym e) ∙ set_padded 128 0 (take j xs) (get_or xs j 0) (omega arith))
 
--- the loop over the links of job i: v is the bound so far, and with the links from place `at` on it becomes the whole bound
-pub record Bound (next : ℕ → ℕ → ℕ) (start : ℕ) (counts links : List ℕ) (i end at v : ℕ) : Type 0 where
-  pub begun : 16 * i ≤ at
-  pub most : at ≤ end
-  pub stop : end ≡ 16 * i + get_or counts i 0
-  pub room : end ≤ length links
-  pub short : end ≤ 2048
-  pub same : fold next v (part at end links) ≡ fold next start (links_at counts links i)
+-- the links of job i, taken in one after the other by the frames of all jobs, give the bound by the frames of those before it
+same_fold : (next next' : ℕ → ℕ → ℕ) (v : ℕ) (ls : List ℕ) → ((u l : ℕ) → Memᴰ l ls → next u l ≡ next' u l) → taken_in next v ls ≡ fold next' v ls
+unfolding fold
+same_fold next next' v [] same = refl
+same_fold next next' v (l ∷ ls) same = rw (same v l (Memᴰ.head refl)) (same_fold next next' (next' v l) ls (λ u k m. same u k (Memᴰ.tail m)))
 
-module _ {next : ℕ → ℕ → ℕ} {start : ℕ} {counts links : List ℕ} {i : ℕ} (g : LinksBack counts links i) where
-  pub bound_start : Bound next start counts links i (16 * i + get_or counts i 0) (16 * i) start
-  bound_start =
-      let z : 16 * i + get_or counts i 0 - 16 * i ≡ get_or counts i 0 = omega arith in
-      record { begun = omega arith; most = omega arith; stop = refl; room = omega (arith, g.room, g.few); short = omega (arith, g.is_job, g.few); same = rw z }
+module _ {counts links : List ℕ} {i : ℕ} (g : LinksBack counts links i) (place : List ℕ) where
+  pub earliest_left : taken_in (raise place) 0 (links_at counts links i) ≡ earliest (take i place) (links_at counts links i)
+  earliest_left = same_fold (raise place) (raise (take i place)) 0 (links_at counts links i) (λ u l m. let h = g.back l m in rw (frame_before place i l h) refl)
 
-  module _ {end at v : ℕ} (b : Bound next start counts links i end at v) where
-    pub bound_turn : at < end → Bound next start counts links i end (at + 1) (next v (get_or links at 0))
-    bound_turn h = record {
-      begun = omega (arith, b.begun);
-      most = omega arith;
-      stop = b.stop;
-      room = b.room;
-      short = b.short;
-      same = fold_more next links v at end h b.room ∙ b.same;
-    }
-
-    pub bound_stop : end ≤ at → v ≡ fold next start (links_at counts links i)
-    bound_stop h = sym (fold_end next links v at end h) ∙ b.same
-
-    -- the job that the next link names comes before job i
-    pub partner_before : at < end → partner (get_or links at 0) < i
-    partner_before t = g.back (get_or links at 0) (link_in counts links i at b.begun (omega (arith, b.stop)) (omega (arith, b.room)))
+  pub latest_left : taken_in (lower place) 65535 (links_at counts links i) ≡ latest (take i place) (links_at counts links i)
+  latest_left = same_fold (lower place) (lower (take i place)) 65535 (links_at counts links i) (λ u l m. let h = g.back l m in rw (frame_before place i l h) refl)
 
 -- the first entries have the links that all have
 module _ (counts links : List ℕ) (n i : ℕ) (more : i < n) (g : Linked (take n counts) (take (16 * n) links)) where

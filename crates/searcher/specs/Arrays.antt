@@ -25,11 +25,10 @@ pub record Placeable (g : Given) : Type 0 where
   pub short : g.f ≤ 65535
   pub proper : Proper (problem_of g)
 
--- n numbers that two bytes hold
-pub record Small (xs : List ℕ) (n : ℕ) : Type 0 where
-  pub few : n ≤ 128
-  pub all : n ≤ length xs
-  pub small : (j : ℕ) → j < n → get_or xs j 0 ≤ 65535
+-- at most 128 numbers, which two bytes hold
+pub record Small (xs : List ℕ) : Type 0 where
+  pub few : length xs ≤ 128
+  pub small : (j : ℕ) → j < length xs → get_or xs j 0 ≤ 65535
 
 -- what is found, as it is answered, with what is left of the tries
 unfoldable pub placed_answer : Found → ℕ → Placed

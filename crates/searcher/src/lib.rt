@@ -37,16 +37,14 @@ pub struct Placed {
     pub frames: [u16; 128],
 }
 
-// The first n numbers, which are small.
-fn narrow(xs: [u32; 128], n: usize) -> [u16; 128]
-    requires { Small xs n }
-    ensures { result ≡ padded 128 0 (take n xs) }
+// The numbers, which are small.
+fn narrow(xs: &[u32]) -> [u16; 128]
+    requires { Small xs.now }
+    ensures { result ≡ padded 128 0 xs.now }
 {
     let mut out = [0u16; 128];
-    let mut j: usize = 0;
-    while j < n {
-        out[j] = xs[j] as u16;
-        j += 1;
+    for (j, x) in xs.iter().enumerate() {
+        out[j] = *x as u16;
     }
     out
 }
@@ -56,8 +54,7 @@ pub fn pack(given: Given) -> [[u16; 128]; 5]
     requires { Placeable given }
     ensures { (problem_in result given.links ≡ problem_of given) × (jobs_in result ≡ given.n) }
 {
-    let cost = given.cost;
-    let costs = narrow(cost, given.n);
+    let costs = narrow(&given.cost[..given.n]);
     let first = given.first;
     let end = given.end;
     let counts = given.counts;
@@ -76,28 +73,35 @@ pub fn entry(given: &[[u16; 128]; 5], j: usize, i: usize) -> u16
     given[j][i]
 }
 
+// The links of job i.
+fn links_of<'a>(given: &[[u16; 128]; 5], links: &'a [u8; 2048], i: usize) -> &'a [u8]
+    requires { LinksBack (counts_in given.now) links.now i }
+    ensures { result.now ≡ links_at (counts_in given.now) links.now i }
+{
+    let from = 16 * i;
+    &links[from..from + given[3][i] as usize]
+}
+
 // The earliest frame that is left by `low` and by link l.
 fn raised(place: &[u16; 128], l: u8, low: u16) -> u16
-    requires { partner l < 128 }
     ensures { result ≡ raise place.now low l }
 {
-    if l >= 128 {
-        return low;
+    if l < 128 {
+        low.max(place[l as usize])
+    } else {
+        low
     }
-    let k = place[l as usize];
-    if k > low { k } else { low }
 }
 
 // The latest frame that is left by `high` and by link l.
 fn lowered(place: &[u16; 128], l: u8, high: u16) -> u16
-    requires { partner l < 128 }
     ensures { result ≡ lower place.now high l }
 {
     if l < 128 {
-        return high;
+        high
+    } else {
+        high.min(place[(l - 128) as usize])
     }
-    let k = place[(l - 128) as usize];
-    if k < high { k } else { high }
 }
 
 // The earliest frame that the links of job i leave it.
@@ -105,14 +109,9 @@ pub fn lower_bound(given: &[[u16; 128]; 5], links: &[u8; 2048], place: &[u16; 12
     requires { LinksBack (counts_in given.now) links.now i }
     ensures { result ≡ earliest (take i place.now) (links_at (counts_in given.now) links.now i) }
 {
-    let mut at = 16 * i;
-    let end = at + given[3][i] as usize;
-    let mut low = 0;
-    while at < end {
-        low = raised(place, links[at], low);
-        at += 1;
-    }
-    low
+    links_of(given, links, i)
+        .iter()
+        .fold(0, |low, l| raised(place, *l, low))
 }
 
 // The latest frame that the links of job i leave it.
@@ -120,14 +119,9 @@ pub fn upper_bound(given: &[[u16; 128]; 5], links: &[u8; 2048], place: &[u16; 12
     requires { LinksBack (counts_in given.now) links.now i }
     ensures { result ≡ latest (take i place.now) (links_at (counts_in given.now) links.now i) }
 {
-    let mut at = 16 * i;
-    let end = at + given[3][i] as usize;
-    let mut high = 65535;
-    while at < end {
-        high = lowered(place, links[at], high);
-        at += 1;
-    }
-    high
+    links_of(given, links, i)
+        .iter()
+        .fold(65535, |high, l| lowered(place, *l, high))
 }
 
 // The capacity test: by the row's kept load, f, and the job's own cost.
@@ -152,13 +146,7 @@ pub fn may_stand(
     requires { Testing (problem_in given.now links.now) (jobs_in given.now) place.now load.now i k row low high }
     ensures { result ≡ fits (problem_in given.now links.now) (take i place.now) k }
 {
-    if !has_room(load[row], given[4][1], given[0][i]) {
-        return false;
-    }
-    if k < low {
-        return false;
-    }
-    k <= high
+    has_room(load[row], given[4][1], given[0][i]) && (low..=high).contains(&k)
 }
 
 // The row of the frame after one in this row.
@@ -193,15 +181,14 @@ fn place_job(
     let low = lower_bound(given, links, place, i);
     let high = upper_bound(given, links, place, i);
     let rows = given[4][0];
-    let e = entry(given, 2, i);
-    let mut k = given[1][i];
-    let mut row = (k % rows) as usize;
-    while k < e {
+    let first = given[1][i];
+    let end = entry(given, 2, i);
+    let mut row = (first % rows) as usize;
+    for k in first..end {
         let r = try_frame(given, links, place, load, left, i, k, row, low, high);
         if r != 0 {
             return r;
         }
-        k += 1;
         row = next_row(row, rows);
     }
     0

@@ -46,24 +46,24 @@ place_job-try_frame-r-requires t c =
     let v = c.loop-k.invariant in
     let bounds = same_bounds (counts_in g) c.args.links.now (jobs_in g) c.args.i more r.proper.linked c.args.place.now c.loop-k.place v.kept
     c.lower_bound-low.ensures c.upper_bound-high.ensures in
-    (omega (arith, c.decreases, more, c.entry-e.type_inv, c.entry-e.ensures, c.loop-k-test.true), test more c.requires v bounds)
+    (omega (arith, c.decreases, more, c.entry-end.type_inv, c.entry-end.ensures, c.loop-k-test.true), test more c.requires v bounds)
 
 pub place_job-returns-then-r-ne0 : goal.place_job-returns-then-r-ne0
 place_job-returns-then-r-ne0 t c =
     let more = is_left c.requires c.if-i-n.false in
-    let end = entry_is c.args.given.now 2 c.args.i _ more c.entry-e.ensures in
+    let end = entry_is c.args.given.now 2 c.args.i _ more c.entry-end.ensures in
     pass_answer more c.requires c.loop-k.invariant end c.loop-k-test.true c.try_frame-r.ensures c.if-r-ne0.true
 
 pub place_job-loop-k-preserved : goal.place_job-loop-k-preserved
 place_job-loop-k-preserved t c =
     let more = is_left c.requires c.if-i-n.false in
-    let end = entry_is c.args.given.now 2 c.args.i _ more c.entry-e.ensures in
+    let end = entry_is c.args.given.now 2 c.args.i _ more c.entry-end.ensures in
     pass_on more c.requires c.loop-k.invariant end c.loop-k-test.true c.try_frame-r.ensures c.if-r-ne0.false c.next_row-row.ensures
 
 pub place_job-returns : goal.place_job-returns
 place_job-returns t c =
     let more = is_left c.requires c.if-i-n.false in
-    let end = entry_is c.args.given.now 2 c.args.i _ more c.entry-e.ensures in
+    let end = entry_is c.args.given.now 2 c.args.i _ more c.entry-end.ensures in
     none_left more c.requires c.loop-k.invariant end c.loop-k-test.false
 
 pub try_frame-returns-then-left-lt1 : goal.try_frame-returns-then-left-lt1
