@@ -72,10 +72,9 @@ pub const MOST_ROWS: u16 = 256;
 pub fn next_tried(cycle: Cycle, rows: u16) -> u16
     ensures { NextTried (instance_of cycle) rows result }
 {
-    let most = arith::at_most(cycle.h as usize, MOST_ROWS as usize) as u16;
-    let mut next = rows;
-    while next < most {
-        next += 1;
+    let most = cycle.h.min(MOST_ROWS);
+    for passed in rows..most {
+        let next = passed + 1;
         if is_tried(cycle, next) {
             return next;
         }
