@@ -4,7 +4,7 @@
 // and hands over to `place_job` for the next. The load of each row is kept as jobs are put and taken back. Jobs are numbered in the order of placing.
 //
 // `left` is the number of tries that are left: one try is one job tested in one frame of its window, passed over or not. `place_job` and `try_frame`
-// answer 1: the jobs are placed; 0: there is no way to place them; 2: one more try was needed than were left.
+// answer by an `Attempt`.
 //
 // `pack` puts all that is given but the links into one array, so that `place_job`, the call that goes deeper, has six arguments. Its parts are the
 // jobs' costs, the first frames of their windows, the frames where these end, and the numbers of their links; the last part has the number of rows,
@@ -28,13 +28,21 @@ pub struct Given {
     pub f: u16,
 }
 
-// 1, and the frame of each job; 0, where there is no placing; or 2, where finding out takes more tries than are allowed. And how many tries are
-// left of those allowed.
+// The frame of each job; or that there is no placing; or that finding out takes more tries than are allowed. And how many tries are left of those
+// allowed.
 #[derive(Clone, Copy)]
-pub struct Placed {
-    pub answer: u8,
-    pub left: u64,
-    pub frames: [u16; 128],
+pub enum Placed {
+    At { frames: [u16; 128], left: u64 },
+    Nowhere { left: u64 },
+    OutOfTries,
+}
+
+// What an attempt came to: there is no way to place the jobs; they are placed; or one more try was needed than were left.
+#[derive(Clone, Copy, PartialEq, Eq)]
+enum Attempt {
+    Failed,
+    Done,
+    Stopped,
 }
 
 // The numbers, which are small.
@@ -169,14 +177,14 @@ fn place_job(
     load: &mut [u16; 256],
     left: &mut u64,
     i: usize,
-) -> u8
+) -> Attempt
     requires { Placing (problem_in given.now links.now) (jobs_in given.now) place.old load.old i }
     ensures { TriedJob (problem_in given.now links.now) (jobs_in given.now)
         place.old load.old i left.old result place.new load.new left.new }
 {
     let n = given[4][2] as usize;
     if i == n {
-        return 1;
+        return Attempt::Done;
     }
     let low = lower_bound(given, links, place, i);
     let high = upper_bound(given, links, place, i);
@@ -185,13 +193,12 @@ fn place_job(
     let end = entry(given, 2, i);
     let mut row = (first % rows) as usize;
     for k in first..end {
-        let r = try_frame(given, links, place, load, left, i, k, row, low, high);
-        if r != 0 {
-            return r;
+        match try_frame(given, links, place, load, left, i, k, row, low, high) {
+            Attempt::Failed => row = next_row(row, rows),
+            end => return end,
         }
-        row = next_row(row, rows);
     }
-    0
+    Attempt::Failed
 }
 
 // One try: tests job i in frame k, and where it may stand there puts it there, with the jobs after it. Its links leave it the frames from `low`
@@ -208,28 +215,27 @@ fn try_frame(
     row: usize,
     low: u16,
     high: u16,
-) -> u8
+) -> Attempt
     requires { Testing (problem_in given.now links.now) (jobs_in given.now) place.old load.old i k row low high }
     ensures { TriedFrame (problem_in given.now links.now) (jobs_in given.now)
         place.old load.old i k left.old result place.new load.new left.new }
 {
     if *left < 1 {
-        return 2;
+        return Attempt::Stopped;
     }
     let stands = may_stand(given, links, place, load, i, k, row, low, high);
     *left -= 1;
     if !stands {
-        return 0;
+        return Attempt::Failed;
     }
     let l = load[row];
     load[row] = l + given[0][i];
     place[i] = k;
-    let r = place_job(given, links, place, load, left, i + 1);
-    if r != 0 {
-        return r;
+    match place_job(given, links, place, load, left, i + 1) {
+        Attempt::Failed => load[row] = l,
+        end => return end,
     }
-    load[row] = l;
-    0
+    Attempt::Failed
 }
 
 // The first placing of the jobs, if it is found within the tries allowed.
@@ -242,17 +248,9 @@ pub fn place_all(given: Given, allowed: u64) -> Placed
     let mut frames = [0u16; 128];
     let mut load = [0u16; 256];
     let mut left = allowed;
-    let answer = place_job(&packed, &links, &mut frames, &mut load, &mut left, 0);
-    if answer == 1 {
-        return Placed {
-            answer,
-            left,
-            frames,
-        };
-    }
-    Placed {
-        answer,
-        left,
-        frames: [0; 128],
+    match place_job(&packed, &links, &mut frames, &mut load, &mut left, 0) {
+        Attempt::Done => Placed::At { frames, left },
+        Attempt::Failed => Placed::Nowhere { left },
+        Attempt::Stopped => Placed::OutOfTries,
     }
 }
