@@ -38,6 +38,7 @@ pub enum Placed {
 }
 
 // What an attempt came to: there is no way to place the jobs; they are placed; or one more try was needed than were left.
+// `Failed` stands first, so that the loop over frames compares with 0: behind `Done`, nine long searches took 1.19 times as long.
 #[derive(Clone, Copy, PartialEq, Eq)]
 enum Attempt {
     Failed,
@@ -63,14 +64,11 @@ pub fn pack(given: Given) -> [[u16; 128]; 5]
     ensures { (problem_in result given.links ≡ problem_of given) × (jobs_in result ≡ given.n) }
 {
     let costs = narrow(&given.cost[..given.n]);
-    let first = given.first;
-    let end = given.end;
-    let counts = given.counts;
     let mut sizes = [0u16; 128];
     sizes[0] = given.rows;
     sizes[1] = given.f;
     sizes[2] = given.n as u16;
-    [costs, first, end, counts, sizes]
+    [costs, given.first, given.end, given.counts, sizes]
 }
 
 // Entry i of part j. A function, because the prover knows the range of a returned u16 but not of one read from the array.
