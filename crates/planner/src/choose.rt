@@ -72,10 +72,9 @@ pub const MOST_ROWS: u16 = 256;
 pub fn next_tried(cycle: Cycle, rows: u16) -> u16
     ensures { NextTried (instance_of cycle) rows result }
 {
-    let most = arith::at_most(cycle.h as usize, MOST_ROWS as usize) as u16;
-    let mut next = rows;
-    while next < most {
-        next += 1;
+    let most = cycle.h.min(MOST_ROWS);
+    for passed in rows..most {
+        let next = passed + 1;
         if is_tried(cycle, next) {
             return next;
         }
@@ -113,23 +112,22 @@ pub fn choose(cycle: Cycle, allowed: u64) -> ChosenPlan
     let links = problem::links(cycle);
     let mut some = false;
     let mut left = allowed;
+    // The lengths are those that `next_tried` answers, which the exact planner goes through too: the loop counts nothing.
     let mut rows = next_tried(cycle, 0);
     while rows <= MOST_ROWS {
         some = true;
         let f = cycle.h / rows;
-        let plan = plan_with(cycle, cost, links, f, left);
-        if plan.answer == 2 {
-            return none_chosen(23, allowed);
-        }
-        left = plan.left;
-        if plan.answer == 1 {
-            let frames = plan.frames;
-            return ChosenPlan {
-                refusal: 0,
-                f,
-                frames,
-                tries: allowed - left,
-            };
+        match plan_with(cycle, cost, links, f, left) {
+            Placed::At { frames, left } => {
+                return ChosenPlan {
+                    refusal: 0,
+                    f,
+                    frames,
+                    tries: allowed - left,
+                };
+            }
+            Placed::Nowhere { left: still_left } => left = still_left,
+            Placed::OutOfTries => return none_chosen(23, allowed),
         }
         rows = next_tried(cycle, rows);
     }

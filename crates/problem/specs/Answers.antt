@@ -1,19 +1,17 @@
 -- What the functions answer: a number of each job in an array, the links of each job in 16 places of one.
-use Rattle.std.specs.Prelude.{ℕ, ◌*◌, ◌≡◌, List, [], ◌∷◌, ◌++◌, length}
+use Rattle.std.specs.Prelude.{ℕ, ◌*◌, ◌≡◌, List, [], ◌∷◌, ◌++◌, length, Option, Some, None}
 use Rattle.cursor.specs.Padded.{padded}
 use Rattle.model.specs.Plan.{Instance}
 use Rattle.model.specs.Links.{link_counts, link_places}
 use Rattle.problem.specs.declared.JobLinks.{JobLinks}
-use Rattle.problem.specs.declared.LinkFound.{LinkFound}
-use Rattle.problem.specs.declared.LinkFound.TheVariants.{Link, NoLink}
 
 unfoldable pub links_answer : Instance → JobLinks
 links_answer x = record { counts = padded 128 0 (link_counts x); places = padded 2048 0 (link_places x) }
 
 -- at most one link
-abbrev pub as_list : LinkFound → List ℕ
-as_list (Link link) = link ∷ []
-as_list NoLink = []
+abbrev pub as_list : Option ℕ → List ℕ
+as_list (Some link) = link ∷ []
+as_list None = []
 
 -- the links of the job at place y are counted, and stored behind what is in the places of the jobs before it
 pub record Stored (y : ℕ) (links before after : List ℕ) (count : ℕ) : Type 0 where

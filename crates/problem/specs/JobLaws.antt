@@ -1,17 +1,15 @@
--- A number of each job in an array: a loop that stores the numbers of the first jobs comes to those of all. The numbers are a job's cost,
--- or a frame of its window.
+-- A number of each job in an array. The numbers are a job's cost, or a frame of its window.
 use Rattle.std.specs.Prelude.{ℕ, zero, suc, ◌+◌, ◌*◌, ◌-◌, ◌/◌, ◌≤◌, ◌<◌, ◌≡◌, get_or, set, replicate}
 use Rattle.std.proofs.Math.Path.{refl, sym}
-use Rattle.std.proofs.Common.{ap, ◌∙◌, div-lt_iff_lt-mul, add-one}
-use mathlib.Core.List.{List, [], ◌∷◌, ◌++◌, map, map-append}
+use Rattle.std.proofs.Common.{ap, ◌∙◌, div-lt_iff_lt-mul, take, take-suc}
+use mathlib.Core.List.{List, [], ◌∷◌, ◌++◌}
 use Rattle.std.proofs.Math.Nat.{div-zero}
 use native.Mathlib.Omega.{arith}
-use Rattle.std.proofs.Math.ListN.{length, length-map, get_or-eq_default}
+use Rattle.std.proofs.Math.ListN.{length, get_or-eq_default}
 use Rattle.cursor.specs.Padded.{padded, firsts}
-use Rattle.cursor.specs.PaddedLaws.{padded_none, set_padded, firsts_length, get_or_firsts}
+use Rattle.cursor.specs.PaddedLaws.{padded_none, set_padded, firsts_length}
 use Rattle.request.specs.Request.{no_task}
 use Rattle.request.specs.declared.Task.{Task}
-use Rattle.cycle.specs.Planned.{no_job}
 use Rattle.cycle.specs.declared.Job.{Job}
 use Rattle.model.specs.Plan.{slot}
 use Rattle.model.specs.Window.{first_from}
@@ -26,25 +24,11 @@ set_next size blank xs x k e h =
 pub none_stored : {A : Type 0} (size : ℕ) (blank : A) → replicate size blank ≡ padded size blank []
 none_stored size blank = sym (padded_none size blank)
 
-module _ (number : Job → ℕ) (jobs : List Job) where
-  -- the numbers of the first n jobs
-  abbrev pub numbers : ℕ → List ℕ
-  numbers n = padded 128 0 (map number (firsts n no_job jobs))
-
-  pub no_number : replicate 128 0 ≡ numbers 0
-  unfolding firsts
-  no_number = none_stored 128 0
-
-  pub one_number : (y : ℕ) → y < 128 → set (numbers y) y (number (get_or jobs y no_job)) ≡ numbers (y + 1)
-  unfolding firsts
-  one_number y h =
-      let before = map number (firsts y no_job jobs) in
-      let size : length before ≡ y = length-map (firsts y no_job jobs) number ∙ firsts_length no_job jobs y in
-      let more : map number (firsts (y + 1) no_job jobs) ≡ before ++ (number (get_or jobs y no_job) ∷ []) = rw (add-one y, map-append) refl in
-      rw more (set_next 128 0 before (number (get_or jobs y no_job)) y size h)
-
-  pub all_numbers : (y n : ℕ) → y ≤ n → n ≤ y → numbers y ≡ numbers n
-  all_numbers y n l g = let e : y ≡ n = omega arith in rw e
+-- the first places of a list that has as many
+pub firsts_take : {A : Type 0} (blank : A) (xs : List A) (k : ℕ) → k ≤ length xs → firsts k blank xs ≡ take k xs
+unfolding firsts
+firsts_take blank xs zero h = refl
+firsts_take blank xs (suc k) h = rw (firsts_take blank xs k (omega arith), take-suc xs k blank h) refl
 
 -- a task that is not known takes no time but the silent ticks
 module _ (g : ℕ) (places : List Task) (n i : ℕ) where
@@ -52,9 +36,6 @@ module _ (g : ℕ) (places : List Task) (n i : ℕ) where
   unfolding slot
   slot_unknown h =
       omega arith ∙ sym (ap (slot g) (get_or-eq_default (firsts n no_task places) no_task {n = i} (omega (arith, firsts_length no_task places n))))
-
-  pub slot_known : i < n → slot g (get_or places i no_task) ≡ slot g (get_or (firsts n no_task places) i no_task)
-  slot_known h = sym (ap (slot g) (get_or_firsts no_task places n i h))
 
 -- frames of length 0 have no number but 0
 module _ (f : ℕ) (job : Job) where

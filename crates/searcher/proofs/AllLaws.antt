@@ -1,22 +1,24 @@
 -- Laws of the whole search: it may begin with no job placed and no row loaded, and what it comes to is what is answered. Assumes nothing.
 use mathlib.Core.Path.{◌≡◌, refl, sym, ap, subst, subst⁻¹, ◌∙◌}
-use mathlib.Core.Bool.{Bool, true, false}
 use mathlib.Core.List.{List, []}
-use Prim.Native.Nat.{ℕ, ◌*◌, ◌≤◌, ◌<◌}
+use Prim.Native.Nat.{ℕ, ◌*◌, ◌≤◌}
 use native.Mathlib.Omega.{arith}
 use lib.ListN.{length, take, replicate, length-replicate}
 use lib.Seq.{length-take-le}
-use lib.Dec.{ltb}
-use borrow.Author.Tests.{le-ltb, ltb-true, ltb-false}
+use borrow.Author.Tests.{le-ltb, lt-ltb}
 use Rattle.cursor.specs.Padded.{padded}
 use Rattle.cursor.specs.PaddedLaws.{take_padded, get_or_blanks}
 use Rattle.cursor.specs.ArrayLaws.{blank_behind}
-use Rattle.search.specs.Search.{Found, none, at, Walk}
+use Rattle.search.specs.Search.{Walk}
 use Rattle.search.specs.Placing.{plan_walk, Problem, problem, Proper}
 use Rattle.search.specs.LoadLaws.{loads_empty}
-use Rattle.searcher.specs.Arrays.{Placeable, problem_from, problem_of, jobs_in, problem_in, placed_answer, placed_within, Placing, number, Tried, TriedJob}
+use Rattle.searcher.specs.Arrays.{Placeable, problem_from, problem_of, jobs_in, problem_in, placed_answer, placed_within, Placing, Tried, TriedJob}
 use Rattle.searcher.specs.declared.Given.{Given}
 use Rattle.searcher.specs.declared.Placed.{Placed}
+use Rattle.searcher.specs.declared.Placed.TheVariants.{At, Nowhere, OutOfTries}
+use Rattle.searcher.specs.declared.Attempt.{Attempt}
+use Rattle.searcher.specs.declared.Attempt.TheVariants.{Done, Failed, Stopped}
+use Rattle.searcher.proofs.Laws.{reached, none_of_failed, out_of_stopped}
 
 abbrev zeros : ℕ → List ℕ
 zeros k = replicate k 0
@@ -70,32 +72,26 @@ module _ {g : Given} (p : Placeable g) where
     }
 
     -- what is answered
-    module _ {place load : List ℕ} {a answer left : ℕ} (e : TriedJob x n (zeros 128) (zeros 256) 0 a answer place load left) where
+    module _ {place load : List ℕ} {a : ℕ} {r : Attempt} {left : ℕ} (e : TriedJob x n (zeros 128) (zeros 256) 0 a r place load left) where
       abbrev w : Walk
       w = plan_walk (problem_of g) []
 
-      d : Tried x w n (zeros 128) (zeros 256) 0 a answer place load left
-      d = subst (λ (y : Problem). Tried x (plan_walk y []) n (zeros 128) (zeros 256) 0 a answer place load left) same.0 e
+      d : Tried x w n (zeros 128) (zeros 256) 0 a r place load left
+      d = subst (λ (y : Problem). Tried x (plan_walk y []) n (zeros 128) (zeros 256) 0 a r place load left) same.0 e
 
-      pub one_answered : answer ≡ 1 → ◌≡◌ {A = Placed} (record { answer = answer; left = left; frames = place }) (placed_within a w)
+      pub done_answered : r ≡ Done → ◌≡◌ {A = Placed} (At place left) (placed_within a w)
       unfolding placed_within placed_answer
-      one_answered q =
-          let reached : w.tries ≤ a = not_lt (λ t. one_two (sym q ∙ (d.out t).0)) in
+      done_answered q =
+          let fit : w.tries ≤ a = reached d (λ z. cc) in
           let room : n ≤ length place = omega (arith, d.size, zeros_length 128, few) in
-          rw (le-ltb a w.tries reached, d.found q, blank_behind 128 0 place n room d.beyond, (d.enough reached).1, q)
-        where
-          one_two : ◌≡◌ {A = ℕ} 1 2 → ⊥
-          one_two z = omega arith
+          rw (le-ltb a w.tries fit, d.found q, blank_behind 128 0 place n room d.beyond, (d.enough fit).1) refl
 
-          not_lt : (a < w.tries → ⊥) → w.tries ≤ a
-          not_lt h = omega arith
+      pub failed_answered : r ≡ Failed → ◌≡◌ {A = Placed} (Nowhere left) (placed_within a w)
+      unfolding placed_within placed_answer
+      failed_answered q =
+          let (fit, found) = none_of_failed d q in
+          rw (le-ltb a w.tries fit, found, (d.enough fit).1) refl
 
-      pub other_answered : (answer ≡ 1 → ⊥) → ◌≡◌ {A = Placed} (record { answer = answer; left = left; frames = zeros 128 }) (placed_within a w)
-      unfolding placed_within placed_answer number
-      other_answered q = go (ltb a w.tries) refl w.found refl
-        where
-          go : (b : Bool) → ltb a w.tries ≡ b → (o : Found) → w.found ≡ o
-              → ◌≡◌ {A = Placed} (record { answer = answer; left = left; frames = zeros 128 }) (placed_within a w)
-          go true t o p = let s = d.out (ltb-true a w.tries t) in rw (t, s.0, s.1)
-          go false t none p = let s = d.enough (ltb-false a w.tries t) in rw (t, p) (λ i. record { answer = (s.0 ∙ ap number p) i; left = s.1 i; frames = zeros 128 })
-          go false t (at frames) p = absurd (q ((d.enough (ltb-false a w.tries t)).0 ∙ ap number p))
+      pub stopped_answered : r ≡ Stopped → ◌≡◌ {A = Placed} OutOfTries (placed_within a w)
+      unfolding placed_within
+      stopped_answered q = rw (lt-ltb a w.tries (out_of_stopped d q)) refl

@@ -1,4 +1,4 @@
--- Laws of the search's functions, one for each way through their code, in terms of the arrays' lists: the loop over a job's links, the loop
+-- Laws of the search's functions, one for each way through their code, in terms of the arrays' lists: the bounds by a job's links, the loop
 -- over the frames of its window, with the row as a running number, and the ways through one try. Invariant of that loop: tries left + tries of
 -- the whole search = tries allowed + tries of the frames not yet tested. Assumes nothing.
 use mathlib.Core.Path.{◌≡◌, refl, sym, ap, subst, ◌∙◌}
@@ -16,10 +16,13 @@ use Rattle.cursor.specs.Padded.{padded}
 use Rattle.cursor.specs.PaddedLaws.{set_padded}
 use Rattle.search.specs.Search.{Found, none, at, Walk, go_on}
 use Rattle.search.specs.Counting.{on_none, on_found, one_more, attempt_walk, from_walk, walk_end, walk_more, walk_all, walk_next, walk_may, walk_not}
-use Rattle.search.specs.Placing.{plan_walk, Problem, links_at, links_of, partner, has_room, fits, fold, earliest, latest, Bounds, Linked, LoadsKept}
-use Rattle.search.specs.PlacingLaws.{put_loads, part, fold_end, fold_more, link_in, kept_between}
+use Rattle.std.specs.List.{fold as taken_in}
+use Rattle.search.specs.Placing.{plan_walk, Problem, links_at, links_of, has_room, fits, raise, lower, fold, earliest, latest, Bounds, Linked, LoadsKept}
+use Rattle.search.specs.PlacingLaws.{put_loads, frame_before, kept_between}
 use Rattle.search.specs.LoadLaws.{tested_by_load, fits_room}
-use Rattle.searcher.specs.Arrays.{LinksBack, Ready, Placing, Testing, number, Tried, TriedJob, TriedFrame}
+use Rattle.searcher.specs.Arrays.{LinksBack, Ready, Placing, Testing, ended, Tried, TriedJob, TriedFrame}
+use Rattle.searcher.specs.declared.Attempt.{Attempt}
+use Rattle.searcher.specs.declared.Attempt.TheVariants.{Done, Failed, Stopped}
 
 -- one number more in the first unused place
 pub one_stored : (xs : List ℕ) (j : ℕ) → j < length xs → j < 128 → set (padded 128 0 (take j xs)) j (get_or xs j 0) ≡ padded 128 0 (take (j + 1) xs)
@@ -28,38 +31,18 @@ one_stored xs j h room =
     rw (add-one j, take-suc xs j 0 h)
     (ap (λ (i : ℕ). set (padded 128 0 (take j xs)) i (get_or xs j 0)) (sym e) ∙ set_padded 128 0 (take j xs) (get_or xs j 0) (omega arith))
 
--- the loop over the links of job i: v is the bound so far, and with the links from place `at` on it becomes the whole bound
-pub record Bound (next : ℕ → ℕ → ℕ) (start : ℕ) (counts links : List ℕ) (i end at v : ℕ) : Type 0 where
-  pub begun : 16 * i ≤ at
-  pub most : at ≤ end
-  pub stop : end ≡ 16 * i + get_or counts i 0
-  pub room : end ≤ length links
-  pub short : end ≤ 2048
-  pub same : fold next v (part at end links) ≡ fold next start (links_at counts links i)
+-- the links of job i, taken in one after the other by the frames of all jobs, give the bound by the frames of those before it
+same_fold : (next next' : ℕ → ℕ → ℕ) (v : ℕ) (ls : List ℕ) → ((u l : ℕ) → Memᴰ l ls → next u l ≡ next' u l) → taken_in next v ls ≡ fold next' v ls
+unfolding fold
+same_fold next next' v [] same = refl
+same_fold next next' v (l ∷ ls) same = rw (same v l (Memᴰ.head refl)) (same_fold next next' (next' v l) ls (λ u k m. same u k (Memᴰ.tail m)))
 
-module _ {next : ℕ → ℕ → ℕ} {start : ℕ} {counts links : List ℕ} {i : ℕ} (g : LinksBack counts links i) where
-  pub bound_start : Bound next start counts links i (16 * i + get_or counts i 0) (16 * i) start
-  bound_start =
-      let z : 16 * i + get_or counts i 0 - 16 * i ≡ get_or counts i 0 = omega arith in
-      record { begun = omega arith; most = omega arith; stop = refl; room = omega (arith, g.room, g.few); short = omega (arith, g.is_job, g.few); same = rw z }
+module _ {counts links : List ℕ} {i : ℕ} (g : LinksBack counts links i) (place : List ℕ) where
+  pub earliest_left : taken_in (raise place) 0 (links_at counts links i) ≡ earliest (take i place) (links_at counts links i)
+  earliest_left = same_fold (raise place) (raise (take i place)) 0 (links_at counts links i) (λ u l m. let h = g.back l m in rw (frame_before place i l h) refl)
 
-  module _ {end at v : ℕ} (b : Bound next start counts links i end at v) where
-    pub bound_turn : at < end → Bound next start counts links i end (at + 1) (next v (get_or links at 0))
-    bound_turn h = record {
-      begun = omega (arith, b.begun);
-      most = omega arith;
-      stop = b.stop;
-      room = b.room;
-      short = b.short;
-      same = fold_more next links v at end h b.room ∙ b.same;
-    }
-
-    pub bound_stop : end ≤ at → v ≡ fold next start (links_at counts links i)
-    bound_stop h = sym (fold_end next links v at end h) ∙ b.same
-
-    -- the job that the next link names comes before job i
-    pub partner_before : at < end → partner (get_or links at 0) < i
-    partner_before t = g.back (get_or links at 0) (link_in counts links i at b.begun (omega (arith, b.stop)) (omega (arith, b.room)))
+  pub latest_left : taken_in (lower place) 65535 (links_at counts links i) ≡ latest (take i place) (links_at counts links i)
+  latest_left = same_fold (lower place) (lower (take i place)) 65535 (links_at counts links i) (λ u l m. let h = g.back l m in rw (frame_before place i l h) refl)
 
 -- the first entries have the links that all have
 module _ (counts links : List ℕ) (n i : ℕ) (more : i < n) (g : Linked (take n counts) (take (16 * n) links)) where
@@ -98,39 +81,49 @@ is_left g e = omega (arith, g.within)
 placed_before : {x : Problem} {n : ℕ} {place load : List ℕ} {i : ℕ} → Ready x n place load → i < n → length (take i place) ≡ i
 placed_before {x} {n} {place} {load} {i} r more = length-take-le i place (omega (arith, r.places))
 
--- an answer 0 tells that the search has ended with none, within the tries
-module _ {x : Problem} {w : Walk} {n : ℕ} {place load : List ℕ} {i a r : ℕ} {place' load' : List ℕ} {a' : ℕ} (d : Tried x w n place load i a r place' load' a') where
-  none_of_zero : r ≡ 0 → (w.tries ≤ a) × (w.found ≡ none)
-  unfolding number
-  none_of_zero z = (reached, go w.found refl)
+-- an attempt that failed tells that the search has ended with none, within the tries
+module _ {x : Problem} {w : Walk} {n : ℕ} {place load : List ℕ} {i a : ℕ} {r : Attempt} {place' load' : List ℕ} {a' : ℕ} (d : Tried x w n place load i a r place' load' a') where
+  -- one that has not stopped has reached the tries
+  pub reached : (r ≡ Stopped → ⊥) → w.tries ≤ a
+  reached q = not_lt (λ t. q (d.out t).0)
     where
-      reached : w.tries ≤ a
-      reached = not_lt (λ t. zero_two (sym z ∙ (d.out t).0))
-        where
-          zero_two : ◌≡◌ {A = ℕ} 0 2 → ⊥
-          zero_two e = omega arith
+      not_lt : (a < w.tries → ⊥) → w.tries ≤ a
+      not_lt h = omega arith
 
-          not_lt : (a < w.tries → ⊥) → w.tries ≤ a
-          not_lt h = omega arith
+  pub none_of_failed : r ≡ Failed → (w.tries ≤ a) × (w.found ≡ none)
+  unfolding ended
+  none_of_failed z = (fit, go w.found refl)
+    where
+      fit : w.tries ≤ a
+      fit = reached (λ e. cc)
 
       go : (o : Found) → w.found ≡ o → w.found ≡ none
       go none e = e
-      go (at q) e = absurd (one_zero (sym (ap number e) ∙ sym (d.enough reached).0 ∙ z))
-        where
-          one_zero : ◌≡◌ {A = ℕ} 1 0 → ⊥
-          one_zero q = omega arith
+      go (at q) e = let f : r ≡ ended (at q) = (d.enough fit).0 ∙ ap ended e in absurd (let g : r ≡ Done = f in cc)
 
   -- any other answer, where it has none, that the tries ended first
-  out_of_none : (r ≡ 0 → ⊥) → w.found ≡ none → a < w.tries
-  unfolding number
-  out_of_none some e = not_le (λ t. some ((d.enough t).0 ∙ ap number e))
+  out_of_none : (r ≡ Failed → ⊥) → w.found ≡ none → a < w.tries
+  unfolding ended
+  out_of_none some e = not_le (λ t. some ((d.enough t).0 ∙ ap ended e))
     where
       not_le : (w.tries ≤ a → ⊥) → a < w.tries
       not_le h = omega arith
 
+  -- it says that they ended where they did
+  pub out_of_stopped : r ≡ Stopped → a < w.tries
+  unfolding ended
+  out_of_stopped z = not_le (λ t. go w.found refl (d.enough t).0)
+    where
+      not_le : (w.tries ≤ a → ⊥) → a < w.tries
+      not_le h = omega arith
+
+      go : (o : Found) → w.found ≡ o → r ≡ ended w.found → ⊥
+      go none e f = let g : r ≡ Failed = f ∙ ap ended e in cc
+      go (at q) e f = let g : r ≡ Done = f ∙ ap ended e in cc
+
 -- no job is left
-pub all_placed : {x : Problem} {n : ℕ} {place load : List ℕ} {i a : ℕ} → Placing x n place load i → i ≡ n → TriedJob x n place load i a 1 place load a
-unfolding number
+pub all_placed : {x : Problem} {n : ℕ} {place load : List ℕ} {i a : ℕ} → Placing x n place load i → i ≡ n → TriedJob x n place load i a Done place load a
+unfolding ended
 all_placed {x} {n} {place} {load} {i} {a} g h =
     let r = g.ready in
     let d : plan_walk x (take i place) ≡ record { found = at (take n place); tries = 0 } =
@@ -202,8 +195,8 @@ module _ {x : Problem} {n : ℕ} {place load : List ℕ} {i : ℕ} (more : i < n
     test bounds = record { more = more; ready = ready_again; loads = kept_again; at_row = v.at_row; bounds = bounds }
 
     -- the loop ends
-    pub none_left : {e : ℕ} → e ≡ get_or x.end i 0 → e ≤ k → TriedJob x n place load i a₀ 0 place' load' a
-    unfolding number
+    pub none_left : {e : ℕ} → e ≡ get_or x.end i 0 → e ≤ k → TriedJob x n place load i a₀ Failed place' load' a
+    unfolding ended
     none_left is h =
         let d : from_walk x p k ≡ record { found = none; tries = 0 } = walk_end x p k (rw (len, ← is) h) in
         let t : (from_walk x p k).tries ≡ 0 = ap (λ (w : Walk). w.tries) d in
@@ -211,15 +204,15 @@ module _ {x : Problem} {n : ℕ} {place load : List ℕ} {i : ℕ} (more : i < n
         record {
           enough = λ q. (rw f, omega (arith, v.spent));
           out = λ q. absurd (omega (arith, v.spent));
-          found = λ q. absurd (omega arith);
+          found = λ q. absurd (cc);
           kept = v.kept;
           beyond = v.beyond;
           size = v.size;
           undone = λ _. v.undone;
-          loads = λ q. absurd (omega arith);
+          loads = λ q. absurd (cc);
         }
 
-    module _ {e : ℕ} (is : e ≡ get_or x.end i 0) (h : k < e) {b : ℕ} {place₂ load₂ : List ℕ} {a₂ : ℕ} (d : TriedFrame x n place' load' i k a b place₂ load₂ a₂) where
+    module _ {e : ℕ} (is : e ≡ get_or x.end i 0) (h : k < e) {b : Attempt} {place₂ load₂ : List ℕ} {a₂ : ℕ} (d : TriedFrame x n place' load' i k a b place₂ load₂ a₂) where
       abbrev here : Walk
       here = attempt_walk x p k
 
@@ -240,9 +233,9 @@ module _ {x : Problem} {n : ℕ} {place load : List ℕ} {i : ℕ} (more : i < n
       stops e = turn ∙ on_found here.tries behind e
 
       -- the loop goes on
-      pub pass_on : b ≡ 0 → {row' : ℕ} → row' ≡ (row + 1) % x.rows → Trying x n place load i a₀ place₂ load₂ a₂ (k + 1) row'
+      pub pass_on : b ≡ Failed → {row' : ℕ} → row' ≡ (row + 1) % x.rows → Trying x n place load i a₀ place₂ load₂ a₂ (k + 1) row'
       pass_on q w =
-          let (fit, e) = none_of_zero of_here q in
+          let (fit, e) = none_of_failed of_here q in
           let u : (from_walk x p k).tries ≡ here.tries + behind.tries = ap (λ (w : Walk). w.tries) (goes_on e) in
           record {
             kept = d.kept ∙ v.kept;
@@ -255,9 +248,9 @@ module _ {x : Problem} {n : ℕ} {place load : List ℕ} {i : ℕ} (more : i < n
           }
 
       -- the job and those after it are placed, or the tries have ended
-      pub pass_answer : (b ≡ 0 → ⊥) → TriedJob x n place load i a₀ b place₂ load₂ a₂
+      pub pass_answer : (b ≡ Failed → ⊥) → TriedJob x n place load i a₀ b place₂ load₂ a₂
       pass_answer some = record {
-        enough = λ t. reached t here.found refl;
+        enough = λ t. found_here t here.found refl;
         out = λ t. exceeded t here.found refl;
         found = λ q. v.rest ∙ ap (λ (w : Walk). w.found) (stops (of_here.found q));
         kept = d.kept ∙ v.kept;
@@ -267,16 +260,16 @@ module _ {x : Problem} {n : ℕ} {place load : List ℕ} {i : ℕ} (more : i < n
         loads = d.loads;
       }
         where
-          reached : (plan_walk x p).tries ≤ a₀ → (o : Found) → here.found ≡ o → (b ≡ number (plan_walk x p).found) × (a₂ ≡ a₀ - (plan_walk x p).tries)
-          reached t none e =
+          found_here : (plan_walk x p).tries ≤ a₀ → (o : Found) → here.found ≡ o → (b ≡ ended (plan_walk x p).found) × (a₂ ≡ a₀ - (plan_walk x p).tries)
+          found_here t none e =
               let u : (from_walk x p k).tries ≡ here.tries + behind.tries = ap (λ (w : Walk). w.tries) (goes_on e) in
               absurd (omega (arith, v.spent, out_of_none of_here some e))
-          reached t (at q) e =
+          found_here t (at q) e =
               let u : (from_walk x p k).tries ≡ here.tries = ap (λ (w : Walk). w.tries) (stops e) in
               let fit : here.tries ≤ a = omega (arith, v.spent) in
-              ((of_here.enough fit).0 ∙ ap number (e ∙ sym (v.rest ∙ ap (λ (w : Walk). w.found) (stops e))), omega (arith, v.spent, (of_here.enough fit).1))
+              ((of_here.enough fit).0 ∙ ap ended (e ∙ sym (v.rest ∙ ap (λ (w : Walk). w.found) (stops e))), omega (arith, v.spent, (of_here.enough fit).1))
 
-          exceeded : a₀ < (plan_walk x p).tries → (o : Found) → here.found ≡ o → (b ≡ 2) × (a₂ ≡ 0)
+          exceeded : a₀ < (plan_walk x p).tries → (o : Found) → here.found ≡ o → (b ≡ Stopped) × (a₂ ≡ 0)
           exceeded t none e = of_here.out (out_of_none of_here some e)
           exceeded t (at q) e =
               let u : (from_walk x p k).tries ≡ here.tries = ap (λ (w : Walk). w.tries) (stops e) in
@@ -328,39 +321,39 @@ module _ {x : Problem} {n : ℕ} {place load : List ℕ} {i k row low high : ℕ
 
   module _ {a : ℕ} where
     -- no try is left for the test
-    pub none_allowed : a < 1 → TriedFrame x n place load i k a 2 place load a
+    pub none_allowed : a < 1 → TriedFrame x n place load i k a Stopped place load a
     unfolding attempt_walk
     none_allowed z =
         let t : 1 ≤ (attempt_walk x before k).tries = one_more (fits x before k) (plan_walk x (before ++ (k ∷ []))) in
         record {
           enough = λ q. absurd (omega arith);
           out = λ q. (refl, omega arith);
-          found = λ q. absurd (omega arith);
+          found = λ q. absurd (cc);
           kept = refl;
           beyond = refl;
           size = refl;
-          undone = λ q. absurd (omega arith);
-          loads = λ q. absurd (omega arith);
+          undone = λ q. absurd (cc);
+          loads = λ q. absurd (cc);
         }
 
     module _ (some : 1 ≤ a) where
       -- it may not stand there: the frame is passed over
-      pub refused : fits x before k ≡ false → TriedFrame x n place load i k a 0 place load (a - 1)
-      unfolding number
+      pub refused : fits x before k ≡ false → TriedFrame x n place load i k a Failed place load (a - 1)
+      unfolding ended
       refused e =
           let d : attempt_walk x before k ≡ record { found = none; tries = 1 } = walk_not x before k e in
           record {
             enough = rw d (λ _. (refl, refl));
             out = rw d (λ q. absurd (omega arith));
-            found = λ q. absurd (omega arith);
+            found = λ q. absurd (cc);
             kept = refl;
             beyond = refl;
             size = refl;
             undone = λ _. refl;
-            loads = λ q. absurd (omega arith);
+            loads = λ q. absurd (cc);
           }
 
-      module _ (may : fits x before k ≡ true) {v : ℕ} (v_is : v ≡ get_or load row 0 + get_or x.cost i 0) {b : ℕ} {place' load' : List ℕ} {a' : ℕ}
+      module _ (may : fits x before k ≡ true) {v : ℕ} (v_is : v ≡ get_or load row 0 + get_or x.cost i 0) {b : Attempt} {place' load' : List ℕ} {a' : ℕ}
           (d : TriedJob x n (set place i k) (set load row v) (i + 1) (a - 1) b place' load' a') where
         abbrev sub : Walk
         sub = plan_walk x (before ++ (k ∷ []))
@@ -376,15 +369,15 @@ module _ {x : Problem} {n : ℕ} {place load : List ℕ} {i k row low high : ℕ
             sym (take-take i (i + 1) place' (omega arith)) ∙ ap (take i) d.kept
             ∙ take-take i (i + 1) (set place i k) (omega arith) ∙ take-set-le i place i k (omega arith)
 
-        enough_here : (attempt_walk x before k).tries ≤ a → (b ≡ number (attempt_walk x before k).found) × (a' ≡ a - (attempt_walk x before k).tries)
+        enough_here : (attempt_walk x before k).tries ≤ a → (b ≡ ended (attempt_walk x before k).found) × (a' ≡ a - (attempt_walk x before k).tries)
         enough_here =
             rw walk_here (λ t. let fit : sub.tries ≤ a - 1 = omega arith in ((of_sub.enough fit).0, omega (arith, (of_sub.enough fit).1)))
 
-        out_here : a < (attempt_walk x before k).tries → (b ≡ 2) × (a' ≡ 0)
+        out_here : a < (attempt_walk x before k).tries → (b ≡ Stopped) × (a' ≡ 0)
         out_here = rw walk_here (λ t. of_sub.out (omega arith))
 
         -- the jobs after it were placed too, or the tries have ended
-        pub went : (b ≡ 0 → ⊥) → TriedFrame x n place load i k a b place' load' a'
+        pub went : (b ≡ Failed → ⊥) → TriedFrame x n place load i k a b place' load' a'
         went q = record {
           enough = enough_here;
           out = out_here;
@@ -397,14 +390,14 @@ module _ {x : Problem} {n : ℕ} {place load : List ℕ} {i k row low high : ℕ
         }
 
         -- they were not: it is taken back, and its row has the load that it had
-        pub back : b ≡ 0 → TriedFrame x n place load i k a 0 place' (set load' row (get_or load row 0)) a'
+        pub back : b ≡ Failed → TriedFrame x n place load i k a Failed place' (set load' row (get_or load row 0)) a'
         back q = record {
           enough = λ t. (sym q ∙ (enough_here t).0, (enough_here t).1);
           out = λ t. (sym q ∙ (out_here t).0, (out_here t).1);
-          found = λ w. absurd (omega arith);
+          found = λ w. absurd (cc);
           kept = kept_here;
           beyond = d.beyond ∙ drop-set-lt n place i k s.more;
           size = d.size ∙ length-set place i k;
           undone = λ _. ap (λ (l : List ℕ). set l row (get_or load row 0)) (d.undone q) ∙ set-set load row v (get_or load row 0) ∙ set-get_or load row 0;
-          loads = λ w. absurd (omega arith);
+          loads = λ w. absurd (cc);
         }

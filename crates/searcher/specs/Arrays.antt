@@ -1,6 +1,6 @@
 -- What the search is given in arrays: the problem that they stand for, and what its functions require and ensure. A placing has the first n
 -- entries of the array of frames, one for each job. Assumes nothing.
-use Rattle.std.specs.Prelude.{◌≡◌, ℕ, ◌+◌, ◌-◌, ◌*◌, ◌≤◌, ◌<◌, ◌%◌, cond, length, get_or, take, drop, replicate, ltb}
+use Rattle.std.specs.Prelude.{◌≡◌, ℕ, ◌+◌, ◌-◌, ◌*◌, ◌≤◌, ◌<◌, ◌%◌, cond, length, get_or, take, drop, ltb}
 use mathlib.Core.List.{List, [], Memᴰ}
 use Rattle.cursor.specs.Padded.{padded}
 use Rattle.search.specs.Search.{Found, none, at, Walk}
@@ -8,6 +8,9 @@ use Rattle.search.specs.Counting.{attempt_walk}
 use Rattle.search.specs.Placing.{plan_walk, Problem, problem, links_at, partner, Bounds, Proper, LoadsKept}
 use Rattle.searcher.specs.declared.Given.{Given}
 use Rattle.searcher.specs.declared.Placed.{Placed}
+use Rattle.searcher.specs.declared.Placed.TheVariants.{At, Nowhere, OutOfTries}
+use Rattle.searcher.specs.declared.Attempt.{Attempt}
+use Rattle.searcher.specs.declared.Attempt.TheVariants.{Done, Failed, Stopped}
 
 -- the problem of the first n entries of these arrays
 abbrev pub problem_from : List ℕ → List ℕ → List ℕ → List ℕ → List ℕ → ℕ → ℕ → ℕ → Problem
@@ -25,20 +28,19 @@ pub record Placeable (g : Given) : Type 0 where
   pub short : g.f ≤ 65535
   pub proper : Proper (problem_of g)
 
--- n numbers that two bytes hold
-pub record Small (xs : List ℕ) (n : ℕ) : Type 0 where
-  pub few : n ≤ 128
-  pub all : n ≤ length xs
-  pub small : (j : ℕ) → j < n → get_or xs j 0 ≤ 65535
+-- at most 128 numbers, which two bytes hold
+pub record Small (xs : List ℕ) : Type 0 where
+  pub few : length xs ≤ 128
+  pub small : (j : ℕ) → j < length xs → get_or xs j 0 ≤ 65535
 
 -- what is found, as it is answered, with what is left of the tries
 unfoldable pub placed_answer : Found → ℕ → Placed
-placed_answer (at frames) left = record { answer = 1; left = left; frames = padded 128 0 frames }
-placed_answer none left = record { answer = 0; left = left; frames = replicate 128 0 }
+placed_answer (at frames) left = At (padded 128 0 frames) left
+placed_answer none left = Nowhere left
 
--- what is answered where a tries are allowed: 2 "exactly when the full search needs more tries than allowed"
+-- what is answered where a tries are allowed: that they end "exactly when the full search needs more tries than allowed"
 unfoldable pub placed_within : ℕ → Walk → Placed
-placed_within a w = cond (ltb a w.tries) (record { answer = 2; left = 0; frames = replicate 128 0 }) (placed_answer w.found (a - w.tries))
+placed_within a w = cond (ltb a w.tries) OutOfTries (placed_answer w.found (a - w.tries))
 
 -- what is given in one array: its parts
 abbrev pub part_in : List (List ℕ) → ℕ → List ℕ
@@ -90,28 +92,28 @@ pub record Testing (x : Problem) (n : ℕ) (place load : List ℕ) (i k row low 
   pub at_row : row ≡ k % x.rows
   pub bounds : Bounds x (take i place) i low high
 
--- the answer for a placing or none
-unfoldable pub number : Found → ℕ
-number none = 0
-number (at p) = 1
+-- what an attempt comes to that ends with a placing or none
+unfoldable pub ended : Found → Attempt
+ended none = Failed
+ended (at p) = Done
 
 -- how things are left where the search is w, a tries were left before it and a' are after it: if a reaches the tries of w, the answer is the
--- search's, and exactly those are taken off; else it is 2, and none is left. 1 leaves the placing in `place`, with its loads; 0 leaves every load
--- as before; the jobs before i keep their frames, and what stands behind the n jobs is left alone
-pub record Tried (x : Problem) (w : Walk) (n : ℕ) (place load : List ℕ) (i a r : ℕ) (place' load' : List ℕ) (a' : ℕ) : Type 0 where
-  pub enough : w.tries ≤ a → (r ≡ number w.found) × (a' ≡ a - w.tries)
-  pub out : a < w.tries → (r ≡ 2) × (a' ≡ 0)
-  pub found : r ≡ 1 → w.found ≡ at (take n place')
+-- search's, and exactly those are taken off; else it has stopped, and none is left. Done leaves the placing in `place`, with its loads; Failed
+-- leaves every load as before; the jobs before i keep their frames, and what stands behind the n jobs is left alone
+pub record Tried (x : Problem) (w : Walk) (n : ℕ) (place load : List ℕ) (i a : ℕ) (r : Attempt) (place' load' : List ℕ) (a' : ℕ) : Type 0 where
+  pub enough : w.tries ≤ a → (r ≡ ended w.found) × (a' ≡ a - w.tries)
+  pub out : a < w.tries → (r ≡ Stopped) × (a' ≡ 0)
+  pub found : r ≡ Done → w.found ≡ at (take n place')
   pub kept : take i place' ≡ take i place
   pub beyond : drop n place' ≡ drop n place
   pub size : length place' ≡ length place
-  pub undone : r ≡ 0 → load' ≡ load
-  pub loads : r ≡ 1 → LoadsKept x (take n place') load'
+  pub undone : r ≡ Failed → load' ≡ load
+  pub loads : r ≡ Done → LoadsKept x (take n place') load'
 
 -- job i was tried in the frames of its window
-abbrev pub TriedJob : Problem → ℕ → List ℕ → List ℕ → ℕ → ℕ → ℕ → List ℕ → List ℕ → ℕ → Type 0
+abbrev pub TriedJob : Problem → ℕ → List ℕ → List ℕ → ℕ → ℕ → Attempt → List ℕ → List ℕ → ℕ → Type 0
 TriedJob x n place load i a r place' load' a' = Tried x (plan_walk x (take i place)) n place load i a r place' load' a'
 
 -- job i was tried in frame k
-abbrev pub TriedFrame : Problem → ℕ → List ℕ → List ℕ → ℕ → ℕ → ℕ → ℕ → List ℕ → List ℕ → ℕ → Type 0
+abbrev pub TriedFrame : Problem → ℕ → List ℕ → List ℕ → ℕ → ℕ → ℕ → Attempt → List ℕ → List ℕ → ℕ → Type 0
 TriedFrame x n place load i k a r place' load' a' = Tried x (attempt_walk x (take i place) k) n place load i a r place' load' a'

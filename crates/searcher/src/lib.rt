@@ -4,7 +4,7 @@
 // and hands over to `place_job` for the next. The load of each row is kept as jobs are put and taken back. Jobs are numbered in the order of placing.
 //
 // `left` is the number of tries that are left: one try is one job tested in one frame of its window, passed over or not. `place_job` and `try_frame`
-// answer 1: the jobs are placed; 0: there is no way to place them; 2: one more try was needed than were left.
+// answer by an `Attempt`.
 //
 // `pack` puts all that is given but the links into one array, so that `place_job`, the call that goes deeper, has six arguments. Its parts are the
 // jobs' costs, the first frames of their windows, the frames where these end, and the numbers of their links; the last part has the number of rows,
@@ -28,25 +28,32 @@ pub struct Given {
     pub f: u16,
 }
 
-// 1, and the frame of each job; 0, where there is no placing; or 2, where finding out takes more tries than are allowed. And how many tries are
-// left of those allowed.
+// The frame of each job; or that there is no placing; or that finding out takes more tries than are allowed. And how many tries are left of those
+// allowed.
 #[derive(Clone, Copy)]
-pub struct Placed {
-    pub answer: u8,
-    pub left: u64,
-    pub frames: [u16; 128],
+pub enum Placed {
+    At { frames: [u16; 128], left: u64 },
+    Nowhere { left: u64 },
+    OutOfTries,
 }
 
-// The first n numbers, which are small.
-fn narrow(xs: [u32; 128], n: usize) -> [u16; 128]
-    requires { Small xs n }
-    ensures { result ≡ padded 128 0 (take n xs) }
+// What an attempt came to: there is no way to place the jobs; they are placed; or one more try was needed than were left.
+// `Failed` stands first, so that the loop over frames compares with 0: behind `Done`, nine long searches took 1.19 times as long.
+#[derive(Clone, Copy, PartialEq, Eq)]
+enum Attempt {
+    Failed,
+    Done,
+    Stopped,
+}
+
+// The numbers, which are small.
+fn narrow(xs: &[u32]) -> [u16; 128]
+    requires { Small xs.now }
+    ensures { result ≡ padded 128 0 xs.now }
 {
     let mut out = [0u16; 128];
-    let mut j: usize = 0;
-    while j < n {
-        out[j] = xs[j] as u16;
-        j += 1;
+    for (j, x) in xs.iter().enumerate() {
+        out[j] = *x as u16;
     }
     out
 }
@@ -56,16 +63,12 @@ pub fn pack(given: Given) -> [[u16; 128]; 5]
     requires { Placeable given }
     ensures { (problem_in result given.links ≡ problem_of given) × (jobs_in result ≡ given.n) }
 {
-    let cost = given.cost;
-    let costs = narrow(cost, given.n);
-    let first = given.first;
-    let end = given.end;
-    let counts = given.counts;
+    let costs = narrow(&given.cost[..given.n]);
     let mut sizes = [0u16; 128];
     sizes[0] = given.rows;
     sizes[1] = given.f;
     sizes[2] = given.n as u16;
-    [costs, first, end, counts, sizes]
+    [costs, given.first, given.end, given.counts, sizes]
 }
 
 // Entry i of part j. A function, because the prover knows the range of a returned u16 but not of one read from the array.
@@ -76,28 +79,35 @@ pub fn entry(given: &[[u16; 128]; 5], j: usize, i: usize) -> u16
     given[j][i]
 }
 
+// The links of job i.
+fn links_of<'a>(given: &[[u16; 128]; 5], links: &'a [u8; 2048], i: usize) -> &'a [u8]
+    requires { LinksBack (counts_in given.now) links.now i }
+    ensures { result.now ≡ links_at (counts_in given.now) links.now i }
+{
+    let from = 16 * i;
+    &links[from..from + given[3][i] as usize]
+}
+
 // The earliest frame that is left by `low` and by link l.
 fn raised(place: &[u16; 128], l: u8, low: u16) -> u16
-    requires { partner l < 128 }
     ensures { result ≡ raise place.now low l }
 {
-    if l >= 128 {
-        return low;
+    if l < 128 {
+        low.max(place[l as usize])
+    } else {
+        low
     }
-    let k = place[l as usize];
-    if k > low { k } else { low }
 }
 
 // The latest frame that is left by `high` and by link l.
 fn lowered(place: &[u16; 128], l: u8, high: u16) -> u16
-    requires { partner l < 128 }
     ensures { result ≡ lower place.now high l }
 {
     if l < 128 {
-        return high;
+        high
+    } else {
+        high.min(place[(l - 128) as usize])
     }
-    let k = place[(l - 128) as usize];
-    if k < high { k } else { high }
 }
 
 // The earliest frame that the links of job i leave it.
@@ -105,14 +115,9 @@ pub fn lower_bound(given: &[[u16; 128]; 5], links: &[u8; 2048], place: &[u16; 12
     requires { LinksBack (counts_in given.now) links.now i }
     ensures { result ≡ earliest (take i place.now) (links_at (counts_in given.now) links.now i) }
 {
-    let mut at = 16 * i;
-    let end = at + given[3][i] as usize;
-    let mut low = 0;
-    while at < end {
-        low = raised(place, links[at], low);
-        at += 1;
-    }
-    low
+    links_of(given, links, i)
+        .iter()
+        .fold(0, |low, l| raised(place, *l, low))
 }
 
 // The latest frame that the links of job i leave it.
@@ -120,14 +125,9 @@ pub fn upper_bound(given: &[[u16; 128]; 5], links: &[u8; 2048], place: &[u16; 12
     requires { LinksBack (counts_in given.now) links.now i }
     ensures { result ≡ latest (take i place.now) (links_at (counts_in given.now) links.now i) }
 {
-    let mut at = 16 * i;
-    let end = at + given[3][i] as usize;
-    let mut high = 65535;
-    while at < end {
-        high = lowered(place, links[at], high);
-        at += 1;
-    }
-    high
+    links_of(given, links, i)
+        .iter()
+        .fold(65535, |high, l| lowered(place, *l, high))
 }
 
 // The capacity test: by the row's kept load, f, and the job's own cost.
@@ -152,13 +152,7 @@ pub fn may_stand(
     requires { Testing (problem_in given.now links.now) (jobs_in given.now) place.now load.now i k row low high }
     ensures { result ≡ fits (problem_in given.now links.now) (take i place.now) k }
 {
-    if !has_room(load[row], given[4][1], given[0][i]) {
-        return false;
-    }
-    if k < low {
-        return false;
-    }
-    k <= high
+    has_room(load[row], given[4][1], given[0][i]) && (low..=high).contains(&k)
 }
 
 // The row of the frame after one in this row.
@@ -181,30 +175,28 @@ fn place_job(
     load: &mut [u16; 256],
     left: &mut u64,
     i: usize,
-) -> u8
+) -> Attempt
     requires { Placing (problem_in given.now links.now) (jobs_in given.now) place.old load.old i }
     ensures { TriedJob (problem_in given.now links.now) (jobs_in given.now)
         place.old load.old i left.old result place.new load.new left.new }
 {
     let n = given[4][2] as usize;
     if i == n {
-        return 1;
+        return Attempt::Done;
     }
     let low = lower_bound(given, links, place, i);
     let high = upper_bound(given, links, place, i);
     let rows = given[4][0];
-    let e = entry(given, 2, i);
-    let mut k = given[1][i];
-    let mut row = (k % rows) as usize;
-    while k < e {
-        let r = try_frame(given, links, place, load, left, i, k, row, low, high);
-        if r != 0 {
-            return r;
+    let first = given[1][i];
+    let end = entry(given, 2, i);
+    let mut row = (first % rows) as usize;
+    for k in first..end {
+        match try_frame(given, links, place, load, left, i, k, row, low, high) {
+            Attempt::Failed => row = next_row(row, rows),
+            end => return end,
         }
-        k += 1;
-        row = next_row(row, rows);
     }
-    0
+    Attempt::Failed
 }
 
 // One try: tests job i in frame k, and where it may stand there puts it there, with the jobs after it. Its links leave it the frames from `low`
@@ -221,28 +213,27 @@ fn try_frame(
     row: usize,
     low: u16,
     high: u16,
-) -> u8
+) -> Attempt
     requires { Testing (problem_in given.now links.now) (jobs_in given.now) place.old load.old i k row low high }
     ensures { TriedFrame (problem_in given.now links.now) (jobs_in given.now)
         place.old load.old i k left.old result place.new load.new left.new }
 {
     if *left < 1 {
-        return 2;
+        return Attempt::Stopped;
     }
     let stands = may_stand(given, links, place, load, i, k, row, low, high);
     *left -= 1;
     if !stands {
-        return 0;
+        return Attempt::Failed;
     }
     let l = load[row];
     load[row] = l + given[0][i];
     place[i] = k;
-    let r = place_job(given, links, place, load, left, i + 1);
-    if r != 0 {
-        return r;
+    match place_job(given, links, place, load, left, i + 1) {
+        Attempt::Failed => load[row] = l,
+        end => return end,
     }
-    load[row] = l;
-    0
+    Attempt::Failed
 }
 
 // The first placing of the jobs, if it is found within the tries allowed.
@@ -255,17 +246,9 @@ pub fn place_all(given: Given, allowed: u64) -> Placed
     let mut frames = [0u16; 128];
     let mut load = [0u16; 256];
     let mut left = allowed;
-    let answer = place_job(&packed, &links, &mut frames, &mut load, &mut left, 0);
-    if answer == 1 {
-        return Placed {
-            answer,
-            left,
-            frames,
-        };
-    }
-    Placed {
-        answer,
-        left,
-        frames: [0; 128],
+    match place_job(&packed, &links, &mut frames, &mut load, &mut left, 0) {
+        Attempt::Done => Placed::At { frames, left },
+        Attempt::Failed => Placed::Nowhere { left },
+        Attempt::Stopped => Placed::OutOfTries,
     }
 }

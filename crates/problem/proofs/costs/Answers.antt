@@ -1,33 +1,13 @@
--- The loop keeps that the costs of the jobs passed stand in the first places.
-use Rattle.std.proofs.Common.{◌<◌, min, ◌∙◌, arith}
+-- The number of a job is its cost, with the tasks of the cycle.
+use Rattle.std.proofs.Common.{min, ◌∙◌, rules, refl}
 use Rattle.cursor.specs.Padded.{firsts}
 use Rattle.request.specs.Request.{no_task}
+use Rattle.cycle.specs.Planned.{no_job}
 use Rattle.model.specs.Plan.{cost_of, costs}
-use Rattle.problem.specs.JobLaws.{no_number, one_number, all_numbers}
 use Rattle.problem.proofs.costs.Goals as goal
 
-pub loop-y-init : goal.loop-y-init
-loop-y-init c = (omega arith, no_number _ _)
-
-pub bounds-jobs-y : goal.bounds-jobs-y
-bounds-jobs-y c = omega (arith, c.at_most-count.ensures)
-
-pub bounds-out-y : goal.bounds-out-y
-bounds-out-y c = omega (arith, c.at_most-count.ensures)
-
-pub loop-y-preserved : goal.loop-y-preserved
-unfolding cost_of
-loop-y-preserved c =
-    let a = c.args in
-    let l = c.loop-y in
-    let room : l.y < 128 = omega (arith, c.at_most-count.ensures, c.loop-y-test.true) in (
-      omega arith,
-      rw (l.invariant.1, c.cost.ensures)
-          (one_number (cost_of a.cycle.g (firsts (min a.cycle.n 16) no_task a.cycle.tasks)) a.cycle.jobs l.y room),
-    )
-
 pub returns : goal.returns
-unfolding costs
+unfolding costs cost_of
 returns c =
-    let l = c.loop-y in
-    l.invariant.1 ∙ all_numbers _ _ l.y _ l.invariant.0 c.loop-y-test.false ∙ rw c.at_most-count.ensures
+    let a = c.args.cycle in
+    c.each_job.ensures (cost_of a.g (firsts (min a.n 16) no_task a.tasks)) (λ x r p. search rules) ∙ rw (c.first_of-jobs.ensures.those no_job) refl

@@ -1,31 +1,27 @@
 -- The tests of the function are the definition's.
+use Rattle.std.proofs.Common.{◌∙◌, sym, arith}
 use Rattle.problem.specs.LinkLaws.{first_linked, first_not_before, second_linked, second_not_before, not_linked}
 use Rattle.problem.proofs.link_by.Goals as goal
 
-pub returns-then-first-y : goal.returns-then-first-y
-returns-then-first-y c =
+pub returns-in_err-first : goal.returns-in_err-first
+returns-in_err-first c =
     let a = c.args in
-    let place = c.place_before-first.ensures in
-    rw place (first_linked a.jobs a.y a.pair c.if-job-pair.true (rw place at c.if-first-y.true))
+    rw c.from_residual.ensures (first_not_before a.jobs.now a.y a.pair (omega arith) c.if-job-pair.true (sym c.place_of.ensures ∙ c.in_err-first.was))
 
 pub returns-then-job-pair : goal.returns-then-job-pair
 returns-then-job-pair c =
     let a = c.args in
-    first_not_before a.jobs a.y a.pair c.if-job-pair.true (rw c.place_before-first.ensures at c.if-first-y.false)
+    first_linked a.jobs.now a.y a.pair (omega arith) c.if-job-pair.true (sym c.place_of.ensures ∙ c.in_ok-first.was)
 
-pub returns-then-second-y : goal.returns-then-second-y
-returns-then-second-y c =
+pub returns-in_err-second : goal.returns-in_err-second
+returns-in_err-second c =
     let a = c.args in
-    let place = c.place_before-second.ensures in
-    rw place (second_linked a.jobs a.y a.pair c.if-job-pair.false c.if-job-pair-2.true (rw place at c.if-second-y.true))
+    rw c.from_residual-in_err-second.ensures (second_not_before a.jobs.now a.y a.pair (omega arith) c.if-job-pair.false c.if-job-pair-2.true (sym c.place_of-then-job-pair-2.ensures ∙ c.in_err-second.was))
 
-pub returns-else-second-y : goal.returns-else-second-y
-returns-else-second-y c =
+pub returns-then-job-pair-2 : goal.returns-then-job-pair-2
+returns-then-job-pair-2 c =
     let a = c.args in
-    let place = c.place_before-second.ensures in
-    second_not_before a.jobs a.y a.pair c.if-job-pair.false c.if-job-pair-2.true (rw place at c.if-second-y.false)
+    second_linked a.jobs.now a.y a.pair (omega arith) c.if-job-pair.false c.if-job-pair-2.true (sym c.place_of-then-job-pair-2.ensures ∙ c.in_ok-second.was)
 
-pub returns-else-job-pair-2 : goal.returns-else-job-pair-2
-returns-else-job-pair-2 c =
-    let a = c.args in
-    not_linked a.jobs a.y a.pair c.if-job-pair.false c.if-job-pair-2.false
+pub returns : goal.returns
+returns c = not_linked c.args.jobs.now c.args.y c.args.pair c.if-job-pair.false c.if-job-pair-2.false

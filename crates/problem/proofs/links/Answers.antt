@@ -1,32 +1,26 @@
 -- The loop keeps that the links of the jobs passed are counted and stored.
-use Rattle.std.proofs.Common.{◌≤◌, arith}
+use Rattle.std.proofs.Common.{◌<◌, ◌≤◌, length, ap, arith}
+use Rattle.request.specs.Request.{no_pair}
+use Rattle.cycle.specs.Planned.{no_job}
+use Rattle.model.specs.Answers.{instance_of}
 use Rattle.problem.specs.LinkLaws.{no_job_linked, job_linked, all_linked}
 use Rattle.problem.proofs.links.Goals as goal
 
 pub loop-y-init : goal.loop-y-init
-loop-y-init c = (omega arith, no_job_linked _)
-
-pub store_links-requires : goal.store_links-requires
-store_links-requires c =
-    (omega (arith, c.at_most-n.ensures), omega (arith, c.at_most-m.ensures))
-
-pub bounds-counts-y : goal.bounds-counts-y
-bounds-counts-y c = omega (arith, c.at_most-n.ensures)
+loop-y-init c = no_job_linked _
 
 pub loop-y-preserved : goal.loop-y-preserved
 loop-y-preserved c =
-    let cycle = c.args.cycle in
+    let x = instance_of c.args.cycle in
     let l = c.loop-y in
-    let few_jobs : c.at_most-n.result ≤ 128 = omega (arith, c.at_most-n.ensures) in
-    let few_pairs : c.at_most-m.result ≤ 16 = omega (arith, c.at_most-m.ensures) in (
-      omega arith,
-      job_linked cycle.jobs _ cycle.pairs _ few_jobs few_pairs
-          l.y l.counts l.places l.invariant.1 c.loop-y-test.true _ _ c.store_links.ensures,
-    )
+    let jobs = c.first_of-jobs.ensures.those no_job in
+    let pairs = c.first_of-pairs.ensures.those no_pair in
+    let few : length x.pairs ≤ 16 = omega (arith, ap length pairs, c.first_of-pairs.ensures.few) in
+    let room : l.y < 128 = omega (arith, c.first_of-jobs.ensures.few) in
+    job_linked x few l.y l.counts l.places l.invariant room _ _ (rw (jobs, pairs) at c.store_links.ensures)
 
 pub returns : goal.returns
 returns c =
     let l = c.loop-y in
-    let cycle = c.args.cycle in
-    all_linked cycle _ _ c.at_most-n.ensures c.at_most-m.ensures
-    l.y l.counts l.places l.invariant.1 l.invariant.0 c.loop-y-test.false
+    let jobs = ap length (c.first_of-jobs.ensures.those no_job) in
+    all_linked (instance_of c.args.cycle) l.y l.counts l.places l.invariant (omega (arith, jobs))

@@ -1,38 +1,32 @@
 -- The loop keeps that the links by the pairs passed are stored and counted.
-use Rattle.std.proofs.Common.{◌<◌, ◌+◌, ◌*◌, ◌≡◌, arith}
+use Rattle.std.proofs.Common.{arith}
+use Rattle.std.proofs.Math.Seq.{take_all}
 use Rattle.problem.specs.LinkLaws.{no_links, no_link_more, one_link_more}
 use Rattle.problem.proofs.store_links.Goals as goal
-use Rattle.problem.proofs.store_links.Goals.{in-Link, in-NoLink}
+use Rattle.problem.proofs.store_links.Goals.{in-Some, in_default}
 
-pub loop-u-init : goal.loop-u-init
-loop-u-init c = (omega arith, omega arith, no_links _ _ _ _)
+pub loop-pair-init : goal.loop-pair-init
+loop-pair-init c = (omega arith, no_links _ _ c.args.pairs.now _)
 
-pub link_by-requires : goal.link_by-requires
-link_by-requires c = c.requires.0
-
-pub loop-u-preserved : goal.loop-u-preserved
-loop-u-preserved c =
+pub loop-pair-preserved : goal.loop-pair-preserved
+loop-pair-preserved c =
     let a = c.args in
-    let l = c.loop-u in
+    let l = c.loop-pair in
     let gave = c.link_by.ensures in
-    let room : 16 * a.y + l.count < 2048 = omega (arith, c.requires.0, c.requires.1, l.invariant.1, c.loop-u-test.true) in
+    let more = c.loop-pair-test.true in
+    let stored = l.invariant.1 in
     elim c.match-link_by.branch [
-      | in-Link w ↦ (
-        omega arith,
+      | in-Some w ↦ (
         omega arith,
         rw (w.places-is, w.count-is)
-            (one_link_more a.jobs a.y a.pairs l.u _ l.places l.count l.invariant.2 _ (rw w.in-Link.is at gave) room),
+            (one_link_more a.jobs.now a.y a.pairs.now l.pair-index more _ l.places l.count stored _ (rw w.in-Some.is at gave) (omega arith)),
       )
-      | in-NoLink w ↦ (
-        omega arith,
+      | in_default w ↦ (
         omega arith,
         rw (w.places-is, w.count-is)
-            (no_link_more a.jobs a.y a.pairs l.u _ l.places l.count l.invariant.2 (rw w.in-NoLink.is at gave)),
+            (no_link_more a.jobs.now a.y a.pairs.now l.pair-index more _ l.places l.count stored (rw w.in_default.is at gave)),
       )
     ]
 
 pub returns : goal.returns
-returns c =
-    let l = c.loop-u in
-    let all : l.u ≡ c.args.m = omega (arith, l.invariant.0, c.loop-u-test.false) in
-    rw all at l.invariant.2
+returns c = rw (take_all c.loop-pair.pair-index c.args.pairs.now c.loop-pair-test.false) at c.loop-pair.invariant.1

@@ -38,32 +38,32 @@ place_job-loop-k-init t c =
     let more = is_left c.requires c.if-i-n.false in
     none_tried more c.requires (entry_is c.args.given.now 1 c.args.i _ more refl)
 
-pub place_job-try_frame-r-requires : goal.place_job-try_frame-r-requires
-place_job-try_frame-r-requires t c =
+pub place_job-try_frame-requires : goal.place_job-try_frame-requires
+place_job-try_frame-requires t c =
     let g = c.args.given.now in
     let more = is_left c.requires c.if-i-n.false in
     let r = c.requires.ready in
     let v = c.loop-k.invariant in
     let bounds = same_bounds (counts_in g) c.args.links.now (jobs_in g) c.args.i more r.proper.linked c.args.place.now c.loop-k.place v.kept
     c.lower_bound-low.ensures c.upper_bound-high.ensures in
-    (omega (arith, c.decreases, more, c.entry-e.type_inv, c.entry-e.ensures, c.loop-k-test.true), test more c.requires v bounds)
+    (omega (arith, c.decreases, more, c.entry-end.type_inv, c.entry-end.ensures, c.loop-k-test.true), test more c.requires v bounds)
 
-pub place_job-returns-then-r-ne0 : goal.place_job-returns-then-r-ne0
-place_job-returns-then-r-ne0 t c =
+pub place_job-returns-in_default : goal.place_job-returns-in_default
+place_job-returns-in_default t c =
     let more = is_left c.requires c.if-i-n.false in
-    let end = entry_is c.args.given.now 2 c.args.i _ more c.entry-e.ensures in
-    pass_answer more c.requires c.loop-k.invariant end c.loop-k-test.true c.try_frame-r.ensures c.if-r-ne0.true
+    let end = entry_is c.args.given.now 2 c.args.i _ more c.entry-end.ensures in
+    pass_answer more c.requires c.loop-k.invariant end c.loop-k-test.true c.try_frame.ensures c.in_default.not-Failed
 
 pub place_job-loop-k-preserved : goal.place_job-loop-k-preserved
 place_job-loop-k-preserved t c =
     let more = is_left c.requires c.if-i-n.false in
-    let end = entry_is c.args.given.now 2 c.args.i _ more c.entry-e.ensures in
-    pass_on more c.requires c.loop-k.invariant end c.loop-k-test.true c.try_frame-r.ensures c.if-r-ne0.false c.next_row-row.ensures
+    let end = entry_is c.args.given.now 2 c.args.i _ more c.entry-end.ensures in
+    pass_on more c.requires c.loop-k.invariant end c.loop-k-test.true c.try_frame.ensures c.in-Failed.is c.next_row-row.ensures
 
 pub place_job-returns : goal.place_job-returns
 place_job-returns t c =
     let more = is_left c.requires c.if-i-n.false in
-    let end = entry_is c.args.given.now 2 c.args.i _ more c.entry-e.ensures in
+    let end = entry_is c.args.given.now 2 c.args.i _ more c.entry-end.ensures in
     none_left more c.requires c.loop-k.invariant end c.loop-k-test.false
 
 pub try_frame-returns-then-left-lt1 : goal.try_frame-returns-then-left-lt1
@@ -81,19 +81,19 @@ try_frame-overflow_add-load t c =
     omega (arith, fits_in c.requires (sym c.may_stand-stands.ensures ∙ c.if-not-stands.false), sum, c.requires.ready.short)
 
 -- it is put there
-pub try_frame-place_job-r-requires : goal.try_frame-place_job-r-requires
-try_frame-place_job-r-requires t c =
+pub try_frame-place_job-requires : goal.try_frame-place_job-requires
+try_frame-place_job-requires t c =
     let sum = sum_is c.args.given.now c.args.load.now c.args.i c.args.row c.requires.more in
     (omega (arith, c.decreases, c.requires.more), put c.requires sum)
 
-pub try_frame-returns-then-r-ne0 : goal.try_frame-returns-then-r-ne0
-try_frame-returns-then-r-ne0 t c =
+pub try_frame-returns-in_default : goal.try_frame-returns-in_default
+try_frame-returns-in_default t c =
     let sum = sum_is c.args.given.now c.args.load.now c.args.i c.args.row c.requires.more in
     let may = sym c.may_stand-stands.ensures ∙ c.if-not-stands.false in
-    went c.requires (omega (arith, c.if-left-lt1.false)) may sum c.place_job-r.ensures c.if-r-ne0.true
+    went c.requires (omega (arith, c.if-left-lt1.false)) may sum c.place_job.ensures c.in_default.not-Failed
 
 pub try_frame-returns : goal.try_frame-returns
 try_frame-returns t c =
     let sum = sum_is c.args.given.now c.args.load.now c.args.i c.args.row c.requires.more in
     let may = sym c.may_stand-stands.ensures ∙ c.if-not-stands.false in
-    back c.requires (omega (arith, c.if-left-lt1.false)) may sum c.place_job-r.ensures c.if-r-ne0.false
+    back c.requires (omega (arith, c.if-left-lt1.false)) may sum c.place_job.ensures c.in-Failed.is

@@ -13,6 +13,3 @@ decreases-try_frame l = (jobs_in l.given.now - l.i) * 65537 + (get_or (part_in l
 abbrev pub invariant-place_job-loop-k : goal.invariant-place_job-loop-k
 invariant-place_job-loop-k l =
     Trying (problem_in l.given l.links) (jobs_in l.given) l.initial.place l.initial.load l.i l.initial.left l.place l.load l.left l.k l.row
-
-abbrev pub decreases-place_job-loop-k : goal.decreases-place_job-loop-k
-decreases-place_job-loop-k l = l.e - l.k

@@ -1,6 +1,5 @@
 -- `may_stand`: with the loads kept, the test by the row's load and by the bounds of the links is the search's test.
-use Rattle.std.proofs.Common.{◌≡◌, ◌∙◌, ◌&&◌, ◌<◌, mod-lt, arith, take, get_or, get_or-take, leb, le-leb}
-use borrow.Author.Tests.{lt-leb}
+use Rattle.std.proofs.Common.{◌≡◌, rules, refl, ◌∙◌, ◌&&◌, ◌<◌, mod-lt, arith, take, get_or, get_or-take, leb}
 use Rattle.search.specs.Placing.{has_room, fits}
 use Rattle.searcher.specs.Arrays.{part_in, jobs_in, problem_in}
 use Rattle.searcher.proofs.Laws.{tested}
@@ -26,19 +25,11 @@ room_is : (c : After-has_room) → let a = c.args in
     c.has_room.result ≡ has_room (get_or a.load.now a.row 0) (get_or (part_in a.given.now 4) 1 0) (get_or (part_in a.given.now 0) a.i 0)
 room_is c = c.has_room.ensures
 
-pub returns-then-not-has_room : goal.returns-then-not-has_room
-returns-then-not-has_room c =
-    rw (test_is (goal.at.returns-then-not-has_room c).Start, ← room_is (goal.at.returns-then-not-has_room c).After-has_room, c.if-not-has_room.true)
+pub returns-then-has_room : goal.returns-then-has_room
+returns-then-has_room c =
+    let between : c.contains.result ≡ (leb c.args.low c.args.k && leb c.args.k c.args.high) = search rules in
+    rw (test_is (goal.at.returns-then-has_room c).Start, ← room_is (goal.at.returns-then-has_room c).After-has_room, c.if-has_room.true) between
 
-pub returns-then-k-low : goal.returns-then-k-low
-returns-then-k-low c =
-    rw (
-      test_is (goal.at.returns-then-k-low c).Start,
-      ← room_is (goal.at.returns-then-k-low c).After-has_room,
-      c.if-not-has_room.false,
-      lt-leb c.args.low c.args.k c.if-k-low.true,
-    )
-
-pub returns : goal.returns
-returns c =
-    rw (test_is (goal.at.returns c).Start, ← room_is (goal.at.returns c).After-has_room, c.if-not-has_room.false, le-leb c.args.low c.args.k c.if-k-low.false)
+pub returns-else-has_room : goal.returns-else-has_room
+returns-else-has_room c =
+    rw (test_is (goal.at.returns-else-has_room c).Start, ← room_is (goal.at.returns-else-has_room c).After-has_room, c.if-has_room.false) refl

@@ -7,22 +7,19 @@ use Rattle.planner.proofs.choose.choose.Goals as goal
 pub loop-rows-init : goal.loop-rows-init
 loop-rows-init c = searching_start c.args.allowed c.next_tried-rows.ensures
 
-pub plan_with-plan-requires : goal.plan_with-plan-requires
-plan_with-plan-requires c =
+pub plan_with-requires : goal.plan_with-requires
+plan_with-requires c =
     let tried = c.loop-rows.invariant.so_far.tried c.loop-rows-test.true in
     searchable c.args.cycle _ _ c.loop-rows.rows c.requires c.costs-cost.ensures c.links-links.ensures tried
 
-pub returns-then-plan-eq2 : goal.returns-then-plan-eq2
-returns-then-plan-eq2 c =
-    c.none_chosen.ensures ∙ out_with c.loop-rows.invariant c.loop-rows-test.true c.plan_with-plan.ensures c.if-plan-eq2.true
+pub returns-in-OutOfTries : goal.returns-in-OutOfTries
+returns-in-OutOfTries c = c.none_chosen.ensures ∙ out_with c.loop-rows.invariant c.loop-rows-test.true c.in-OutOfTries.ensures
 
 pub overflow_sub-result : goal.overflow_sub-result
-overflow_sub-result c =
-    left_less c.loop-rows.invariant c.loop-rows-test.true c.plan_with-plan.ensures c.if-plan-eq2.false
+overflow_sub-result c = left_less c.loop-rows.invariant c.loop-rows-test.true c.in-At.ensures
 
-pub returns-then-plan-eq1 : goal.returns-then-plan-eq1
-returns-then-plan-eq1 c =
-    one_with c.loop-rows.invariant c.loop-rows-test.true c.plan_with-plan.ensures c.if-plan-eq2.false c.if-plan-eq1.true
+pub returns-in-At : goal.returns-in-At
+returns-in-At c = one_with c.loop-rows.invariant c.loop-rows-test.true c.in-At.ensures
 
 pub loop-rows-smaller : goal.loop-rows-smaller
 loop-rows-smaller c =
@@ -30,8 +27,7 @@ loop-rows-smaller c =
 
 pub loop-rows-preserved : goal.loop-rows-preserved
 loop-rows-preserved c =
-    none_with c.loop-rows.invariant c.loop-rows-test.true c.plan_with-plan.ensures c.if-plan-eq2.false c.if-plan-eq1.false
-    c.next_tried-rows-in-loop-rows.ensures
+    none_with c.loop-rows.invariant c.loop-rows-test.true c.in-Nowhere.ensures c.next_tried-rows-in-loop-rows.ensures
 
 pub returns : goal.returns
 returns c = c.none_left.ensures ∙ passed c.loop-rows.invariant c.loop-rows-test.false
