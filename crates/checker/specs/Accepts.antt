@@ -2,7 +2,7 @@
 -- An accepted table describes the plan read from it: a job's entry is the one its walk stops at, and every entry is such a one. A table that
 -- describes a plan has for each job the plan's entry only, so the walk stops there; and an entry gives its frame, since that is below 2F.
 use Prim.Native.Nat.{ℕ, ◌+◌, ◌*◌, ◌-◌, ◌%◌, ◌≤◌, ◌<◌}
-use Rattle.std.specs.Prelude.{◌≡◌, Bool, ◌&&◌, List, ◌↔◌, get_or, eqb}
+use Rattle.std.specs.Prelude.{Some, None, ◌≡◌, Bool, ◌&&◌, List, ◌↔◌, get_or, eqb}
 use Rattle.std.proofs.Math.Path.{refl, sym}
 use Rattle.std.proofs.Common.{ap, subst, ◌∙◌}
 use Rattle.std.proofs.Math.Bool.{true, false, cond}
@@ -38,11 +38,9 @@ use Rattle.plan_rules.specs.Every.{every}
 use Rattle.plan_rules.specs.EveryLaws.{every_says, says_every, some_says, says_some}
 use Rattle.plan_rules.specs.Rules.{rules_right}
 use Rattle.plan_rules.specs.RulesSay.{rules_say, say_rules}
-use Rattle.checker.specs.Checked.{position_in, frame_for, is_found, frame_at_position, frame_in, frames_in, is_placed, is_there}
+use Rattle.checker.specs.Checked.{Position, position_in, frame_for, is_found, frame_at_position, frame_in, frames_in, is_placed, is_there}
 use Rattle.checker.specs.Checked.{entry_kept, rows_kept, entries_right, Verdict, accepted, refusal, plan_of, judged_by, judged, checked_by, checked}
 use Rattle.checker.specs.PositionLaws.{entry_with, RightIn, place_right, rows_say, say_rows}
-use Rattle.checker.specs.declared.walk.Position.{Position}
-use Rattle.checker.specs.declared.walk.Position.TheVariants.{At, Nowhere}
 
 -- a frame below 2F, its row and its carry
 module _ (rows : ℕ) where
@@ -116,11 +114,11 @@ module _ {rule : ℕ → Task → Bool} (x : Instance) (t : Table) (form : WellF
   placed y h e = go (position_in (job_at x y) 0 t.rows) (place_right (job_at x y) 0 t.rows) e (frame_read y h)
     where
       go : (p : Position) → RightIn (job_at x y) 0 t.rows p → is_found p ≡ true → frame_at frames y ≡ frame_at_position (length t.rows) p → Placed y
-      go (At r carried) right found frame =
+      go (Some (r, carried)) right found frame =
           let (j, is, low, m) = right in
           let same : r ≡ j = omega arith in
           record { row = j; carried = carried; below = low; frame = rw same at frame; there = m }
-      go Nowhere right found frame = absurd (never (cc))
+      go None right found frame = absurd (never (cc))
 
   describes : entries_right x t.rows frames ≡ true → Describes x t.f frames t
   unfolding entries_right entry_kept
@@ -208,11 +206,11 @@ module _ (x : Instance) (g : Good x) (t : Table) (frames : List ℕ) (v : IsPlan
   walked y h = go (position_in (job_at x y) 0 t.rows) (place_right (job_at x y) 0 t.rows)
     where
       go : (p : Position) → RightIn (job_at x y) 0 t.rows p → (is_found p ≡ true) × (frame_at_position (length t.rows) p ≡ frame_at frames y)
-      go (At r carried) right =
+      go (Some (r, carried)) right =
           let (j, is, low, m) = right in
           let same : r ≡ j = omega arith in
           (refl, rw same (entry_frame y j (entry_with (job_at x y) carried) h low m (record { task_is = refl; number_is = refl })))
-      go Nowhere right =
+      go None right =
           absurd (right (row_for x t.f frames y) (entry_for x t.f frames y) (d.each y h) (entry_names x t.f frames y))
 
   frames_read_lem : frames_in t.rows x.jobs ≡ frames

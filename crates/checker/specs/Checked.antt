@@ -1,5 +1,5 @@
 -- The check, in the words of 01's "Checking" and "A plan": what it answers to a request's cycle and a decoded table.
-use Rattle.std.specs.Prelude.{ℕ, ◌+◌, Bool, true, cond, ◌&&◌, List, [], ◌∷◌, map, length, get_or, eqb}
+use Rattle.std.specs.Prelude.{ℕ, ◌+◌, Bool, true, cond, ◌&&◌, Option, Some, None, List, [], ◌∷◌, map, length, get_or, eqb}
 use Rattle.cycle.specs.Cycle.{Cycle, cycle, no_cycle, cycle_of}
 use Rattle.cycle.specs.Planned.{no_job}
 use Rattle.cycle.specs.declared.Job.{Job}
@@ -10,21 +10,23 @@ use Rattle.model.specs.Plausible.{plausible}
 use Rattle.model.specs.Answers.{instance}
 use Rattle.plan_rules.specs.Every.{every, some}
 use Rattle.plan_rules.specs.Rules.{rules_right}
-use Rattle.checker.specs.declared.walk.Position.{Position}
-use Rattle.checker.specs.declared.walk.Position.TheVariants.{At, Nowhere}
+
+-- the row of a job's entry, and its carry
+abbrev pub Position : Type 0
+Position = Option (ℕ × Bool)
 
 -- "For each job it walks the rows, and in each row its entries, and stops at the first entry naming the job.": the entries of row r
 unfoldable pub position_in_row : Job → ℕ → List Entry → Position
-position_in_row job r [] = Nowhere
-position_in_row job r (e ∷ es) = cond (is_job e.task e.number job) (At r e.carried) (position_in_row job r es)
+position_in_row job r [] = None
+position_in_row job r (e ∷ es) = cond (is_job e.task e.number job) (Some (r, e.carried)) (position_in_row job r es)
 
 abbrev pub or_else : Position → Position → Position
-or_else (At r carried) next = At r carried
-or_else Nowhere next = next
+or_else (Some (r, carried)) next = Some (r, carried)
+or_else None next = next
 
 -- the rows from row r on
 unfoldable pub position_in : Job → ℕ → List (List Entry) → Position
-position_in job r [] = Nowhere
+position_in job r [] = None
 position_in job r (es ∷ rows) = or_else (position_in_row job r es) (position_in job (r + 1) rows)
 
 -- "k may reach F or beyond; the job then stands in row k mod F with carry": the frame of row r of F, with carry or without
@@ -33,12 +35,12 @@ frame_for rows r carried = r + cond carried rows 0
 
 -- For each case of a place its frame and its number: the job stands in row r of F; or "a missing job" breaks the plan, which is 14.
 abbrev pub frame_at_position : ℕ → Position → ℕ
-frame_at_position rows (At r carried) = frame_for rows r carried
-frame_at_position rows Nowhere = 0
+frame_at_position rows (Some (r, carried)) = frame_for rows r carried
+frame_at_position rows None = 0
 
 abbrev pub position_number : Position → ℕ
-position_number (At r carried) = 0
-position_number Nowhere = 14
+position_number (Some (r, carried)) = 0
+position_number None = 14
 
 abbrev pub is_found : Position → Bool
 is_found p = eqb (position_number p) 0

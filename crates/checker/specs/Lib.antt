@@ -13,6 +13,5 @@ pub mod Accepts
 pub mod PositionLaws
 pub mod WalkLaws
 pub mod LoopLaws
-pub mod NameLaws
 pub mod ReadLaws
 pub mod Verdicts

@@ -1,7 +1,7 @@
 -- What the walk for a job finds: an entry naming it, in the row it says, and none only where no row has one; and what it says that each entry
 -- is that of a job in its frame.
 use Prim.Native.Nat.{ℕ, zero, suc, ◌+◌, ◌<◌}
-use Rattle.std.specs.Prelude.{◌≡◌, Bool, cond, length, get_or}
+use Rattle.std.specs.Prelude.{◌≡◌, Bool, cond, Some, None, length, get_or}
 use Rattle.std.proofs.Math.Path.{refl}
 use Rattle.std.proofs.Math.Bool.{true, false}
 use mathlib.Core.List.{List, [], ◌∷◌}
@@ -13,9 +13,7 @@ use Rattle.table.specs.Table.{Entry}
 use Rattle.model.specs.Named.{is_job}
 use Rattle.model.specs.NamedLaws.{Named, job_says, says_job}
 use Rattle.model.specs.Described.{Among}
-use Rattle.checker.specs.Checked.{position_in_row, or_else, position_in, entry_kept, row_kept, rows_kept}
-use Rattle.checker.specs.declared.walk.Position.{Position}
-use Rattle.checker.specs.declared.walk.Position.TheVariants.{At, Nowhere}
+use Rattle.checker.specs.Checked.{Position, position_in_row, or_else, position_in, entry_kept, row_kept, rows_kept}
 
 -- the entry of a job
 abbrev pub entry_with : Job → Bool → Entry
@@ -24,12 +22,12 @@ entry_with job carried = record { task = job.task; number = job.number; carried 
 module _ (job : Job) where
   -- what a place in a row says, and what in rows from row r on
   abbrev RightInRow : ℕ → List Entry → Position → Type 0
-  RightInRow r es (At k carried) = (k ≡ r) × Among (entry_with job carried) es
-  RightInRow r es Nowhere = (e : Entry) → Among e es → Named e.task e.number job → ⊥
+  RightInRow r es (Some (k, carried)) = (k ≡ r) × Among (entry_with job carried) es
+  RightInRow r es None = (e : Entry) → Among e es → Named e.task e.number job → ⊥
 
   abbrev pub RightIn : ℕ → List (List Entry) → Position → Type 0
-  RightIn r rows (At k carried) = (j : ℕ) × (k ≡ r + j) × (j < length rows) × Among (entry_with job carried) (get_or rows j [])
-  RightIn r rows Nowhere = (j : ℕ) (e : Entry) → Among e (get_or rows j []) → Named e.task e.number job → ⊥
+  RightIn r rows (Some (k, carried)) = (j : ℕ) × (k ≡ r + j) × (j < length rows) × Among (entry_with job carried) (get_or rows j [])
+  RightIn r rows None = (j : ℕ) (e : Entry) → Among e (get_or rows j []) → Named e.task e.number job → ⊥
 
   entry_is : (e : Entry) → Named e.task e.number job → entry_with job e.carried ≡ e
   entry_is e v = λ i. record { task = v.task_is i; number = v.number_is i; carried = e.carried }
@@ -39,10 +37,10 @@ module _ (job : Job) where
   row_right r [] = λ e m v. m
   row_right r (e ∷ es) = go (is_job e.task e.number job) refl (position_in_row job r es) (row_right r es)
     where
-      go : (b : Bool) → is_job e.task e.number job ≡ b → (p : Position) → RightInRow r es p → RightInRow r (e ∷ es) (cond b (At r e.carried) p)
+      go : (b : Bool) → is_job e.task e.number job ≡ b → (p : Position) → RightInRow r es p → RightInRow r (e ∷ es) (cond b (Some (r, e.carried)) p)
       go true q p h = (refl, inl (entry_is e (job_says e.task e.number job q)))
-      go false q (At k carried) h = (h.0, inr h.1)
-      go false q Nowhere h = λ a m v.
+      go false q (Some (k, carried)) h = (h.0, inr h.1)
+      go false q None h = λ a m v.
           ⊎_elim (λ s. never (let t : is_job e.task e.number job ≡ true = rw (← s) (says_job a.task a.number job v) in cc))
           (λ m. h a m v) m
 
@@ -52,9 +50,9 @@ module _ (job : Job) where
   place_right r (es ∷ rows) = go (position_in_row job r es) (row_right r es) (position_in job (r + 1) rows) (place_right (r + 1) rows)
     where
       go : (p : Position) → RightInRow r es p → (q : Position) → RightIn (r + 1) rows q → RightIn r (es ∷ rows) (or_else p q)
-      go (At k carried) h q rest = (0, omega (arith, h.0), omega arith, h.1)
-      go Nowhere h (At k carried) rest = let (j, k_is, low, m) = rest in (suc j, omega arith, omega arith, m)
-      go Nowhere h Nowhere rest = λ j e m v. other j e m v
+      go (Some (k, carried)) h q rest = (0, omega (arith, h.0), omega arith, h.1)
+      go None h (Some (k, carried)) rest = let (j, k_is, low, m) = rest in (suc j, omega arith, omega arith, m)
+      go None h None rest = λ j e m v. other j e m v
         where
           other : (j : ℕ) (e : Entry) → Among e (get_or (es ∷ rows) j []) → Named e.task e.number job → ⊥
           other zero e m v = h e m v

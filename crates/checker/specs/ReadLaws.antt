@@ -1,9 +1,10 @@
 -- The check's steps on the answers of the readers: what they tell of the request and the table, and what is answered from there.
-use Rattle.std.specs.Prelude.{ℕ, ◌≤◌, min, ◌≡◌, Bool, true, false, cond, ◌&&◌, List, length, eqb}
+use Rattle.std.specs.Prelude.{ℕ, ◌≤◌, min, ◌≡◌, Bool, true, false, cond, ◌&&◌, Option, Some, None, Ok, Err, List, length, eqb}
 use Rattle.std.proofs.Math.Path.{refl, ap}
 use Rattle.std.proofs.Common.{sym, ◌∙◌, arith, eq-eqb, ne_eqb}
 use Rattle.std.proofs.Math.ListN.{length-map}
 use Rattle.cursor.specs.Fields.{Bytes}
+use Rattle.cursor.specs.ParsedLaws.{never}
 use Rattle.cursor.specs.Padded.{padded, firsts}
 use Rattle.cursor.specs.PaddedLaws.{firsts_length, firsts_padded}
 use Rattle.cycle.specs.Cycle.{no_cycle, cycle_of}
@@ -19,10 +20,18 @@ use Rattle.model.specs.Answers.{instance_of}
 use Rattle.plan_rules.specs.Every.{every}
 use Rattle.plan_rules.specs.Rules.{rules_right}
 use Rattle.checker.specs.Checked.{frames_in, frame_in, is_placed, rows_kept, entries_right, Verdict, accepted, refusal, plan_of, judged_by, judged, checked_by, checked, verdict_number}
-use Rattle.checker.specs.Answers.{frames_answer, read_answer, found_answer, beside_it, cycle_in, rows_of, names_of, named}
+use Rattle.checker.specs.Answers.{frames_answer, read_answer, found_answer, cycle_in, rows_of}
 use Rattle.checker.specs.WalkLaws.{rows_count, rows_in_bytes}
-use Rattle.checker.specs.NameLaws.{same_rows}
-use Rattle.checker.specs.declared.walk.Frames.{Frames}
+use Rattle.checker.specs.declared.Found.{Found}
+
+-- what the reader of the frames answers
+none_read : (b : Bool) (frames : List ℕ) → None ≡ frames_answer b frames → b ≡ false
+none_read true frames e = absurd (never (cc))
+none_read false frames e = refl
+
+some_read : (b : Bool) (frames places : List ℕ) → Some places ≡ frames_answer b frames → (b ≡ true) × (places ≡ padded 128 0 frames)
+some_read true frames places e = (refl, cc)
+some_read false frames places e = absurd (never (cc))
 
 -- A cycle in its arrays.
 module _ (c : Cycle) (few_jobs : c.count ≤ 128) where
@@ -59,51 +68,47 @@ module _ (c : Cycle) (few_jobs : c.count ≤ 128) where
     unfolding plan_of entries_right
     plan_is = rw (count_is, jobs_count, rows_count s height 7)
 
-    module _ (read : Frames) (told : read ≡ frames_answer all_placed frames_of) where
-      -- what the reader of the frames says
-      all_is : read.all ≡ all_placed
-      all_is = go all_placed told
-        where
-          go : (b : Bool) → read ≡ frames_answer b frames_of → read.all ≡ b
-          go true e = ap (λ r. r.all) e
-          go false e = ap (λ r. r.all) e
+    -- what the reader of the frames says of the jobs that are lent
+    module _ (lent : List Job) (lent_is : lent ≡ jobs_of) (read : Option (List ℕ))
+        (told : read ≡ frames_answer (every (length lent) (is_placed (rows_of s height) lent)) (frames_in (rows_of s height) lent)) where
+      says : read ≡ frames_answer all_placed frames_of
+      says = rw (lent_is, jobs_count) at told
 
-      pub job_missing : read.all ≡ false → plan_of (instance_of c) f (rows_of s height) ≡ refusal 14
-      job_missing e = plan_is ∙ rw (← all_is, e)
+      pub job_missing : read ≡ None → plan_of (instance_of c) f (rows_of s height) ≡ refusal 14
+      job_missing e = plan_is ∙ rw (none_read all_placed frames_of (sym e ∙ says))
 
-      module _ (all : read.all ≡ true) where
-        places_are : read.frames ≡ padded 128 0 frames_of
-        places_are = ap (λ r. r.frames) (rw (← all_is, all) at told)
+      module _ (places : List ℕ) (found : read ≡ Some places) (lent_frames : List ℕ) (lent_frames_are : lent_frames ≡ firsts c.count 0 places) where
+        all : all_placed ≡ true
+        all = (some_read all_placed frames_of places (sym found ∙ says)).0
 
-        pub frames_first : firsts c.count 0 read.frames ≡ frames_of
-        frames_first = frames_are read.frames places_are
+        places_are : places ≡ padded 128 0 frames_of
+        places_are = (some_read all_placed frames_of places (sym found ∙ says)).1
 
-        frames_kept : firsts (min c.count 128) 0 read.frames ≡ frames_of
-        frames_kept = ap (λ (n : ℕ). firsts n 0 read.frames) count_is ∙ frames_first
+        frames_first : firsts c.count 0 places ≡ frames_of
+        frames_first = frames_are places places_are
 
-        module _ (names : List (List ℕ)) (names_are : names ≡ names_of jobs_of) where
-          -- the entries by the names of the jobs
-          abbrev pub entries_named : Bool
-          entries_named = rows_kept (named names c.count) (firsts c.count 0 read.frames) c.count height 0 (rows_of s height)
+        frames_kept : firsts (min c.count 128) 0 places ≡ frames_of
+        frames_kept = ap (λ (n : ℕ). firsts n 0 places) count_is ∙ frames_first
 
-          entries_named_lem : entries_named ≡ entries_kept frames_of
-          entries_named_lem = rw (names_are, frames_first) (same_rows jobs_of c.count jobs_count frames_of height 0 (rows_of s height))
+        abbrev pub entries_lent : Bool
+        entries_lent = rows_kept lent lent_frames (length lent) height 0 (rows_of s height)
 
-          pub entry_wrong : entries_named ≡ false → plan_of (instance_of c) f (rows_of s height) ≡ refusal 14
-          entry_wrong e = plan_is ∙ rw (← all_is, all, ← entries_named_lem, e)
+        entries_lent_lem : entries_lent ≡ entries_kept frames_of
+        entries_lent_lem = rw (lent_is, lent_frames_are, frames_first, jobs_count)
 
-          pub rule_broken : entries_named ≡ true
-              → rules_right (instance_of c) height f (firsts (min c.count 128) 0 read.frames) ≡ false
-              → plan_of (instance_of c) f (rows_of s height) ≡ refusal 14
-          rule_broken e q = plan_is ∙ rw (← all_is, all, ← entries_named_lem, e, rw frames_kept at q)
+        pub entry_wrong : entries_lent ≡ false → plan_of (instance_of c) f (rows_of s height) ≡ refusal 14
+        entry_wrong e = plan_is ∙ rw (all, ← entries_lent_lem, e)
 
-          pub plan_read_lem : entries_named ≡ true
-              → rules_right (instance_of c) height f (firsts (min c.count 128) 0 read.frames) ≡ true
-              → record { refusal = 0; f = f; frames = read.frames } ≡ found_answer (plan_of (instance_of c) f (rows_of s height))
-          plan_read_lem e q =
-              let p : plan_of (instance_of c) f (rows_of s height) ≡ accepted f frames_of
-              = plan_is ∙ rw (← all_is, all, ← entries_named_lem, e, rw frames_kept at q) in
-              rw (p, places_are)
+        pub rule_broken : entries_lent ≡ true → rules_right (instance_of c) height f (firsts (min c.count 128) 0 places) ≡ false
+            → plan_of (instance_of c) f (rows_of s height) ≡ refusal 14
+        rule_broken e q = plan_is ∙ rw (all, ← entries_lent_lem, e, rw frames_kept at q)
+
+        pub plan_read_lem : entries_lent ≡ true → rules_right (instance_of c) height f (firsts (min c.count 128) 0 places) ≡ true
+            → Ok (record { f = f; frames = places }) ≡ found_answer (plan_of (instance_of c) f (rows_of s height))
+        plan_read_lem e q =
+            let p : plan_of (instance_of c) f (rows_of s height) ≡ accepted f frames_of
+            = plan_is ∙ rw (all, ← entries_lent_lem, e, rw frames_kept at q) in
+            rw (p, places_are)
 
 -- The table has the form, and these sizes.
 pub record Formed (bytes : List ℕ) (z : Sizes) : Type 0 where
@@ -167,15 +172,23 @@ module _ (bytes : List ℕ) (c : Cycle) (z : Sizes) (o : Formed bytes z) where
     unfolding judged_by
     rows_judged k e = judged_is ∙ rw (same_h, rw o.f_is at e, o.f_is, o.height_is, rows_in_bytes bytes o.t k o.is)
 
-pub found_number : (v : Verdict) → (found_answer v).refusal ≡ verdict_number v
-found_number (accepted f frames) = refl
-found_number (refusal number) = refl
+-- what is found tells the verdict
+pub err_found : (v : Verdict) (number : ℕ) → Err number ≡ found_answer v → v ≡ refusal number
+err_found (accepted f frames) number e = absurd (never (cc))
+err_found (refusal n) number e = let same : number ≡ n = cc in rw same
+
+pub ok_found : (v : Verdict) (found : Found) → Ok found ≡ found_answer v → verdict_number v ≡ 0
+ok_found (accepted f frames) found e = refl
+ok_found (refusal number) found e = absurd (never (cc))
 
 module _ (c : Cycle) where
   -- what was found, with the cycle beside it
-  pub found_beside : (v : Verdict) → beside_it c (found_answer v) ≡ read_answer c v
-  found_beside (accepted f frames) = refl
-  found_beside (refusal number) = refl
+  pub found_beside : (v : Verdict) (found : Found) → Ok found ≡ found_answer v
+      → record { refusal = 0; cycle = c; f = found.f; frames = found.frames } ≡ read_answer c v
+  found_beside (accepted f frames) found e =
+      let same : found ≡ record { f = f; frames = padded 128 0 frames } = cc in
+      rw same
+  found_beside (refusal number) found e = absurd (never (cc))
 
   pub answer_number : (v : Verdict) → (read_answer c v).refusal ≡ verdict_number v
   answer_number (accepted f frames) = refl

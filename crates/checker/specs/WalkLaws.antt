@@ -1,7 +1,7 @@
 -- The walks over a table's bytes. The rows that stand in the bytes of a decoded table are the table's rows; and one turn of each walk: what is
 -- left of the rows at a place gives what the whole gives.
 use Prim.Native.Nat.{ℕ, zero, suc, ◌+◌, ◌*◌, ◌-◌, ◌%◌, ◌≤◌, ◌<◌}
-use Rattle.std.specs.Prelude.{◌≡◌, Bool, true, false, drop, leb}
+use Rattle.std.specs.Prelude.{◌≡◌, Bool, true, false, Some, None, drop, leb}
 use Rattle.std.proofs.Math.Path.{refl, sym}
 use Rattle.std.proofs.Common.{ap, ◌∙◌, get_or-drop, drop-drop}
 use mathlib.Core.List.{List, [], ◌∷◌, ◌++◌, flat_map}
@@ -17,11 +17,9 @@ use Rattle.table.specs.EntryLaws.{entry_back}
 use Rattle.table.specs.LengthLaws.{rows_behind}
 use Rattle.table.specs.Inverse.{decode_wellformed, encode_decode}
 use Rattle.model.specs.Named.{is_job}
-use Rattle.checker.specs.Checked.{position_in_row, or_else, position_in, entry_kept, row_kept, rows_kept}
+use Rattle.checker.specs.Checked.{Position, position_in_row, or_else, position_in, entry_kept, row_kept, rows_kept}
 use Rattle.checker.specs.PositionLaws.{RightIn, place_right}
 use Rattle.checker.specs.Answers.{entries_in, rows_in, rows_of}
-use Rattle.checker.specs.declared.walk.Position.{Position}
-use Rattle.checker.specs.declared.walk.Position.TheVariants.{At, Nowhere}
 
 -- The bytes of a table's rows are its rows.
 
@@ -66,9 +64,9 @@ rows_count s (suc k) at = ap suc (rows_count s k (at + 1 + 2 * get_or s at 0))
 -- The walk for a job.
 
 -- a job is found in one of the rows
-pub found_below : (s : List ℕ) (height : ℕ) (job : Job) (r : ℕ) (carried : Bool) → position_in job 0 (rows_of s height) ≡ At r carried → r < height
+pub found_below : (s : List ℕ) (height : ℕ) (job : Job) (r : ℕ) (carried : Bool) → position_in job 0 (rows_of s height) ≡ Some (r, carried) → r < height
 found_below s height job r carried e =
-    let right : RightIn job 0 (rows_of s height) (At r carried) = rw e at (place_right job 0 (rows_of s height)) in
+    let right : RightIn job 0 (rows_of s height) (Some (r, carried)) = rw e at (place_right job 0 (rows_of s height)) in
     let (j, is, low, m) = right in
     omega (arith, rows_count s height 7)
 
@@ -78,15 +76,12 @@ walk_in_row s job height row n e at =
     or_else (position_in_row job row (entries_in s (n - e) at)) (position_in job (row + 1) (rows_in s (height - (row + 1)) (at + 2 * (n - e))))
 
 module _ (s : List ℕ) (job : Job) (height : ℕ) where
-  pub walk_starts : position_in job 0 (rows_in s (height - 0) 7) ≡ position_in job 0 (rows_of s height)
-  walk_starts = simp sub-zero
-
   module _ (row at : ℕ) where
     pub row_starts : row < height → walk_in_row s job height row (get_or s at 0) 0 (at + 1) ≡ position_in job row (rows_in s (height - row) at)
     unfolding walk_in_row position_in rows_in
     row_starts h = rw (less_one height row h) (simp sub-zero)
 
-    pub walk_ends : height ≤ row → position_in job row (rows_in s (height - row) at) ≡ Nowhere
+    pub walk_ends : height ≤ row → position_in job row (rows_in s (height - row) at) ≡ None
     unfolding position_in rows_in
     walk_ends h = rw (none_left height row h)
 
@@ -96,7 +91,7 @@ module _ (s : List ℕ) (job : Job) (height : ℕ) where
       row_ends h = let same : at + 2 * 0 ≡ at = omega arith in rw (none_left n e h, same)
 
       pub entry_names : e < n → is_job (get_or s at 0) (get_or s (at + 1) 0 % 128) job ≡ true
-          → walk_in_row s job height row n e at ≡ At row (leb 128 (get_or s (at + 1) 0))
+          → walk_in_row s job height row n e at ≡ Some (row, (leb 128 (get_or s (at + 1) 0)))
       unfolding walk_in_row position_in_row entries_in entry_of
       entry_names h q = rw (less_one n e h, q)
 
@@ -111,10 +106,6 @@ module _ (s : List ℕ) (job : Job) (height : ℕ) where
 
 module _ (jobs : List Job) (frames : List ℕ) (count height : ℕ) (s : List ℕ) where
   module _ (row n : ℕ) where
-    pub entries_start : (first : ℕ) → row_kept jobs frames count height row (entries_in s (n - 0) first)
-        ≡ row_kept jobs frames count height row (entries_in s n first)
-    entries_start first = simp sub-zero
-
     module _ (e at : ℕ) where
       entry_first : e < n → row_kept jobs frames count height row (entries_in s (n - e) at)
           ≡ row_kept jobs frames count height row (entry_of (get_or s at 0) (get_or s (at + 1) 0) ∷ entries_in s (n - (e + 1)) (at + 2))
@@ -134,9 +125,6 @@ module _ (jobs : List Job) (frames : List ℕ) (count height : ℕ) (s : List �
       pub entries_done : n ≤ e → true ≡ row_kept jobs frames count height row (entries_in s (n - e) at)
       unfolding row_kept entries_in
       entries_done h = rw (none_left n e h)
-
-  pub rows_start : rows_kept jobs frames count height 0 (rows_in s (height - 0) 7) ≡ rows_kept jobs frames count height 0 (rows_of s height)
-  rows_start = simp sub-zero
 
   module _ (row at : ℕ) where
     row_first : row < height → rows_kept jobs frames count height row (rows_in s (height - row) at)

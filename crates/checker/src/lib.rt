@@ -9,7 +9,7 @@ ghost use Rattle.table.specs.Table.{decode};
 ghost use Rattle.model.specs.Answers.{instance_of};
 ghost use Rattle.model.specs.Within.{InLimits};
 ghost use Rattle.checker.specs.Checked.{plan_of, checked, check_number, refusal};
-ghost use Rattle.checker.specs.Answers.{read_answer, found_answer, beside_it, cycle_in, rows_of};
+ghost use Rattle.checker.specs.Answers.{read_answer, found_answer, cycle_in, rows_of};
 
 use cycle::Cycle;
 
@@ -23,79 +23,56 @@ pub struct Read {
     pub frames: [u16; 128],
 }
 
-// What the check finds in a table: the frame length and the jobs' frames in planning order; or the number of the refusal, and zeros. The cycle
-// is not in it, so that it is not copied.
+// What the check finds in a table: the frame length and the jobs' frames in planning order. The cycle is not in it, so that it is not copied.
 #[derive(Clone, Copy)]
 struct Found {
-    refusal: u8,
     f: u16,
     frames: [u16; 128],
 }
 
-fn refused(number: u8) -> Found
-    ensures { result ≡ found_answer (refusal number) }
-{
-    Found {
-        refusal: number,
-        f: 0,
-        frames: [0; 128],
-    }
-}
-
 // The plan that the table's rows describe, or 14.
-fn read_rows(cycle: Cycle, table: &[u8], height: u16, f: u16) -> Found
+fn read_rows(cycle: Cycle, table: &[u8], height: u16, f: u16) -> Result<Found, u8>
     requires { (cycle.count ≤ 128) × (height ≤ 256) }
     ensures { result ≡ found_answer (plan_of (instance_of cycle) f (rows_of table.now height)) }
 {
-    let jobs = cycle.jobs;
     let count = cycle.count;
-    let read = walk::read_frames(table, height, jobs, count);
-    if !read.all {
-        return refused(14);
-    }
-    let frames = read.frames;
-    let names = walk::names(jobs, count);
-    if !walk::rows_kept(table, height, &names, &frames, count) {
-        return refused(14);
+    let jobs = &cycle.jobs[..count];
+    let Some(frames) = walk::read_frames(table, height, jobs) else {
+        return Err(14);
+    };
+    if !walk::rows_kept(table, height, jobs, &frames[..count]) {
+        return Err(14);
     }
     if !plan_rules::rules_kept(cycle, &frames, height, f) {
-        return refused(14);
+        return Err(14);
     }
-    Found {
-        refusal: 0,
-        f,
-        frames,
-    }
+    Ok(Found { f, frames })
 }
 
 // The plan of the cycle that the table describes; or the number, from 12 to 14, that the table is refused with.
-fn judge(cycle: Cycle, table: &[u8]) -> Found
+fn judge(cycle: Cycle, table: &[u8]) -> Result<Found, u8>
     requires { InLimits cycle }
     ensures { result ≡ found_answer (checked (cycle_in cycle) (decode table.now)) }
 {
     let sizes = table::read::sizes(table);
     if sizes.refusal != 0 {
-        return refused(12);
+        return Err(12);
     }
-    if sizes.h != cycle.h {
-        return refused(13);
-    }
-    if !model::plausible(cycle, sizes.f) {
-        return refused(13);
+    if sizes.h != cycle.h || !model::plausible(cycle, sizes.f) {
+        return Err(13);
     }
     read_rows(cycle, table, sizes.height, sizes.f)
 }
 
-// What was found, with the cycle beside it.
-fn beside(cycle: Cycle, found: Found) -> Read
-    ensures { result ≡ beside_it cycle found }
+// The refusal by this number.
+fn refused(cycle: Cycle, number: u8) -> Read
+    ensures { result ≡ read_answer cycle (refusal number) }
 {
-    let frames = found.frames;
     Read {
-        refusal: found.refusal,
+        refusal: number,
         cycle,
-        f: found.f,
-        frames,
+        f: 0,
+        frames: [0; 128],
     }
 }
 
@@ -105,9 +82,20 @@ pub fn read_plan(request: &[u8], table: &[u8]) -> Read
 {
     let cycle = cycle::read(request);
     if cycle.refusal != 0 {
-        return beside(cycle, refused(cycle.refusal));
+        return refused(cycle, cycle.refusal);
     }
-    beside(cycle, judge(cycle, table))
+    match judge(cycle, table) {
+        Ok(found) => {
+            let frames = found.frames;
+            Read {
+                refusal: 0,
+                cycle,
+                f: found.f,
+                frames,
+            }
+        }
+        Err(number) => refused(cycle, number),
+    }
 }
 
 // 0 where the table describes a plan of the request; or the number.
@@ -118,6 +106,8 @@ pub fn check(request: &[u8], table: &[u8]) -> u8
     if cycle.refusal != 0 {
         return cycle.refusal;
     }
-    let found = judge(cycle, table);
-    found.refusal
+    match judge(cycle, table) {
+        Ok(_) => 0,
+        Err(number) => number,
+    }
 }

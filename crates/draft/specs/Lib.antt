@@ -10,6 +10,7 @@ pub mod SoundLaws
 pub mod PlacedLaws
 pub mod SumLaws
 pub mod LoadLaws
+pub mod LentLaws
 pub mod StepLaws
 pub mod MoveLaws
 pub mod WriteLaws

@@ -1,5 +1,5 @@
 -- The steps of lifting, putting, starting and writing, on the answers of the functions that are called.
-use Rattle.std.specs.Prelude.{ℕ, ◌+◌, ◌-◌, ◌/◌, ◌%◌, ◌≤◌, ◌<◌, min, ◌≡◌, refl, Bool, List, length, get_or, ltb}
+use Rattle.std.specs.Prelude.{ℕ, ◌+◌, ◌-◌, ◌/◌, ◌%◌, ◌≤◌, ◌<◌, min, ◌≡◌, refl, Bool, List, length, get_or, take, ltb}
 use Rattle.std.proofs.Math.Path.{sym, ap, ap₂}
 use Rattle.std.proofs.Common.{◌∙◌, mod-lt, arith, ext_get_or}
 use Rattle.std.proofs.Math.Bool.{true, false}
@@ -26,6 +26,7 @@ use Rattle.model.specs.AnswerLaws.{jobs_counted}
 use Rattle.model.specs.WithinLaws.{Taken}
 use Rattle.plan_rules.specs.Every.{every}
 use Rattle.plan_rules.specs.EveryLaws.{every_says}
+use Rattle.plan_rules.specs.Slices.{firsts_take}
 use Rattle.plan_rules.specs.Rules.{in_window, rules_right}
 use Rattle.plan_rules.specs.RulesSay.{RulesKept, rules_say}
 use Rattle.checker.specs.Checked as checker
@@ -271,6 +272,18 @@ module _ (request bytes : List ℕ) (r : Read) (e : r ≡ read_answer (cycle_ans
       start_done loads are =
           let same = loads_listed (r.cycle.h / r.f) (costs x) plan.frames plan.is_plan.few_rows loads (rw (costs_first, frames_first) at are) in
           (λ i. kept 0 (record { f = r.f; frames = plan.frames_are i; loads = same i })) ∙ sym started
+
+      -- the same of the places that are lent
+      module _ (cost_long : length cost ≡ 128) (frames_long : length r.frames ≡ 128) where
+        pub rows_fit_lent : r.f ≤ 65535 → RowsFit (r.cycle.h / r.f) (take r.cycle.count cost) (take r.cycle.count r.frames)
+        rows_fit_lent wide =
+            rw (← firsts_take 0 cost r.cycle.count (omega (arith, few)), ← firsts_take 0 r.frames r.cycle.count (omega (arith, few))) (rows_fit wide)
+
+        pub start_done_lent : (loads : List ℕ) → LoadsAre (r.cycle.h / r.f) (take r.cycle.count cost) (take r.cycle.count r.frames) loads
+            → kept 0 (record { f = r.f; frames = r.frames; loads = loads }) ≡ start request bytes
+        start_done_lent loads are =
+            start_done loads
+            (rw (firsts_take 0 cost r.cycle.count (omega (arith, few)), firsts_take 0 r.frames r.cycle.count (omega (arith, few))) are)
 
 -- Writing
 pub write_none : (request : List ℕ) (d : Draft) (number : ℕ) → cycle_of request ≡ no_cycle number → write request d ≡ refusal number

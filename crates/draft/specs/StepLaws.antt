@@ -1,5 +1,5 @@
 -- The steps of the test of a draft, on the answers of the functions that it calls.
-use Rattle.std.specs.Prelude.{ℕ, ◌/◌, ◌≤◌, ◌<◌, min, ◌≡◌, refl, Bool, true, ◌&&◌, length, get_or}
+use Rattle.std.specs.Prelude.{ℕ, ◌/◌, ◌≤◌, ◌<◌, min, ◌≡◌, refl, Bool, true, ◌&&◌, length, get_or, take}
 use Rattle.std.proofs.Math.Path.{sym, ap}
 use Rattle.std.proofs.Common.{◌∙◌, arith}
 use Rattle.std.proofs.Math.Bool.{false}
@@ -18,6 +18,7 @@ use Rattle.model.specs.PlausibleLaws.{plausible_says}
 use Rattle.model.specs.Answers.{instance_of}
 use Rattle.plan_rules.specs.Every.{every}
 use Rattle.plan_rules.specs.Rules.{rules_right}
+use Rattle.plan_rules.specs.Slices.{firsts_take}
 use Rattle.plan_rules.specs.RulesSay.{RulesKept, rules_say}
 use Rattle.draft.specs.Draft.{placed_of, frames_held, placed_part, placed_frames, load_right, sound_draft}
 use Rattle.draft.specs.Answers.{placing, with_jobs, same_at, RowsFit, LoadsAre}
@@ -145,3 +146,21 @@ module _ (c : answer.Cycle) (d : Draft) where
               = every_same (same_at d.loads sums) (load_right (instance_of c) d) (c.h / d.f)
               (λ r low. ap (λ (s : ℕ). eqb (get_or d.loads r 0) s) (told r low)) in
               rw (can, right) same
+
+          -- the same of the places that are lent
+          module _ (cost_long : length cost ≡ 128) (frames_long : length p.frames ≡ 128) where
+            pub rows_fit_lent : d.f ≤ 65535 → RowsFit (c.h / d.f) (take p.count cost) (take p.count p.frames)
+            rows_fit_lent wide =
+                rw (← firsts_take 0 cost p.count (omega (arith, count_few)), ← firsts_take 0 p.frames p.count (omega (arith, count_few))) (rows_fit wide)
+
+            pub loads_decide_lent : (sums : List ℕ) → LoadsAre (c.h / d.f) (take p.count cost) (take p.count p.frames) sums
+                → every (c.h / d.f) (same_at d.loads sums) ≡ sound_draft (instance_of c) d
+            loads_decide_lent sums are =
+                loads_decide sums
+                (rw (firsts_take 0 cost p.count (omega (arith, count_few)), firsts_take 0 p.frames p.count (omega (arith, count_few))) are)
+
+-- the jobs and frames that are lent to be placed
+pub placed_lent : (c : answer.Cycle) (d : Draft) (n : ℕ) → n ≤ 128 → length c.jobs ≡ 128 → length d.frames ≡ 128
+    → (p : Placing) → p ≡ placing (take n d.frames) (take n c.jobs) → p ≡ placing (firsts n 0 d.frames) (firsts n no_job c.jobs)
+placed_lent c d n few jobs frames p is =
+    rw (firsts_take 0 d.frames n (omega (arith, frames)), firsts_take no_job c.jobs n (omega (arith, jobs))) is

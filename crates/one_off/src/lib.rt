@@ -33,15 +33,9 @@ fn used(cycle: Cycle, row: Row) -> u64
     ensures { (result ≡ slots (instance_of cycle) (entries_said row)) × (result ≤ 16 * 4294967295) }
 {
     let tasks = cycle.tasks;
-    let entries = row.tasks;
-    let n = cycle.n;
-    let g = cycle.g;
-    let count = row.count;
     let mut sum: u64 = 0;
-    let mut i: usize = 0;
-    while i < count {
-        sum += problem::cost(tasks, n, g, entries[i]) as u64;
-        i += 1;
+    for task in &row.tasks[..row.count] {
+        sum += u64::from(problem::cost(tasks, cycle.n, cycle.g, *task));
     }
     sum
 }
@@ -51,15 +45,12 @@ fn used_times(cycle: Cycle, table: &[u8], sizes: Sizes) -> [u64; 256]
     requires { Formed table.now sizes }
     ensures { UsedTimes (instance_of cycle) table.now sizes.height result }
 {
-    let height = sizes.height;
     let mut times = [0u64; 256];
     let mut here = table::read::first_row();
-    let mut k: u16 = 0;
-    while k < height {
+    for k in 0..sizes.height {
         let taken = table::read::next_row(table, here);
         here = taken.next;
-        times[k as usize] = used(cycle, taken.row);
-        k += 1;
+        times[usize::from(k)] = used(cycle, taken.row);
     }
     times
 }
@@ -69,16 +60,10 @@ fn fits(f: u16, g: u8, used: u64, length: u32, from: u32, until: u32, k: u16) ->
     requires { used ≤ 16 * 4294967295 }
     ensures { result ≡ fits_by length from until f g used k }
 {
-    let frame = f as u32;
-    let start = (k as u32) * frame;
-    if start < from {
-        return false;
-    }
-    if until < start + frame {
-        return false;
-    }
-    let taken = used + ((length as u64) + (g as u64));
-    taken <= (frame as u64)
+    let frame = u32::from(f);
+    let start = u32::from(k) * frame;
+    let taken = used + (u64::from(length) + u64::from(g));
+    start >= from && start + frame <= until && taken <= u64::from(f)
 }
 
 // The earliest frame that fits, of the frames of two cycles; or 22.
@@ -94,17 +79,14 @@ fn earliest(
     ensures { EarliestIn length from until (instance_of cycle) table.now result }
 {
     let times = used_times(cycle, table, sizes);
-    let frames = 2 * sizes.height;
-    let mut k: u16 = 0;
-    while k < frames {
-        let row = (k % sizes.height) as usize;
+    for k in 0..2 * sizes.height {
+        let row = usize::from(k % sizes.height);
         if fits(sizes.f, cycle.g, times[row], length, from, until, k) {
             return FrameFound {
                 refusal: 0,
                 frame: k,
             };
         }
-        k += 1;
     }
     refused(22)
 }
@@ -113,13 +95,7 @@ fn earliest(
 fn well_asked(h: u16, length: u32, from: u32, until: u32) -> bool
     ensures { result ≡ well_asked length from until h }
 {
-    if length < 1 {
-        return false;
-    }
-    if until < from {
-        return false;
-    }
-    until <= 2 * (h as u32)
+    length >= 1 && from <= until && until <= 2 * u32::from(h)
 }
 
 // The earliest frame, counted from time 0, with time for a transfer of `length` ticks between the ticks `from` and `until`; or the check's number, 21 or 22.

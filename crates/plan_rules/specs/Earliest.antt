@@ -2,19 +2,17 @@
 use Prim.Native.Nat.{ℕ, ◌+◌, ◌≤◌, ◌<◌, min}
 use Rattle.std.specs.Prelude.{◌≡◌, refl, Bool, false, ◌&&◌, List, length, get_or, set, replicate, leb, eqb}
 use Rattle.std.proofs.Math.Path.{sym}
-use Rattle.std.proofs.Common.{◌∙◌, arith, get_or-set_same, get_or-set_other, le-leb, leb-true, leb-false, eq-eqb, ne_eqb, eqb-true}
+use Rattle.std.proofs.Common.{ap, ◌∙◌, arith, get_or-set_same, get_or-set_other, le-leb, leb-true, leb-false, eq-eqb, ne_eqb, eqb-true}
 use Rattle.std.proofs.Math.Bool.{true}
 use Rattle.std.proofs.Math.ListN.{length-set}
 use Rattle.std.proofs.lemmas.List.{length-replicate, get_or-replicate}
 use Rattle.std.proofs.lemmas.Bool.{lt-leb, eqb-false}
-use Rattle.cursor.specs.Padded.{firsts}
-use Rattle.cursor.specs.PaddedLaws.{get_or_firsts}
 use Rattle.cycle.specs.Planned.{no_job}
 use Rattle.cycle.specs.declared.Job.{Job}
 use Rattle.model.specs.Named.{is_job}
 use Rattle.plan_rules.specs.Every.{every}
 use Rattle.plan_rules.specs.EveryLaws.{both_all, every_snoc}
-use Rattle.plan_rules.specs.Rules.{other_kept}
+use Rattle.plan_rules.specs.Rules.{other_kept, one_kept}
 
 -- of the first n jobs, with their frames
 pub record Earliest (jobs : List Job) (frames : List ℕ) (b n : ℕ) (earliest : List ℕ) : Type 0 where
@@ -71,16 +69,34 @@ module _ (jobs : List Job) (frames : List ℕ) (b : ℕ) where
             let kept = get_or-set_other earliest own number v 0 (λ w. eqb-false own number q (sym w)) in
             rw (eq-eqb (get_or jobs z no_job).task b e, q, kept) (both_all (leb k (get_or earliest number 0)))
 
--- jobs and frames in the first n places of arrays
-module _ (jobs : List Job) (frames : List ℕ) (b n z : ℕ) (h : z < n) (earliest : List ℕ) (so : Earliest (firsts n no_job jobs) (firsts n 0 frames) b z earliest) where
-  job_is : get_or (firsts n no_job jobs) z no_job ≡ get_or jobs z no_job
-  job_is = get_or_firsts no_job jobs n z h
+-- one job more, the one at place z with its frame k
+module _ (jobs : List Job) (frames : List ℕ) (b z : ℕ) (earliest : List ℕ) (so : Earliest jobs frames b z earliest) (job : Job) (job_is : job ≡ get_or jobs z no_job)
+    (more : ℕ) (more_is : more ≡ z + 1) where
+  pub passed_other : (job.task ≡ b → ⊥) → Earliest jobs frames b more earliest
+  passed_other ne = rw more_is (other_task jobs frames b z earliest so (rw (← job_is) ne))
 
-  pub passed_other : ((get_or jobs z no_job).task ≡ b → ⊥) → Earliest (firsts n no_job jobs) (firsts n 0 frames) b (z + 1) earliest
-  passed_other ne = other_task (firsts n no_job jobs) (firsts n 0 frames) b z earliest so (rw job_is ne)
+  pub passed_own : job.task ≡ b → job.number < 256 → (number : ℕ) → number ≡ job.number → (k : ℕ) → k ≡ get_or frames z 0
+      → (v : ℕ) → v ≡ min (get_or earliest number 0) k → Earliest jobs frames b more (set earliest number v)
+  passed_own e few number number_is k k_is v is =
+      let same : number ≡ (get_or jobs z no_job).number = number_is ∙ ap (λ (j : Job). j.number) job_is in
+      rw (more_is, same)
+      (own_task jobs frames b z earliest so (rw (← job_is) e) (rw (← job_is) few) v
+      (is ∙ rw (same, k_is)))
 
-  pub passed_own : (get_or jobs z no_job).task ≡ b → (get_or jobs z no_job).number < 256
-      → (v : ℕ) → v ≡ min (get_or earliest (get_or jobs z no_job).number 0) (get_or frames z 0)
-      → Earliest (firsts n no_job jobs) (firsts n 0 frames) b (z + 1) (set earliest (get_or jobs z no_job).number v)
-  passed_own e few v is =
-      rw job_is at (own_task (firsts n no_job jobs) (firsts n 0 frames) b z earliest so (rw job_is e) (rw job_is few) v (rw (job_is, get_or_firsts 0 frames n z h) is))
+-- whether the job at place y keeps the pair a, b: it is another task's, or its frame is not behind the earliest of its partner
+module _ (jobs : List Job) (frames : List ℕ) (n a b y : ℕ) (job : Job) (job_is : job ≡ get_or jobs y no_job) where
+  pub not_of_the_pair : (job.task ≡ a → ⊥) → one_kept jobs frames n a b y ≡ true
+  unfolding one_kept
+  not_of_the_pair ne = rw (← job_is, ne_eqb job.task a ne)
+
+  module _ (e : job.task ≡ a) (few : job.number < 256) (k : ℕ) (k_is : k ≡ get_or frames y 0) (small : k ≤ 65535) (earliest : List ℕ)
+      (so : Earliest jobs frames b n earliest) where
+    judged : one_kept jobs frames n a b y ≡ leb k (get_or earliest job.number 0)
+    unfolding one_kept
+    judged = rw (← job_is, ← k_is, eq-eqb job.task a e) (sym (so.tells job.number k few small))
+
+    pub early_enough : k ≤ get_or earliest job.number 0 → one_kept jobs frames n a b y ≡ true
+    early_enough h = judged ∙ le-leb _ _ h
+
+    pub too_late : get_or earliest job.number 0 < k → one_kept jobs frames n a b y ≡ false
+    too_late h = judged ∙ lt-leb _ _ h

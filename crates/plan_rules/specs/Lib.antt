@@ -4,6 +4,7 @@ pub mod Every
 pub mod Rules
 -- Laws:
 pub mod EveryLaws
+pub mod Slices
 pub mod RulesSay
 pub mod Earliest
 pub mod LoopLaws

@@ -1,5 +1,5 @@
--- What each test says of the job at place y in the arrays, of which the first n places are used; and the loads kept, with one job more.
-use Rattle.std.specs.Prelude.{ℕ, ◌+◌, ◌-◌, ◌%◌, ◌≤◌, ◌<◌, ◌≡◌, Bool, true, false, cond, length, set, replicate, eqb}
+-- The loads of the rows as jobs are put into them one after the other, and what they say of the capacity.
+use Rattle.std.specs.Prelude.{ℕ, ◌+◌, ◌-◌, ◌%◌, ◌≤◌, ◌<◌, ◌≡◌, Bool, true, false, length, set, replicate, eqb}
 use Rattle.std.proofs.Math.Path.{refl, sym, ap}
 use Rattle.std.proofs.Common.{◌∙◌, mod-lt, add-one, arith, length-set, get_or-set_other}
 use mathlib.Core.List.{List, []}
@@ -8,30 +8,12 @@ use Rattle.std.proofs.Math.Seq.{get_or-set_same}
 use borrow.Author.Tests.{lt-leb, le-leb, eqb-true, eqb-false}
 use Rattle.cursor.specs.Padded.{firsts}
 use Rattle.cursor.specs.PaddedLaws.{get_or_blanks, firsts_length, get_or_firsts, take_firsts}
-use Rattle.request.specs.Request.{no_pair}
-use Rattle.request.specs.declared.Pair.{Pair}
-use Rattle.cycle.specs.Planned.{no_job}
-use Rattle.cycle.specs.declared.Job.{Job}
 use Rattle.search.specs.Placing.{problem, row_sum, LoadsKept}
 use Rattle.search.specs.PlacingLaws.{row_sum_nil, row_sum_take, put_loads}
 use Rattle.plan_rules.specs.Every.{every}
 use Rattle.plan_rules.specs.EveryLaws.{says_every, every_fails}
-use Rattle.plan_rules.specs.Rules.{in_window, window_kept, other_kept, one_kept, pair_kept, capacity_kept}
-
-module _ (jobs : List Job) (frames : List ℕ) (n y : ℕ) (h : y < n) where
-  pub window_at : (f : ℕ) → window_kept (firsts n no_job jobs) (firsts n 0 frames) f y ≡ in_window f (get_or jobs y no_job) (get_or frames y 0)
-  unfolding window_kept
-  window_at f = rw (get_or_firsts no_job jobs n y h, get_or_firsts 0 frames n y h)
-
-  pub one_at : (a b : ℕ) → one_kept (firsts n no_job jobs) (firsts n 0 frames) n a b y
-      ≡ cond (eqb (get_or jobs y no_job).task a) (every n (other_kept (firsts n no_job jobs) (firsts n 0 frames) b (get_or jobs y no_job).number (get_or frames y 0))) true
-  unfolding one_kept
-  one_at a b = rw (get_or_firsts no_job jobs n y h, get_or_firsts 0 frames n y h)
-
-pub pair_at_lem : (jobs : List Job) (frames : List ℕ) (n : ℕ) (pairs : List Pair) (m u : ℕ) → u < m
-    → pair_kept jobs frames n (firsts m no_pair pairs) u ≡ every n (one_kept jobs frames n (get_or pairs u no_pair).a (get_or pairs u no_pair).b)
-unfolding pair_kept
-pair_at_lem jobs frames n pairs m u h = rw (get_or_firsts no_pair pairs m u h)
+use Rattle.plan_rules.specs.Slices.{firsts_all}
+use Rattle.plan_rules.specs.Rules.{capacity_kept}
 
 -- Capacity: n jobs, their costs in the first places of an array, in `rows` rows.
 module _ (rows : ℕ) (places frames : List ℕ) (n f : ℕ) where
@@ -105,3 +87,26 @@ module _ (rows : ℕ) (places frames : List ℕ) (n f : ℕ) where
   all_loaded y load so e =
       sym (says_every (capacity_kept rows cost (firsts n 0 frames) f) rows
       (λ r h. le-leb _ f (omega (arith, so.small r, so.loads r h, ap (λ (k : ℕ). row_sum rows cost (firsts k 0 frames) r) e))))
+
+-- The same on lists side by side: job y has this cost and frame, and so its row.
+module _ (rows : ℕ) (cost frames : List ℕ) (f : ℕ) (long : length frames ≡ length cost) (some_row : 0 < rows) (few_rows : rows ≤ 256)
+    (y : ℕ) (load : List ℕ) (so : Kept rows cost frames (length cost) f y load) where
+  module _ (h : y < length cost) (c k row : ℕ) (c_is : c ≡ get_or cost y 0) (k_is : k ≡ get_or frames y 0) (row_is : row ≡ k % rows) where
+    row_of_y : row ≡ get_or frames y 0 % rows
+    row_of_y = row_is ∙ ap (λ (j : ℕ). j % rows) k_is
+
+    pub row_in : row < 256
+    row_in = rw row_of_y (row_inside rows cost frames (length cost) f some_row few_rows y load so h)
+
+    pub put_more : c ≤ f - get_or load row 0 → (more : ℕ) → more ≡ y + 1 → Kept rows cost frames (length cost) f more (set load row (get_or load row 0 + c))
+    put_more room more more_is =
+        rw (more_is, row_of_y, c_is) (kept_more rows cost frames (length cost) f some_row few_rows y load so h (rw (← row_of_y, ← c_is) room))
+
+    pub too_full : f - get_or load row 0 < c → false ≡ every rows (capacity_kept rows cost frames f)
+    too_full full =
+        overloaded rows cost frames (length cost) f some_row few_rows y load so h (rw (← row_of_y, ← c_is) full)
+        ∙ rw (firsts_all 0 cost, ← long, firsts_all 0 frames)
+
+  pub all_put : y ≡ length cost → true ≡ every rows (capacity_kept rows cost frames f)
+  all_put e =
+      all_loaded rows cost frames (length cost) f y load so e ∙ rw (firsts_all 0 cost, ← long, firsts_all 0 frames)

@@ -1,5 +1,5 @@
 -- The rules of a cycle in its arrays, as they are tested one after the other.
-use Rattle.std.specs.Prelude.{ℕ, ◌≤◌, ◌<◌, min, ◌≡◌, refl, Bool, true, false, ◌&&◌, List, length}
+use Rattle.std.specs.Prelude.{ℕ, ◌≤◌, ◌<◌, min, ◌≡◌, refl, Bool, true, false, ◌&&◌, List, length, take}
 use Rattle.std.proofs.Common.{sym, ◌∙◌, arith}
 use borrow.Author.Tests.{le-leb, lt-leb}
 use Rattle.cursor.specs.Padded.{padded, firsts}
@@ -11,6 +11,7 @@ use Rattle.model.specs.Plan.{costs}
 use Rattle.model.specs.PlanLaws.{costs_length}
 use Rattle.model.specs.Answers.{instance_of}
 use Rattle.plan_rules.specs.Every.{every}
+use Rattle.plan_rules.specs.Slices.{firsts_take}
 use Rattle.plan_rules.specs.Rules.{window_kept, pair_kept, capacity_kept, windows_right, capacity_right, order_right, height_right, rules_right}
 
 -- a cycle, the places of its jobs' frames, `rows` rows of length f; n and m are the numbers of its jobs and pairs
@@ -23,6 +24,27 @@ module _ (c : Cycle) (places : List ℕ) (rows f n : ℕ) (n_is : n ≡ min c.co
 
   abbrev order : ℕ → Bool
   order m = every m (pair_kept (firsts n no_job c.jobs) (firsts n 0 places) n (firsts m no_pair c.pairs))
+
+  -- the same tests of the places that are lent
+  module _ (few : n ≤ 128) (jobs_long : length c.jobs ≡ 128) (places_long : length places ≡ 128) where
+    pub lent_windows : every (length (take n c.jobs)) (window_kept (take n c.jobs) (take n places) f) ≡ windows
+    lent_windows =
+        rw (← firsts_take no_job c.jobs n (omega arith), ← firsts_take 0 places n (omega arith), firsts_length no_job c.jobs n)
+
+    pub lent_capacity : (cost : List ℕ) → length cost ≡ 128
+        → every rows (capacity_kept rows (take n cost) (take n places) f) ≡ every rows (capacity_kept rows (firsts n 0 cost) (firsts n 0 places) f)
+    lent_capacity cost long = rw (firsts_take 0 cost n (omega arith), firsts_take 0 places n (omega arith))
+
+    pub lent_order : (m : ℕ) → m ≤ 16 → length c.pairs ≡ 16
+        → every (length (take m c.pairs)) (pair_kept (take n c.jobs) (take n places) (length (take n c.jobs)) (take m c.pairs)) ≡ order m
+    lent_order m low long =
+        rw (
+          ← firsts_take no_job c.jobs n (omega arith),
+          ← firsts_take 0 places n (omega arith),
+          ← firsts_take no_pair c.pairs m (omega arith),
+          firsts_length no_job c.jobs n,
+          firsts_length no_pair c.pairs m,
+        )
 
   -- the costs in their array
   module _ (cost : List ℕ) (cost_is : cost ≡ padded 128 0 (costs (instance_of c))) where

@@ -5,7 +5,7 @@ use Rattle.table.specs.Table.{decode}
 use Rattle.model.specs.WithinLaws.{read_within, read_refused}
 use Rattle.checker.specs.Checked.{checked, verdict_number}
 use Rattle.checker.specs.Answers.{cycle_in}
-use Rattle.checker.specs.ReadLaws.{request_refused, found_number}
+use Rattle.checker.specs.ReadLaws.{request_refused, ok_found, err_found}
 use Rattle.checker.proofs.check.Goals as goal
 
 pub returns-then-cycle-ne0 : goal.returns-then-cycle-ne0
@@ -14,13 +14,22 @@ returns-then-cycle-ne0 c =
     let is = read_refused a.request.now _ c.read-cycle.ensures c.if-cycle-ne0.true in
     sym (ap verdict_number (request_refused a.request.now _ (decode a.table.now) is))
 
-pub judge-found-requires : goal.judge-found-requires
-judge-found-requires c =
+pub judge-requires : goal.judge-requires
+judge-requires c =
     (read_within c.args.request.now _ c.read-cycle.ensures c.if-cycle-ne0.false).limits
 
-pub returns : goal.returns
-returns c =
+pub returns-in-Ok : goal.returns-in-Ok
+returns-in-Ok c =
     let a = c.args in
     let w = read_within a.request.now _ c.read-cycle.ensures c.if-cycle-ne0.false in
-    ap (λ r. r.refusal) c.judge-found.ensures ∙ found_number (checked (cycle_in c.read-cycle.result) (decode a.table.now))
-    ∙ sym (ap (λ (x : Cycle). verdict_number (checked x (decode a.table.now))) w.within)
+    sym
+    (ap (λ (x : Cycle). verdict_number (checked x (decode a.table.now))) w.within
+    ∙ ok_found (checked (cycle_in c.read-cycle.result) (decode a.table.now)) _ (sym c.in-Ok.is ∙ c.judge.ensures))
+
+pub returns-in-Err : goal.returns-in-Err
+returns-in-Err c =
+    let a = c.args in
+    let w = read_within a.request.now _ c.read-cycle.ensures c.if-cycle-ne0.false in
+    sym
+    (ap (λ (x : Cycle). verdict_number (checked x (decode a.table.now))) w.within
+    ∙ ap verdict_number (err_found (checked (cycle_in c.read-cycle.result) (decode a.table.now)) _ (sym c.in-Err.is ∙ c.judge.ensures)))

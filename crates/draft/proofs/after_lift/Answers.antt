@@ -4,11 +4,11 @@ use Rattle.draft.specs.Draft.{lifted, touched}
 use Rattle.draft.specs.MoveLaws.{in_range, rows_are, load_has, lift_is}
 use Rattle.draft.proofs.after_lift.Goals as goal
 
-pub offset_bounds-frames-y : goal.offset_bounds-frames-y
-offset_bounds-frames-y c = omega (arith, in_range _ _ _ c.requires.0)
+pub offset_bounds-draft-y : goal.offset_bounds-draft-y
+offset_bounds-draft-y c = omega (arith, in_range _ _ _ c.requires.0)
 
-pub bounds-frames-y : goal.bounds-frames-y
-bounds-frames-y c = in_range _ _ _ c.requires.0
+pub bounds-draft-y : goal.bounds-draft-y
+bounds-draft-y c = in_range _ _ _ c.requires.0
 
 pub row_of-row-requires : goal.row_of-row-requires
 row_of-row-requires c = rows_are _ _ _ c.requires.0
@@ -16,19 +16,19 @@ row_of-row-requires c = rows_are _ _ _ c.requires.0
 pub cost_at-cost-requires : goal.cost_at-cost-requires
 cost_at-cost-requires c = (c.requires.0.known, c.requires.0.limits.few_jobs)
 
-pub offset_bounds-loads-row : goal.offset_bounds-loads-row
-offset_bounds-loads-row c = omega (arith, c.row_of-row.ensures.1)
+pub offset_bounds-draft-row : goal.offset_bounds-draft-row
+offset_bounds-draft-row c = omega (arith, c.row_of-row.ensures.1)
 
-pub bounds-loads-row : goal.bounds-loads-row
-bounds-loads-row c = c.row_of-row.ensures.1
+pub bounds-draft-row : goal.bounds-draft-row
+bounds-draft-row c = c.row_of-row.ensures.1
 
 pub overflow_cast-cost : goal.overflow_cast-cost
 overflow_cast-cost c =
     let has = load_has _ _ _ c.requires.0 c.requires.1 in
     omega (arith, has.1, c.cost_at-cost.ensures, c.well_formed)
 
-pub overflow_sub-loads : goal.overflow_sub-loads
-overflow_sub-loads c =
+pub overflow_sub-draft : goal.overflow_sub-draft
+overflow_sub-draft c =
     let has = load_has _ _ _ c.requires.0 c.requires.1 in
     rw (c.cost_at-cost.ensures, c.row_of-row.ensures.0) has.0
 

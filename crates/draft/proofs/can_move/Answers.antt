@@ -1,14 +1,14 @@
 -- A job that is known may be moved where the draft is sound.
-use Rattle.std.proofs.Common.{◌∙◌, arith}
+use Rattle.std.proofs.Common.{◌∙◌, arith, le-ltb}
 use Rattle.draft.specs.MoveLaws.{unknown, sound_decides}
 use Rattle.draft.proofs.can_move.Goals as goal
 
-pub returns-then-at_most-y : goal.returns-then-at_most-y
-returns-then-at_most-y c =
+pub returns-then-y-min : goal.returns-then-y-min
+returns-then-y-min c =
     let a = c.args in
-    unknown a.cycle a.draft a.y (omega (arith, c.at_most.ensures, c.if-at_most-y.true))
+    c.is_sound.ensures ∙ sound_decides a.cycle a.draft a.y (omega (arith, c.min.ensures, c.if-y-min.true))
 
-pub returns : goal.returns
-returns c =
+pub returns-else-y-min : goal.returns-else-y-min
+returns-else-y-min c =
     let a = c.args in
-    c.is_sound.ensures ∙ sound_decides a.cycle a.draft a.y (omega (arith, c.at_most.ensures, c.if-at_most-y.false))
+    le-ltb _ _ c.if-y-min.false ∙ unknown a.cycle a.draft a.y (omega (arith, c.min.ensures, c.if-y-min.false))

@@ -1,37 +1,66 @@
--- The loop keeps that those passed that are not lifted stand in the first places.
-use Rattle.std.proofs.Common.{◌<◌, ◌≡◌, arith}
-use Rattle.draft.specs.PlacedLaws.{none_passed, few_passed, lifted_passed, placed_passed}
+-- Those passed that are not lifted stand in the first places.
+use Rattle.std.proofs.Common.{◌≡◌, ◌<◌, ℕ, arith, length, length-append, get_or}
+use Rattle.std.proofs.lemmas.Slice.Zip.{zip_turn, zip_end}
+use Rattle.cycle.specs.Planned.{no_job}
+use Rattle.cycle.specs.declared.Job.{Job}
+use Rattle.plan_rules.specs.Slices.{firsts_all}
+use Rattle.draft.specs.PlacedLaws.{none_passed, lifted_passed, placed_passed}
 use Rattle.draft.proofs.placed.Goals as goal
-use Rattle.draft.proofs.placed.Goals.{then-k, else-k}
+use Rattle.draft.proofs.placed.Goals.{In-Some}
 
-pub loop-y-init : goal.loop-y-init
-loop-y-init c = (omega arith, c.requires, omega arith, none_passed c.args.jobs c.args.frames)
-
-pub loop-y-preserved : goal.loop-y-preserved
-loop-y-preserved c =
+-- this turn's job and frame
+turn : (c : In-Some)
+    → let y = length c.loop-job.yielded in
+    (y < length c.args.jobs.now) × (y < length c.args.frames.now) × ((d : Job) → c.in-Some.job.now ≡ get_or c.args.jobs.now y d)
+    × ((d : ℕ) → c.in-Some.k.now ≡ get_or c.args.frames.now y d)
+turn c =
     let a = c.args in
-    let l = c.loop-y in
-    let turn = c.loop-y-test.true in
-    let room : l.y < 128 = omega (arith, l.invariant.1, turn) in
-    let so = l.invariant.3 in
-    let few = few_passed a.jobs a.frames l.y _ so in
-    elim c.if-k.branch [
-      | then-k w ↦ (
-        omega arith,
-        l.invariant.1,
-        omega (arith, few),
-        rw (w.their_jobs-is, w.their_frames-is, w.c-is) (placed_passed a.jobs a.frames l.y _ so w.if-k.true room),
-      )
-      | else-k w ↦ (
-        omega arith,
-        l.invariant.1,
-        omega (arith, few),
-        rw (w.their_jobs-is, w.their_frames-is, w.c-is) (lifted_passed a.jobs a.frames l.y _ so w.if-k.false),
-      )
-    ]
+    let l = c.loop-job in
+    zip_turn a.jobs.now a.frames.now l.yielded c.into_iter-job-iterator.result l.job-iterator c.next.new.self c.next.result (cc) (cc) l.yielded_by _
+    c.in-Some.is c.next.ensures.steps
 
-pub returns : goal.returns
-returns c =
-    let l = c.loop-y in
-    let all : l.y ≡ c.args.count = omega (arith, l.invariant.0, c.loop-y-test.false) in
-    rw all at l.invariant.3
+pub loop-job-init : goal.loop-job-init
+loop-job-init c = record { few = omega arith; passed = none_passed c.args.jobs.now c.args.frames.now }
+
+pub loop-job-preserved-then-k : goal.loop-job-preserved-then-k
+loop-job-preserved-then-k c =
+    let a = c.args in
+    let l = c.loop-job in
+    let t = turn (goal.at.loop-job-preserved-then-k c).In-Some in
+    let y = length l.yielded in
+    let room : y < 128 = omega (arith, c.requires.1, t.0) in
+    let down = rw (t.3 0) at c.if-k.true in
+    record {
+      few = simp length-append (omega (arith, l.invariant.few));
+      passed = rw (length-append, t.2 no_job, t.3 0) (placed_passed a.jobs.now a.frames.now y _ l.invariant.passed down room);
+    }
+
+pub loop-job-preserved : goal.loop-job-preserved
+loop-job-preserved c =
+    let a = c.args in
+    let l = c.loop-job in
+    let t = turn (goal.at.loop-job-preserved c).In-Some in
+    let up = rw (t.3 0) at c.if-k.false in
+    record {
+      few = simp length-append (omega (arith, l.invariant.few));
+      passed = rw length-append (lifted_passed a.jobs.now a.frames.now (length l.yielded) _ l.invariant.passed up);
+    }
+
+pub returns-clause-few : goal.returns-clause-few
+returns-clause-few c =
+    let a = c.args in
+    let l = c.loop-job in
+    let end =
+    zip_end a.jobs.now a.frames.now l.yielded c.into_iter-job-iterator.result l.job-iterator c.next.new.self c.next.result (cc) (cc) l.yielded_by
+    c.in-None.is c.next.ensures.steps in
+    omega (arith, l.invariant.few, c.requires.1)
+
+pub returns-clause-placing : goal.returns-clause-placing
+returns-clause-placing c =
+    let a = c.args in
+    let l = c.loop-job in
+    let end =
+    zip_end a.jobs.now a.frames.now l.yielded c.into_iter-job-iterator.result l.job-iterator c.next.new.self c.next.result (cc) (cc) l.yielded_by
+    c.in-None.is c.next.ensures.steps in
+    let all : length l.yielded ≡ length a.jobs.now = omega (arith, c.requires.0) in
+    rw (all, firsts_all no_job a.jobs.now, ← c.requires.0, firsts_all 0 a.frames.now) at l.invariant.passed

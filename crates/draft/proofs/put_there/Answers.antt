@@ -3,11 +3,11 @@ use Rattle.std.proofs.Common.{sym, ◌∙◌, arith}
 use Rattle.draft.specs.MoveLaws.{in_range, rows_are, outside, full, room_fits, breaks, stands}
 use Rattle.draft.proofs.put_there.Goals as goal
 
-pub offset_bounds-jobs-y : goal.offset_bounds-jobs-y
-offset_bounds-jobs-y c = omega (arith, in_range _ _ _ c.requires)
+pub offset_bounds-cycle-y : goal.offset_bounds-cycle-y
+offset_bounds-cycle-y c = omega (arith, in_range _ _ _ c.requires)
 
-pub bounds-jobs-y : goal.bounds-jobs-y
-bounds-jobs-y c = in_range _ _ _ c.requires
+pub bounds-cycle-y : goal.bounds-cycle-y
+bounds-cycle-y c = in_range _ _ _ c.requires
 
 pub returns-then-not-in_window : goal.returns-then-not-in_window
 returns-then-not-in_window c =
@@ -16,11 +16,11 @@ returns-then-not-in_window c =
 pub row_of-row-requires : goal.row_of-row-requires
 row_of-row-requires c = rows_are _ _ _ c.requires
 
-pub offset_bounds-loads-row : goal.offset_bounds-loads-row
-offset_bounds-loads-row c = omega (arith, c.row_of-row.ensures.1)
+pub offset_bounds-draft-row : goal.offset_bounds-draft-row
+offset_bounds-draft-row c = omega (arith, c.row_of-row.ensures.1)
 
-pub bounds-loads-row : goal.bounds-loads-row
-bounds-loads-row c = c.row_of-row.ensures.1
+pub bounds-draft-row : goal.bounds-draft-row
+bounds-draft-row c = c.row_of-row.ensures.1
 
 pub cost_at-cost-requires : goal.cost_at-cost-requires
 cost_at-cost-requires c = (c.requires.known, c.requires.limits.few_jobs)

@@ -1,66 +1,57 @@
--- The loop keeps that the jobs passed are added up; no sum exceeds 16 bits, since no row's does.
-use Rattle.std.proofs.Common.{arith}
-use Rattle.draft.specs.LoadLaws.{none_added, row_few, sum_fits, one_added, all_added}
+-- The jobs passed are added up; no sum exceeds 16 bits, since no row's does.
+use Rattle.std.proofs.Common.{◌≡◌, ◌<◌, ℕ, arith, length, length-append, get_or}
+use Rattle.std.proofs.lemmas.Slice.Zip.{zip_turn, zip_end}
+use Rattle.draft.specs.LoadLaws.{none_added, sum_fits, one_added, all_added}
 use Rattle.draft.proofs.row_loads.Goals as goal
+use Rattle.draft.proofs.row_loads.Goals.{In-Some}
 
-pub loop-y-init : goal.loop-y-init
-loop-y-init c = let a = c.args in (omega arith, c.requires.0, c.requires.1.some_row, c.requires.1, none_added a.rows a.cost a.frames a.count)
-
-pub overflow_cast-row : goal.overflow_cast-row
-overflow_cast-row c =
+-- this turn's cost and frame
+turn : (c : In-Some)
+    → let y = length c.loop-c.yielded in
+    (y < length c.args.cost.now) × (y < length c.args.frames.now) × ((d : ℕ) → c.in-Some.c.now ≡ get_or c.args.cost.now y d)
+    × ((d : ℕ) → c.in-Some.k.now ≡ get_or c.args.frames.now y d)
+turn c =
     let a = c.args in
-    let l = c.loop-y in
-    let inside = row_few a.rows a.cost a.frames a.count l.invariant.3 l.y l.loads l.invariant.4 c.loop-y-test.true in
-    omega (arith, inside)
+    let l = c.loop-c in
+    zip_turn a.cost.now a.frames.now l.yielded c.into_iter-c-iterator.result l.c-iterator c.next.new.self c.next.result (cc) (cc) l.yielded_by _
+    c.in-Some.is c.next.ensures.steps
+
+pub loop-c-init : goal.loop-c-init
+loop-c-init c = λ long. none_added c.args.rows c.args.cost.now c.args.frames.now long
 
 pub overflow_cast-loads : goal.overflow_cast-loads
 overflow_cast-loads c =
     let a = c.args in
-    let l = c.loop-y in
-    let small = sum_fits a.rows a.cost a.frames a.count l.invariant.3 l.y l.loads l.invariant.4 c.loop-y-test.true in
-    omega (arith, small)
-
-pub offset_bounds-loads-row : goal.offset_bounds-loads-row
-offset_bounds-loads-row c =
-    let a = c.args in
-    let l = c.loop-y in
-    let inside = row_few a.rows a.cost a.frames a.count l.invariant.3 l.y l.loads l.invariant.4 c.loop-y-test.true in
-    omega (arith, inside)
-
-pub bounds-loads-row : goal.bounds-loads-row
-bounds-loads-row c =
-    let a = c.args in
-    let l = c.loop-y in
-    let inside = row_few a.rows a.cost a.frames a.count l.invariant.3 l.y l.loads l.invariant.4 c.loop-y-test.true in
-    inside
+    let l = c.loop-c in
+    let t = turn (goal.at.overflow_cast-loads c).In-Some in
+    let fits =
+    sum_fits a.rows a.cost.now a.frames.now c.requires.0 c.requires.1 (length l.yielded) l.loads (l.invariant c.requires.0) t.0 c.in-Some.c.now
+    c.in-Some.k.now c.from-row.result (t.2 0) (t.3 0) c.from-row.ensures in
+    omega (arith, fits)
 
 pub overflow_add-loads : goal.overflow_add-loads
 overflow_add-loads c =
     let a = c.args in
-    let l = c.loop-y in
-    let small = sum_fits a.rows a.cost a.frames a.count l.invariant.3 l.y l.loads l.invariant.4 c.loop-y-test.true in
-    omega (arith, small)
+    let l = c.loop-c in
+    let t = turn (goal.at.overflow_add-loads c).In-Some in
+    let fits =
+    sum_fits a.rows a.cost.now a.frames.now c.requires.0 c.requires.1 (length l.yielded) l.loads (l.invariant c.requires.0) t.0 c.in-Some.c.now
+    c.in-Some.k.now c.from-row.result (t.2 0) (t.3 0) c.from-row.ensures in
+    omega (arith, fits)
 
-pub bounds-loads-row-in-loop-y : goal.bounds-loads-row-in-loop-y
-bounds-loads-row-in-loop-y c =
+pub loop-c-preserved : goal.loop-c-preserved
+loop-c-preserved c =
     let a = c.args in
-    let l = c.loop-y in
-    let inside = row_few a.rows a.cost a.frames a.count l.invariant.3 l.y l.loads l.invariant.4 c.loop-y-test.true in
-    inside
-
-pub loop-y-preserved : goal.loop-y-preserved
-loop-y-preserved c =
-    let a = c.args in
-    let l = c.loop-y in (
-      omega arith,
-      l.invariant.1,
-      l.invariant.2,
-      l.invariant.3,
-      one_added a.rows a.cost a.frames a.count l.invariant.3 l.y l.loads l.invariant.4 c.loop-y-test.true,
-    )
+    let l = c.loop-c in
+    let t = turn (goal.at.loop-c-preserved c).In-Some in
+    λ long. one_added a.rows a.cost.now a.frames.now long c.requires.1 (length l.yielded) l.loads (l.invariant long) t.0 c.in-Some.c.now c.in-Some.k.now
+    c.from-row.result (t.2 0) (t.3 0) c.from-row.ensures _ (simp length-append)
 
 pub returns : goal.returns
 returns c =
     let a = c.args in
-    let l = c.loop-y in
-    all_added a.rows a.cost a.frames a.count l.y l.loads l.invariant.4 (omega (arith, l.invariant.0, c.loop-y-test.false))
+    let l = c.loop-c in
+    let end =
+    zip_end a.cost.now a.frames.now l.yielded c.into_iter-c-iterator.result l.c-iterator c.next.new.self c.next.result (cc) (cc) l.yielded_by
+    c.in-None.is c.next.ensures.steps in
+    all_added a.rows a.cost.now a.frames.now c.requires.0 (length l.yielded) l.loads (l.invariant c.requires.0) (omega arith)

@@ -1,21 +1,26 @@
 -- The three tests are the definition's.
-use Rattle.std.proofs.Common.{arith, lt-ltb, le-ltb, le-leb}
+use Rattle.std.proofs.Common.{◌<◌, arith, lt-ltb, le-ltb, le-leb}
 use borrow.Author.Tests.{lt-leb}
 use Rattle.one_off.specs.OneOff.{well_asked}
 use Rattle.one_off.proofs.well_asked.Goals as goal
+use Rattle.one_off.proofs.well_asked.Goals.{then-length-ge1, else-length-ge1}
 
-pub returns-then-length-lt1 : goal.returns-then-length-lt1
+pub returns-then-from-until : goal.returns-then-from-until
 unfolding well_asked
-returns-then-length-lt1 c = rw (le-ltb 0 c.args.length (omega (arith, c.if-length-lt1.true)))
-
-pub returns-then-until-from : goal.returns-then-until-from
-unfolding well_asked
-returns-then-until-from c =
+returns-then-from-until c =
     let a = c.args in
-    rw (lt-ltb 0 a.length (omega (arith, c.if-length-lt1.false)), lt-leb a.from a.until c.if-until-from.true)
+    rw (c.from.ensures, lt-ltb 0 a.length c.if-from-until.true.0, le-leb a.from a.until c.if-from-until.true.1)
 
-pub returns : goal.returns
+pub returns-else-from-until : goal.returns-else-from-until
 unfolding well_asked
-returns c =
+returns-else-from-until c =
     let a = c.args in
-    rw (lt-ltb 0 a.length (omega (arith, c.if-length-lt1.false)), le-leb a.from a.until c.if-until-from.false)
+    elim c.if-length-ge1.branch [
+      | then-length-ge1 w ↦
+          let turned : a.until < a.from = omega (arith, c.if-from-until.either, w.if-length-ge1.true) in
+          let no = lt-leb a.from a.until turned in
+          rw (lt-ltb 0 a.length w.if-length-ge1.true, no) (cc)
+      | else-length-ge1 w ↦
+          let none = lt-leb 1 a.length w.if-length-ge1.false in
+          rw (le-ltb 0 a.length (omega (arith, w.if-length-ge1.false))) (cc)
+    ]

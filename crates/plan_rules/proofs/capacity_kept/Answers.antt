@@ -1,67 +1,47 @@
 -- The loop keeps the load of each row by the jobs passed, none beyond f; a job without room in its row breaks the rule.
-use Rattle.std.proofs.Common.{◌<◌, ◌%◌, arith, get_or}
-use Rattle.plan_rules.specs.LoopLaws.{kept_none, row_inside, kept_more, overloaded, all_loaded}
+use Rattle.std.proofs.Common.{◌≡◌, ◌<◌, ℕ, arith, length, length-append, get_or}
+use Rattle.std.proofs.lemmas.Slice.Zip.{zip_turn, zip_end}
+use Rattle.plan_rules.specs.LoopLaws.{kept_none, put_more, too_full, all_put}
 use Rattle.plan_rules.proofs.capacity_kept.Goals as goal
-use Rattle.plan_rules.proofs.capacity_kept.Goals.{In-loop-y}
+use Rattle.plan_rules.proofs.capacity_kept.Goals.{In-Some}
 
--- the row of a job is one of 256
-inside : (c : In-loop-y)
-    → let l = c.loop-y in let a = c.args in get_or a.frames.now l.y 0 % a.rows < 256
-inside c =
-    let l = c.loop-y in
+-- this turn's cost and frame
+turn : (c : In-Some)
+    → let y = length c.loop-c.yielded in
+    (y < length c.args.cost.now) × (y < length c.args.frames.now) × ((d : ℕ) → c.in-Some.c.now ≡ get_or c.args.cost.now y d)
+    × ((d : ℕ) → c.in-Some.k.now ≡ get_or c.args.frames.now y d)
+turn c =
     let a = c.args in
-    row_inside a.rows a.cost.now a.frames.now a.count a.f l.invariant.2 l.invariant.3 l.y l.load l.invariant.4 c.loop-y-test.true
+    let l = c.loop-c in
+    zip_turn a.cost.now a.frames.now l.yielded c.into_iter-c-iterator.result l.c-iterator c.next.new.self c.next.result (cc) (cc) l.yielded_by _
+    c.in-Some.is c.next.ensures.steps
 
-pub loop-y-init : goal.loop-y-init
-loop-y-init c =
+pub loop-c-init : goal.loop-c-init
+loop-c-init c =
     let a = c.args in
-    (omega arith, c.requires.0, c.requires.1, c.requires.2, kept_none a.rows a.cost.now a.frames.now a.count a.f)
-
-pub overflow_cast-row : goal.overflow_cast-row
-overflow_cast-row c = omega (arith, inside (goal.at.overflow_cast-row c).In-loop-y)
-
-pub offset_bounds-load-row : goal.offset_bounds-load-row
-offset_bounds-load-row c = omega (arith, inside (goal.at.offset_bounds-load-row c).In-loop-y)
-
-pub bounds-load-row : goal.bounds-load-row
-bounds-load-row c = omega (arith, inside (goal.at.bounds-load-row c).In-loop-y)
-
-pub overflow_sub-length : goal.overflow_sub-length
-overflow_sub-length c = c.loop-y.invariant.4.small _
+    kept_none a.rows a.cost.now a.frames.now (length a.cost.now) a.f
 
 pub returns-then-c-length : goal.returns-then-c-length
 returns-then-c-length c =
-    let l = c.loop-y in
     let a = c.args in
-    overloaded a.rows a.cost.now a.frames.now a.count a.f l.invariant.2 l.invariant.3 l.y l.load l.invariant.4 c.loop-y-test.true
-    c.if-c-length.true
+    let l = c.loop-c in
+    let t = turn (goal.at.returns-then-c-length c).In-Some in
+    too_full a.rows a.cost.now a.frames.now a.f c.requires.0 c.requires.1 c.requires.2 (length l.yielded) l.load l.invariant t.0 c.in-Some.c.now
+    c.in-Some.k.now c.from-row.result (t.2 0) (t.3 0) c.from-row.ensures (rw (← c.from-length.ensures) c.if-c-length.true)
 
-pub overflow_add-load : goal.overflow_add-load
-overflow_add-load c =
-    let l = c.loop-y in
+pub loop-c-preserved : goal.loop-c-preserved
+loop-c-preserved c =
     let a = c.args in
-    omega (arith, l.invariant.4.small (get_or a.frames.now l.y 0 % a.rows), c.if-c-length.false)
-
-pub offset_bounds-load-row-in-loop-y : goal.offset_bounds-load-row-in-loop-y
-offset_bounds-load-row-in-loop-y c = omega (arith, inside (goal.at.offset_bounds-load-row-in-loop-y c).In-loop-y)
-
-pub bounds-load-row-in-loop-y : goal.bounds-load-row-in-loop-y
-bounds-load-row-in-loop-y c = omega (arith, inside (goal.at.bounds-load-row-in-loop-y c).In-loop-y)
-
-pub loop-y-preserved : goal.loop-y-preserved
-loop-y-preserved c =
-    let l = c.loop-y in
-    let a = c.args in (
-      omega arith,
-      l.invariant.1,
-      l.invariant.2,
-      l.invariant.3,
-      kept_more a.rows a.cost.now a.frames.now a.count a.f l.invariant.2 l.invariant.3 l.y l.load l.invariant.4 c.loop-y-test.true
-          c.if-c-length.false,
-    )
+    let l = c.loop-c in
+    let t = turn (goal.at.loop-c-preserved c).In-Some in
+    put_more a.rows a.cost.now a.frames.now a.f c.requires.0 c.requires.1 c.requires.2 (length l.yielded) l.load l.invariant t.0 c.in-Some.c.now
+    c.in-Some.k.now c.from-row.result (t.2 0) (t.3 0) c.from-row.ensures (rw (← c.from-length.ensures) c.if-c-length.false) _ (simp length-append)
 
 pub returns : goal.returns
 returns c =
-    let l = c.loop-y in
     let a = c.args in
-    all_loaded a.rows a.cost.now a.frames.now a.count a.f l.y l.load l.invariant.4 (omega (arith, l.invariant.0, c.loop-y-test.false))
+    let l = c.loop-c in
+    let end =
+    zip_end a.cost.now a.frames.now l.yielded c.into_iter-c-iterator.result l.c-iterator c.next.new.self c.next.result (cc) (cc) l.yielded_by
+    c.in-None.is c.next.ensures.steps in
+    all_put a.rows a.cost.now a.frames.now a.f c.requires.0 c.requires.1 c.requires.2 (length l.yielded) l.load l.invariant (omega arith)

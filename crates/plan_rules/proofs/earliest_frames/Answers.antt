@@ -1,34 +1,38 @@
 -- The loop keeps the earliest frames of the jobs passed.
-use Rattle.std.proofs.Common.{◌<◌, ◌≡◌, arith, get_or}
-use Rattle.cursor.specs.Padded.{firsts}
+use Rattle.std.proofs.Common.{◌≡◌, ◌<◌, ℕ, arith, length, length-append, get_or}
+use Rattle.std.proofs.lemmas.Slice.Zip.{zip_turn}
 use Rattle.cycle.specs.Planned.{no_job}
+use Rattle.cycle.specs.declared.Job.{Job}
 use Rattle.plan_rules.specs.Earliest.{earliest_none, passed_other, passed_own}
 use Rattle.plan_rules.proofs.earliest_frames.Goals as goal
-use Rattle.plan_rules.proofs.earliest_frames.Goals.{then-job-b, else-job-b}
+use Rattle.plan_rules.proofs.earliest_frames.Goals.{In-Some}
 
-pub loop-z-init : goal.loop-z-init
-loop-z-init c =
+-- this turn's job and frame
+turn : (c : In-Some)
+    → let y = length c.loop-job.yielded in
+    (y < length c.args.jobs.now) × (y < length c.args.frames.now) × ((d : Job) → c.in-Some.job.now ≡ get_or c.args.jobs.now y d)
+    × ((d : ℕ) → c.in-Some.k.now ≡ get_or c.args.frames.now y d)
+turn c =
     let a = c.args in
-    (omega arith, c.requires, earliest_none (firsts a.count no_job a.jobs) (firsts a.count 0 a.frames.now) a.b)
+    let l = c.loop-job in
+    zip_turn a.jobs.now a.frames.now l.yielded c.into_iter-job-iterator.result l.job-iterator c.next.new.self c.next.result (cc) (cc) l.yielded_by _
+    c.in-Some.is c.next.ensures.steps
 
-pub loop-z-preserved : goal.loop-z-preserved
-loop-z-preserved c =
-    let l = c.loop-z in
+pub loop-job-init : goal.loop-job-init
+loop-job-init c = earliest_none c.args.jobs.now c.args.frames.now c.args.b
+
+pub loop-job-preserved-then-job-b : goal.loop-job-preserved-then-job-b
+loop-job-preserved-then-job-b c =
     let a = c.args in
-    let turn = c.loop-z-test.true in
-    let small : (get_or a.jobs l.z no_job).number < 256 = omega (arith) in (
-      omega arith,
-      l.invariant.1,
-      elim c.if-job-b.branch [
-        | then-job-b w ↦
-            rw w.earliest-is
-            (passed_own a.jobs a.frames.now a.b a.count l.z turn l.earliest l.invariant.2 w.if-job-b.true small _ w.smaller.ensures)
-        | else-job-b w ↦ rw w.earliest-is (passed_other a.jobs a.frames.now a.b a.count l.z turn l.earliest l.invariant.2 w.if-job-b.false)
-      ],
-    )
+    let l = c.loop-job in
+    let t = turn (goal.at.loop-job-preserved-then-job-b c).In-Some in
+    passed_own a.jobs.now a.frames.now a.b (length l.yielded) l.earliest l.invariant c.in-Some.job.now (t.2 no_job) _ (simp length-append) c.if-job-b.true
+    (omega arith) c.from-number.result c.from-number.ensures c.in-Some.k.now (t.3 0) c.min.result c.min.ensures
 
-pub returns : goal.returns
-returns c =
-    let l = c.loop-z in
-    let all : l.z ≡ c.args.count = omega (arith, l.invariant.0, c.loop-z-test.false) in
-    rw all at l.invariant.2
+pub loop-job-preserved : goal.loop-job-preserved
+loop-job-preserved c =
+    let a = c.args in
+    let l = c.loop-job in
+    let t = turn (goal.at.loop-job-preserved c).In-Some in
+    passed_other a.jobs.now a.frames.now a.b (length l.yielded) l.earliest l.invariant c.in-Some.job.now (t.2 no_job) _ (simp length-append)
+    c.if-job-b.false

@@ -1,47 +1,54 @@
--- The loop keeps that the jobs left decide; a job is compared with the earliest frame of its partner.
-use Rattle.std.proofs.Common.{◌<◌, sym, ◌∙◌, arith, get_or, eq-eqb, ne_eqb}
-use native.Mathlib.Nat.{sub-zero}
+-- The loop keeps that each job passed keeps the pair; the earliest frames tell whether all of the partner's are as late.
+use Rattle.std.proofs.Common.{◌≡◌, ◌<◌, ℕ, sym, arith, length, length-append, get_or, below_more}
+use Rattle.std.proofs.lemmas.Slice.Zip.{zip_turn, zip_end}
 use Rattle.cycle.specs.Planned.{no_job}
-use Rattle.plan_rules.specs.EveryLaws.{all_next, all_fails, all_done}
-use Rattle.plan_rules.specs.LoopLaws.{one_at}
+use Rattle.cycle.specs.declared.Job.{Job}
+use Rattle.plan_rules.specs.EveryLaws.{says_every, every_fails}
+use Rattle.plan_rules.specs.Earliest.{not_of_the_pair, early_enough, too_late}
 use Rattle.plan_rules.proofs.pair_kept.Goals as goal
-use Rattle.plan_rules.proofs.pair_kept.Goals.{then-job-a+else-not-not_after, else-job-a}
+use Rattle.plan_rules.proofs.pair_kept.Goals.{In-Some, else-job-a-via-then-job-a+else-k-earliest, else-job-a-via-else-job-a}
 
-pub loop-y-init : goal.loop-y-init
-loop-y-init c = (omega arith, c.requires, c.earliest_frames-earliest.ensures, simp sub-zero)
-
-pub returns-then-not-not_after : goal.returns-then-not-not_after
-returns-then-not-not_after c =
-    let l = c.loop-y in
+-- this turn's job and frame
+turn : (c : In-Some)
+    → let y = length c.loop-job.yielded in
+    (y < length c.args.jobs.now) × (y < length c.args.frames.now) × ((d : Job) → c.in-Some.job.now ≡ get_or c.args.jobs.now y d)
+    × ((d : ℕ) → c.in-Some.k.now ≡ get_or c.args.frames.now y d)
+turn c =
     let a = c.args in
-    let turn = c.loop-y-test.true in
-    let here = one_at a.jobs a.frames.now a.count l.y turn a.a a.b in
-    let small : (get_or a.jobs l.y no_job).number < 256 = omega (arith) in
-    let told = l.invariant.2.tells (get_or a.jobs l.y no_job).number (get_or a.frames.now l.y 0) small c.not_after.ensures.1 in
-    let after = sym told ∙ sym c.not_after.ensures.0 ∙ c.if-not-not_after.true in
-    all_fails _ a.count l.y turn (here ∙ rw (eq-eqb _ _ c.if-job-a.true) after) ∙ l.invariant.3
+    let l = c.loop-job in
+    zip_turn a.jobs.now a.frames.now l.yielded c.into_iter-job-iterator.result l.job-iterator c.next.new.self c.next.result (cc) (cc) l.yielded_by _
+    c.in-Some.is c.next.ensures.steps
 
-pub loop-y-preserved : goal.loop-y-preserved
-loop-y-preserved c =
-    let l = c.loop-y in
+pub returns-then-k-earliest : goal.returns-then-k-earliest
+returns-then-k-earliest c =
     let a = c.args in
-    let turn = c.loop-y-test.true in
-    let here = one_at a.jobs a.frames.now a.count l.y turn a.a a.b in
-    let small : (get_or a.jobs l.y no_job).number < 256 = omega (arith) in
-    let told = l.invariant.2.tells (get_or a.jobs l.y no_job).number (get_or a.frames.now l.y 0) small in (
-      omega arith,
-      l.invariant.1,
-      l.invariant.2,
-      elim c.if-job-a.branch [
-        | then-job-a+else-not-not_after w ↦
-            all_next _ a.count l.y turn
-            (here ∙ rw (eq-eqb _ _ w.if-job-a.true) (sym (told w.not_after.ensures.1) ∙ sym w.not_after.ensures.0 ∙ w.if-not-not_after.false))
-            ∙ l.invariant.3
-        | else-job-a w ↦ all_next _ a.count l.y turn (here ∙ rw (ne_eqb _ _ w.if-job-a.false)) ∙ l.invariant.3
-      ],
-    )
+    let y = length c.loop-job.yielded in
+    let t = turn (goal.at.returns-then-k-earliest c).In-Some in
+    sym
+    (every_fails _ (length a.jobs.now) y t.0
+    (too_late a.jobs.now a.frames.now (length a.jobs.now) a.a a.b y c.in-Some.job.now (t.2 no_job) c.if-job-a.true (omega arith) c.in-Some.k.now (t.3 0)
+    (omega arith) c.earliest_frames-earliest.result c.earliest_frames-earliest.ensures (rw (← c.from.ensures) c.if-k-earliest.true)))
+
+pub loop-job-preserved : goal.loop-job-preserved
+loop-job-preserved c =
+    let a = c.args in
+    let y = length c.loop-job.yielded in
+    let t = turn (goal.at.loop-job-preserved c).In-Some in
+    rw length-append
+    (below_more _ y c.loop-job.invariant
+    (elim c.else-job-a.branch [
+      | else-job-a-via-then-job-a+else-k-earliest w ↦
+          early_enough a.jobs.now a.frames.now (length a.jobs.now) a.a a.b y c.in-Some.job.now (t.2 no_job) w.if-job-a.true (omega arith) c.in-Some.k.now
+          (t.3 0) (omega arith) c.earliest_frames-earliest.result c.earliest_frames-earliest.ensures (rw (← w.from.ensures) w.if-k-earliest.false)
+      | else-job-a-via-else-job-a w ↦
+          not_of_the_pair a.jobs.now a.frames.now (length a.jobs.now) a.a a.b y c.in-Some.job.now (t.2 no_job) w.if-job-a.false
+    ]))
 
 pub returns : goal.returns
 returns c =
-    let l = c.loop-y in
-    all_done _ _ l.y c.loop-y-test.false ∙ l.invariant.3
+    let a = c.args in
+    let l = c.loop-job in
+    let end =
+    zip_end a.jobs.now a.frames.now l.yielded c.into_iter-job-iterator.result l.job-iterator c.next.new.self c.next.result (cc) (cc) l.yielded_by
+    c.in-None.is c.next.ensures.steps in
+    sym (says_every _ (length a.jobs.now) (λ y h. l.invariant y (omega arith)))

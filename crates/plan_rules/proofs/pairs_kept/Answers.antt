@@ -1,35 +1,21 @@
--- The loop keeps that the pairs left decide.
-use Rattle.std.proofs.Common.{sym, ◌∙◌, arith}
-use native.Mathlib.Nat.{sub-zero}
-use Rattle.cursor.specs.Padded.{firsts}
-use Rattle.cycle.specs.Planned.{no_job}
-use Rattle.plan_rules.specs.EveryLaws.{all_next, all_fails, all_done}
-use Rattle.plan_rules.specs.LoopLaws.{pair_at_lem}
+-- The test of each pair is the test of each place.
+use Rattle.std.proofs.Common.{◌≡◌, ◌∙◌, refl, rules, length}
+use Rattle.std.proofs.lemmas.Iterator.{YieldsList-from_slice}
+use Rattle.std.proofs.lemmas.Iterator.Search.{all_from_yields_List}
+use Rattle.std.specs.List.{list_all}
+use Rattle.request.specs.Request.{no_pair}
+use Rattle.request.specs.declared.Pair.{Pair}
+use Rattle.plan_rules.specs.Every.{every}
+use Rattle.plan_rules.specs.Rules.{one_kept, pair_kept}
+use Rattle.plan_rules.specs.Slices.{all_is_every}
 use Rattle.plan_rules.proofs.pairs_kept.Goals as goal
 
-pub loop-u-init : goal.loop-u-init
-loop-u-init c = (omega arith, c.requires.0, simp sub-zero)
-
-pub pair_kept-requires : goal.pair_kept-requires
-pair_kept-requires c = c.requires.1
-
-pub returns-then-not-pair_kept : goal.returns-then-not-pair_kept
-returns-then-not-pair_kept c =
-    let a = c.args in
-    let l = c.loop-u in
-    let turn = c.loop-u-test.true in
-    let here = pair_at_lem (firsts a.count no_job a.jobs) (firsts a.count 0 a.frames.now) a.count a.pairs a.m l.u turn in
-    all_fails _ a.m l.u turn (here ∙ sym c.pair_kept.ensures ∙ c.if-not-pair_kept.true) ∙ l.invariant.2
-
-pub loop-u-preserved : goal.loop-u-preserved
-loop-u-preserved c =
-    let a = c.args in
-    let l = c.loop-u in
-    let turn = c.loop-u-test.true in
-    let here = pair_at_lem (firsts a.count no_job a.jobs) (firsts a.count 0 a.frames.now) a.count a.pairs a.m l.u turn in
-    (omega arith, l.invariant.1, all_next _ a.m l.u turn (here ∙ sym c.pair_kept.ensures ∙ c.if-not-pair_kept.false) ∙ l.invariant.2)
-
 pub returns : goal.returns
+unfolding pair_kept
 returns c =
-    let l = c.loop-u in
-    all_done _ _ l.u c.loop-u-test.false ∙ l.invariant.2
+    let a = c.args in
+    let n = length a.jobs.now in
+    let test = λ (p : Pair). every n (one_kept a.jobs.now a.frames.now n p.a p.b) in
+    let e : c.all.result ≡ list_all test a.pairs.now =
+    all_from_yields_List test _ _ c.all.result c.all.ensures.ran (YieldsList-from_slice a.pairs.now cc) (λ x b q k. search rules) in
+    e ∙ all_is_every no_pair a.pairs.now test (pair_kept a.jobs.now a.frames.now n a.pairs.now) (λ y h. refl)

@@ -1,30 +1,23 @@
--- The loop keeps that the jobs left decide.
-use Rattle.std.proofs.Common.{sym, ◌∙◌, arith}
-use native.Mathlib.Nat.{sub-zero}
-use Rattle.plan_rules.specs.EveryLaws.{all_next, all_fails, all_done}
-use Rattle.plan_rules.specs.LoopLaws.{window_at}
+-- The test of each pair of a job and its frame is the test of each place.
+use Rattle.std.proofs.Common.{◌≡◌, ℕ, ◌∙◌, refl, rules}
+use Rattle.std.proofs.lemmas.Iterator.{YieldsList-from_slice, YieldsList-from_zip}
+use Rattle.std.proofs.lemmas.Iterator.Consumers.{YieldsList-at}
+use Rattle.std.proofs.lemmas.Iterator.Search.{all_from_yields_List}
+use Rattle.std.specs.List.{list_all, zip}
+use Rattle.cycle.specs.Planned.{no_job}
+use Rattle.cycle.specs.declared.Job.{Job}
+use Rattle.plan_rules.specs.Rules.{in_window, window_kept}
+use Rattle.plan_rules.specs.Slices.{both_is_every}
 use Rattle.plan_rules.proofs.windows_kept.Goals as goal
 
-pub loop-y-init : goal.loop-y-init
-loop-y-init c = (omega arith, c.requires, simp sub-zero)
-
-pub returns-then-not-in_window : goal.returns-then-not-in_window
-returns-then-not-in_window c =
-    let a = c.args in
-    let l = c.loop-y in
-    let turn = c.loop-y-test.true in
-    let here = window_at a.jobs a.frames.now a.count l.y turn a.f in
-    all_fails _ a.count l.y turn (here ∙ sym c.in_window.ensures ∙ c.if-not-in_window.true) ∙ l.invariant.2
-
-pub loop-y-preserved : goal.loop-y-preserved
-loop-y-preserved c =
-    let a = c.args in
-    let l = c.loop-y in
-    let turn = c.loop-y-test.true in
-    let here = window_at a.jobs a.frames.now a.count l.y turn a.f in
-    (omega arith, l.invariant.1, all_next _ a.count l.y turn (here ∙ sym c.in_window.ensures ∙ c.if-not-in_window.false) ∙ l.invariant.2)
-
 pub returns : goal.returns
+unfolding window_kept
 returns c =
-    let l = c.loop-y in
-    all_done _ _ l.y c.loop-y-test.false ∙ l.invariant.2
+    let a = c.args in
+    let test = λ (p : Job × ℕ). in_window a.f p.0 p.1 in
+    let road =
+    YieldsList-from_zip (YieldsList-at c.zip.ensures.first (YieldsList-from_slice a.jobs.now c.iter.ensures.rest))
+    (YieldsList-from_slice a.frames.now c.zip.ensures.second.0) in
+    let e : c.all.result ≡ list_all test (zip a.jobs.now a.frames.now) =
+    all_from_yields_List test c.all.new.self _ c.all.result c.all.ensures.ran road (λ x b q k. search rules) in
+    e ∙ both_is_every no_job 0 a.jobs.now a.frames.now c.requires test (window_kept a.jobs.now a.frames.now a.f) (λ y h. refl)

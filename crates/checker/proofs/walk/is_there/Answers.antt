@@ -1,43 +1,24 @@
--- The loop keeps that the jobs left decide.
-use Rattle.std.proofs.Common.{◌≤◌, ◌+◌, ◌∙◌, arith, eq-eqb, ne_eqb}
-use native.Mathlib.Nat.{sub-zero}
-use Rattle.plan_rules.specs.EveryLaws.{some_next, some_here, some_none}
-use Rattle.checker.specs.NameLaws.{named_there}
+-- The test of each pair of a job and its frame is the test of each place.
+use Rattle.std.proofs.Common.{◌≡◌, ℕ, ◌∙◌, ◌&&◌, refl, rules, tests, eqb}
+use Rattle.std.specs.List.{list_any, zip}
+use Rattle.std.proofs.lemmas.Iterator.{YieldsList-from_slice, YieldsList-from_zip}
+use Rattle.std.proofs.lemmas.Iterator.Consumers.{YieldsList-at}
+use Rattle.std.proofs.lemmas.Iterator.Search.{any_from_yields_List}
+use Rattle.cycle.specs.Planned.{no_job}
+use Rattle.cycle.specs.declared.Job.{Job}
+use Rattle.model.specs.Named.{is_job}
+use Rattle.checker.specs.Checked.{is_there}
+use Rattle.checker.specs.LoopLaws.{both_is_some}
 use Rattle.checker.proofs.walk.is_there.Goals as goal
-use Rattle.checker.proofs.walk.is_there.Goals.{then-names-y+then-names-y-2+else-frames-y, then-names-y+else-names-y-2, else-names-y}
-
-pub loop-y-init : goal.loop-y-init
-loop-y-init c = (omega arith, c.requires, simp sub-zero)
-
-pub returns-then-frames-y : goal.returns-then-frames-y
-returns-then-frames-y c =
-    let a = c.args in
-    let l = c.loop-y in
-    let turn = c.loop-y-test.true in
-    let here = named_there a.names.now a.frames.now a.count l.y turn a.task a.number a.k in
-    some_here _ a.count l.y turn
-    (here ∙ rw (eq-eqb _ _ c.if-names-y.true, eq-eqb _ _ c.if-names-y-2.true, eq-eqb _ _ c.if-frames-y.true))
-    ∙ l.invariant.2
-
-pub loop-y-preserved : goal.loop-y-preserved
-loop-y-preserved c =
-    let a = c.args in
-    let l = c.loop-y in
-    let turn = c.loop-y-test.true in
-    let here = named_there a.names.now a.frames.now a.count l.y turn a.task a.number a.k in
-    let more : l.y + 1 ≤ a.count = omega arith in
-    let next = some_next _ a.count l.y turn in (
-      more,
-      l.invariant.1,
-      elim c.if-names-y.branch [
-        | then-names-y+then-names-y-2+else-frames-y w ↦
-            next (here ∙ rw (eq-eqb _ _ w.if-names-y.true, eq-eqb _ _ w.if-names-y-2.true, ne_eqb _ _ w.if-frames-y.false)) ∙ l.invariant.2
-        | then-names-y+else-names-y-2 w ↦ next (here ∙ rw (eq-eqb _ _ w.if-names-y.true, ne_eqb _ _ w.if-names-y-2.false)) ∙ l.invariant.2
-        | else-names-y w ↦ next (here ∙ rw (ne_eqb _ _ w.if-names-y.false)) ∙ l.invariant.2
-      ],
-    )
 
 pub returns : goal.returns
+unfolding is_there
 returns c =
-    let l = c.loop-y in
-    some_none _ _ l.y c.loop-y-test.false ∙ l.invariant.2
+    let a = c.args in
+    let test = λ (p : Job × ℕ). is_job a.task a.number p.0 && eqb p.1 a.k in
+    let road =
+    YieldsList-from_zip (YieldsList-at c.zip.ensures.first (YieldsList-from_slice a.jobs.now c.iter.ensures.rest))
+    (YieldsList-from_slice a.frames.now c.zip.ensures.second.0) in
+    let e : c.any.result ≡ list_any test (zip a.jobs.now a.frames.now) =
+    any_from_yields_List test c.any.new.self _ c.any.result c.any.ensures.ran road (λ x b q k. (search rules, search (rules, tests))) in
+    e ∙ both_is_some no_job 0 a.jobs.now a.frames.now c.requires test (is_there a.jobs.now a.frames.now a.task a.number a.k) (λ y h. refl)
