@@ -10,11 +10,9 @@ pub fn write_number(out: &mut [u8], number: u64)
     ensures { out.new ≡ low_first 8 number ++ drop 8 out.old }
 {
     let mut rest = number;
-    let mut i: usize = 0;
-    while i < 8 {
+    for i in 0..8 {
         out[i] = (rest % 256) as u8;
-        rest = rest / 256;
-        i += 1;
+        rest /= 256;
     }
 }
 

@@ -24,9 +24,5 @@ pub fn clear(bytes: &mut [u8], n: usize)
     requires { n ≤ length bytes.old }
     ensures { bytes.new ≡ zeros n ++ drop n bytes.old }
 {
-    let mut i: usize = 0;
-    while i < n {
-        bytes[i] = 0;
-        i += 1;
-    }
+    bytes[..n].fill(0);
 }
