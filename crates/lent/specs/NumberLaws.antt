@@ -19,31 +19,6 @@ pub lowest_first : (n number : ℕ) → low_first (suc n) number ≡ (number % 2
 unfolding low_first
 lowest_first n number = refl
 
--- 8 bytes of a number: i are stored, and `rest` is what is left of the number
-
-module _ (number : ℕ) (old : List ℕ) where
-  abbrev pub CountPart : List ℕ → ℕ → ℕ → Type 0
-  CountPart out rest i = PartWay (low_first 8 number) old out (low_first (8 - i) rest) i
-
-  pub count_start : 8 ≤ length old → CountPart old number 0
-  unfolding low_first
-  count_start h = part_start [] (low_first 8 number) old 0 refl h
-
-  module _ (out : List ℕ) (rest i : ℕ) (so : CountPart out rest i) where
-    left_is : i < 8 → low_first (8 - i) rest ≡ (rest % 256) ∷ low_first (8 - (i + 1)) (rest / 256)
-    unfolding low_first
-    left_is h = rw (less_one 8 i h)
-
-    pub count_room : i < 8 → i < length out
-    count_room h = omega (arith, so.room, so.long, ap length (left_is h))
-
-    pub count_more : i < 8 → CountPart (set out i (rest % 256)) (rest / 256) (i + 1)
-    count_more h = one_more (low_first 8 number) old out (low_first (8 - i) rest) i so (rest % 256) _ (left_is h)
-
-    pub count_end : 8 ≤ i → out ≡ low_first 8 number ++ drop 8 old
-    unfolding low_first
-    count_end h = (part_end (low_first 8 number) old out (low_first (8 - i) rest) i so (rw (none_left 8 i h))).whole
-
 -- four words, one behind the other
 pub counts_stored : (found : PhaseCounts) (bytes : List ℕ) → 8 ≤ length bytes
     → sets (sets (sets (sets bytes 0 (word_bytes found.tables)) 2 (word_bytes found.nines)) 4 (word_bytes found.tens)) 6 (word_bytes found.ended)

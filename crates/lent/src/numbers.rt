@@ -9,11 +9,7 @@ pub fn write_number(out: &mut [u8], number: u64)
     requires { 8 ≤ length out.old }
     ensures { out.new ≡ low_first 8 number ++ drop 8 out.old }
 {
-    let mut rest = number;
-    for i in 0..8 {
-        out[i] = (rest % 256) as u8;
-        rest /= 256;
-    }
+    out[..8].copy_from_slice(&number.to_le_bytes());
 }
 
 // The first 8 bytes get the four counts; those behind them are left alone.
