@@ -1,16 +1,13 @@
 -- The bytes of a number and of the four counts: what stores one behind the other come to, and what they say.
-use Rattle.std.specs.Prelude.{ℕ, suc, ◌+◌, ◌-◌, ◌%◌, ◌/◌, ◌≤◌, ◌<◌, ◌≡◌, length, get_or, set, drop}
+use Rattle.std.specs.Prelude.{ℕ, suc, ◌%◌, ◌/◌, ◌≤◌, ◌<◌, ◌≡◌, length, get_or, drop}
 use Rattle.std.proofs.Math.Path.{refl}
-use Rattle.std.proofs.Common.{ap, ◌∙◌, zero-add, arith}
+use Rattle.std.proofs.Common.{ap, ◌∙◌, zero-add}
 use mathlib.Core.List.{List, [], ◌∷◌, ◌++◌, append-nil, append_assoc}
 use Rattle.std.proofs.lemmas.List.Edits.{sets}
 use Rattle.cursor.specs.Fields.{word_bytes}
 use Rattle.cursor.specs.WordBytesLaws.{four_stored}
-use Rattle.cursor.specs.Pieces.{PartWay, part_start, part_end}
-use Rattle.table.specs.Left.{less_one, none_left}
 use Rattle.phases.specs.declared.PhaseCounts.{PhaseCounts}
 use Rattle.lent.specs.Words.{word_in, words_bytes}
-use Rattle.lent.specs.WordLaws.{one_more}
 use Rattle.lent.specs.WordsBack.{word_written}
 use Rattle.lent.specs.Numbers.{low_first, counts_bytes}
 
