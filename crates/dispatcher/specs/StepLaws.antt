@@ -1,8 +1,9 @@
 -- One turn of the loop over a row's places, and each way out of next-frame and report, as the definitions have them.
-use Rattle.std.specs.Prelude.{ℕ, ◌+◌, ◌-◌, ◌≤◌, ◌<◌, ◌≡◌, true, false, List, [], ◌∷◌, ◌++◌, length, get_or, set, replicate, ltb}
-use Rattle.std.proofs.Common.{sym, ap, ◌∙◌, append-nil, arith, leb-false}
+use Rattle.std.specs.Prelude.{ℕ, ◌+◌, ◌-◌, ◌≤◌, ◌<◌, ◌≡◌, true, false, min, cond, List, [], ◌∷◌, ◌++◌, length, get_or, set, replicate, ltb}
+use Rattle.std.proofs.Common.{sym, ap, ◌∙◌, append-nil, arith, leb-false, lt-ltb, le-ltb, ◌⊎◌, inl, inr}
 use Rattle.std.proofs.Math.Nat.{sub-zero}
 use Rattle.std.proofs.Math.Seq.{append_snoc}
+use Rattle.cursor.specs.ChoiceLaws.{lt_or_ge}
 use Rattle.request.specs.Request.{reading, no_task}
 use Rattle.request.specs.Answers.{request_answered}
 use Rattle.request.specs.AnswerLaws.{WasRead, not_read}
@@ -98,6 +99,14 @@ module _ (bytes : List ℕ) (s : State) (r : Row) (w : RowFound bytes s.row r) w
     later_frame mark = rw (w.row_is, height) (sym (frame_served_lem bytes s w.t w.is w.below ∙ rw mark))
 
 -- Report
+
+-- a count that stops at 65,535
+pub raised_lem : (count : ℕ) → count ≤ 65535 → min (count + 1) 65535 ≡ cond (ltb count 65535) (count + 1) count
+raised_lem count h = go (lt_or_ge count 65535)
+  where
+    go : (count < 65535) ⊎ (65535 ≤ count) → min (count + 1) 65535 ≡ cond (ltb count 65535) (count + 1) count
+    go (inl below) = rw (lt-ltb count 65535 below) (omega arith)
+    go (inr full) = rw (le-ltb count 65535 full) (omega arith)
 
 -- 1 to 6 and 17 are the request reader's
 pub report_refused_lem : (bytes : List ℕ) (task ticks : ℕ) (s : State) (r : Request) → r ≡ request_answered (reading bytes) → (r.refusal ≡ 0 → ⊥)

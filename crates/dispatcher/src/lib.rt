@@ -47,11 +47,15 @@ pub fn fresh() -> State
 fn frame_of(row: Row, state: State) -> Frame
     ensures { result ≡ framed row state }
 {
-    let tasks = row.tasks;
-    let jobs = row.jobs;
+    let Row {
+        refusal,
+        count,
+        tasks,
+        jobs,
+    } = row;
     Frame {
-        refusal: row.refusal,
-        count: row.count,
+        refusal,
+        count,
         tasks,
         jobs,
         state,
@@ -63,27 +67,22 @@ fn without_carried(row: Row) -> Row
     requires { row.count ≤ 16 }
     ensures { result ≡ row_given (uncarried (entries_said row)) }
 {
-    let tasks = row.tasks;
-    let jobs = row.jobs;
-    let n = row.count;
-    let mut kept_tasks = [0u8; 16];
-    let mut kept_jobs = [0u8; 16];
+    let mut tasks = [0u8; 16];
+    let mut jobs = [0u8; 16];
     let mut count: usize = 0;
-    let mut i: usize = 0;
-    while i < n {
-        let job = jobs[i];
+    for i in 0..row.count {
+        let job = row.jobs[i];
         if !table::job::is_carried(job) {
-            kept_tasks[count] = tasks[i];
-            kept_jobs[count] = job;
+            tasks[count] = row.tasks[i];
+            jobs[count] = job;
             count += 1;
         }
-        i += 1;
     }
     Row {
         refusal: 0,
         count,
-        tasks: kept_tasks,
-        jobs: kept_jobs,
+        tasks,
+        jobs,
     }
 }
 
@@ -92,18 +91,16 @@ fn move_on(height: u16, state: State) -> State
     requires { state.row < height }
     ensures { result ≡ moved height state }
 {
-    let counts = state.counts;
     if height - state.row == 1 {
         return State {
             row: 0,
             first: false,
-            counts,
+            ..state
         };
     }
     State {
         row: state.row + 1,
-        first: state.first,
-        counts,
+        ..state
     }
 }
 
@@ -129,13 +126,7 @@ pub fn next_frame(table: &[u8], state: State) -> Frame
 fn count_overrun(over: bool, count: u16) -> u16
     ensures { result ≡ raised over count }
 {
-    if !over {
-        return count;
-    }
-    if count < 65535 {
-        return count + 1;
-    }
-    count
+    if over { count.saturating_add(1) } else { count }
 }
 
 // The ticks that a task used: more than C are an overrun, and its own count rises. 1 to 6 or 17 where the bytes are no request, 16 where it has no such task.
@@ -158,18 +149,12 @@ pub fn report(request: &[u8], task: u8, ticks: u32, state: State) -> Reported
             state,
         };
     }
-    let tasks = read.tasks;
-    let x = tasks[i];
-    let over = (x.c as u32) < ticks;
+    let over = (read.tasks[i].c as u32) < ticks;
     let mut counts = state.counts;
     counts[i] = count_overrun(over, counts[i]);
     Reported {
         refusal: 0,
         over,
-        state: State {
-            row: state.row,
-            first: state.first,
-            counts,
-        },
+        state: State { counts, ..state },
     }
 }

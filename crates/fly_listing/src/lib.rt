@@ -16,13 +16,11 @@ use table::Sizes;
 fn job_cycle(job: u8, q: u32) -> u32
     ensures { result ≡ cond (carried_in job) (q - 1) q }
 {
-    if !table::job::is_carried(job) {
-        return q;
+    if table::job::is_carried(job) {
+        q.saturating_sub(1)
+    } else {
+        q
     }
-    if q == 0 {
-        return 0;
-    }
-    q - 1
 }
 
 fn put_served(out: &mut [u8], at: usize, task: u8, job: u8, q: u32) -> usize
@@ -37,14 +35,9 @@ fn put_entries(out: &mut [u8], at: usize, frame: Frame, q: u32) -> usize
     requires { frame.count ≤ 16 }
     ensures { filled_to result out.new ≡ put_all_of (filled_to at out.old) (each (served_text q) (entries_of frame)) }
 {
-    let n = frame.count;
-    let tasks = frame.tasks;
-    let jobs = frame.jobs;
     let mut end = at;
-    let mut i: usize = 0;
-    while i < n {
-        end = put_served(out, end, tasks[i], jobs[i], q);
-        i += 1;
+    for i in 0..frame.count {
+        end = put_served(out, end, frame.tasks[i], frame.jobs[i], q);
     }
     end
 }
@@ -70,12 +63,10 @@ fn put_frames(out: &mut [u8], table: &[u8]) -> usize
     let frames = 3 * sizes.height as u32;
     let mut state = dispatcher::fresh();
     let mut end: usize = 0;
-    let mut m: u32 = 0;
-    while m < frames {
+    for m in 0..frames {
         let frame = dispatcher::next_frame(table, state);
         state = frame.state;
         end = put_frame(out, end, m, sizes, frame);
-        m += 1;
     }
     end
 }
@@ -89,6 +80,5 @@ pub fn list(request: &[u8], out: &mut [u8]) -> usize
     if planned.refusal != 0 {
         return plan_listing::refused(planned.refusal, out);
     }
-    let length = planned.length;
-    put_frames(out, &table[..length])
+    put_frames(out, &table[..planned.length])
 }

@@ -1,7 +1,9 @@
--- One turn of the loops over pairs and entries, and each way out of a call, as the definitions have them.
-use Rattle.std.specs.Prelude.{ℕ, ◌+◌, ◌-◌, ◌≤◌, ◌<◌, ◌≡◌, Bool, cond, List, ◌∷◌, get_or, drop}
+-- What is looked for among entries and pairs, and each way out of a call, as the definitions have them.
+use Rattle.std.specs.Prelude.{ℕ, zero, suc, ◌+◌, ◌≤◌, ◌<◌, ◌≡◌, Bool, cond, ◌||◌, List, ◌∷◌, get_or, take, drop}
+use Rattle.std.specs.List.{list_any}
 use Rattle.std.proofs.Math.Path.{refl}
-use Rattle.std.proofs.Common.{ap, ◌∙◌, add-one, arith, drop_of_length-le, drop-cons}
+use Rattle.std.proofs.Common.{sym, ap, ◌∙◌, add-one, arith, drop_of_length-le, drop-cons, length-take-le}
+use Rattle.std.proofs.lemmas.List.{get_or-take, ext_get_or}
 use Rattle.std.proofs.Math.Bool.{true, false}
 use Rattle.std.proofs.Math.ListN.{length}
 use Rattle.std.proofs.Math.Dec.{eqb}
@@ -17,7 +19,7 @@ use Rattle.table.specs.Table.{Table, table, decode}
 use Rattle.model.specs.Plan.{Instance}
 use Rattle.model.specs.Within.{Within}
 use Rattle.model.specs.WithinLaws.{within_limits}
-use Rattle.plan_rules.specs.EveryLaws.{some_from, some_here, some_next, some_none}
+use Rattle.plan_rules.specs.EveryLaws.{some_from}
 use Rattle.checker.specs.Checked.{Verdict, accepted, refusal, verdict_number, checked, check_number}
 use Rattle.checker.specs.Answers.{read_answer}
 use Rattle.checker.specs.ReadLaws.{answer_number, answer_cycle}
@@ -26,53 +28,54 @@ use Rattle.checker.specs.Verdicts.{plan_read_lem, refusal_number}
 use Rattle.dispatcher.specs.Dispatch.{next_frame}
 use Rattle.dispatcher.specs.FrameLaws.{frame_few}
 use Rattle.dispatcher.specs.declared.Frame.{Frame}
-use Rattle.heater_link.specs.Exchange.{refused_exchange, served_in, exchanged_in, is_pair, pairs_in, exchange}
+use Rattle.heater_link.specs.Exchange.{serves, refused_exchange, served_in, exchanged_in, is_pair, pairs_in, exchange}
 use Rattle.heater_link.specs.declared.Link.{Link}
 use Rattle.heater_link.specs.declared.Losses.{Losses}
 use Rattle.heater_link.specs.declared.Exchange.{Exchange}
 
--- The entries: those from place i on are left
+-- The entries and the pairs, as a slice of the first ones shows them
 
-module _ (task : ℕ) (tasks : List ℕ) where
-  abbrev pub serves_from : ℕ → ℕ → Bool
-  serves_from = some_from (λ p. eqb (get_or tasks p 0) task)
+served_among_from : (task : ℕ) (tasks : List ℕ) (n i : ℕ) → i + n ≤ length tasks
+    → list_any (λ t. eqb t task) (take n (drop i tasks)) ≡ some_from (λ p. eqb (get_or tasks p 0) task) n i
+served_among_from task tasks zero i h = refl
+served_among_from task tasks (suc n) i h =
+    let test : ℕ → Bool = λ p. eqb (get_or tasks p 0) task in
+    let later = ap (λ (j : ℕ). list_any (λ t. eqb t task) (take n (drop j tasks))) (sym (add-one i)) ∙ served_among_from task tasks n (i + 1) (omega arith) in
+    rw (drop-cons tasks i 0 (omega arith))
+    (elim (test i) as (λ t. (t || list_any (λ t. eqb t task) (take n (drop (suc i) tasks))) ≡ cond t true (some_from test n (i + 1))) [ true ↦ refl | false ↦ later ])
 
-  module _ (n i : ℕ) where
-    pub served_here : i < n → get_or tasks i 0 ≡ task → true ≡ serves_from (n - i) i
-    served_here h e = some_here (λ p. eqb (get_or tasks p 0) task) n i h (eq-eqb (get_or tasks i 0) task e)
+pub served_among : (task : ℕ) (tasks : List ℕ) (n : ℕ) → n ≤ length tasks → list_any (λ t. eqb t task) (take n tasks) ≡ serves task tasks n
+served_among task tasks n h = served_among_from task tasks n 0 (omega arith)
 
-    pub served_later : i < n → (get_or tasks i 0 ≡ task → ⊥) → serves_from (n - (i + 1)) (i + 1) ≡ serves_from (n - i) i
-    served_later h ne = some_next (λ p. eqb (get_or tasks p 0) task) n i h (ne_eqb (get_or tasks i 0) task ne)
+-- the pairs: those from place u on are left
+abbrev pub pairs_left : ℕ → ℕ → List Pair → ℕ → Bool
+pairs_left a b pairs u = is_pair a b (drop u pairs)
 
-    pub not_served : n ≤ i → false ≡ serves_from (n - i) i
-    not_served h = some_none (λ p. eqb (get_or tasks p 0) task) n i h
+module _ (a b : ℕ) (pairs : List Pair) (u : ℕ) where
+  next : u < length pairs → drop u pairs ≡ get_or pairs u no_pair ∷ drop (u + 1) pairs
+  next h = rw (add-one u, drop-cons pairs u no_pair h)
 
--- The pairs: those from place u on are left
-
-abbrev pub pairs_left : ℕ → ℕ → List Pair → ℕ → ℕ → Bool
-pairs_left a b pairs m u = is_pair a b (drop u (firsts m no_pair pairs))
-
-module _ (a b : ℕ) (pairs : List Pair) (m u : ℕ) where
-  next : u < m → drop u (firsts m no_pair pairs) ≡ get_or pairs u no_pair ∷ drop (u + 1) (firsts m no_pair pairs)
-  next h = rw (add-one u, drop-cons (firsts m no_pair pairs) u no_pair (omega (arith, firsts_length no_pair pairs m)), get_or_firsts no_pair pairs m u h)
-
-  pub pair_here : u < m → (get_or pairs u no_pair).a ≡ a → (get_or pairs u no_pair).b ≡ b → true ≡ pairs_left a b pairs m u
+  pub pair_here : u < length pairs → (get_or pairs u no_pair).a ≡ a → (get_or pairs u no_pair).b ≡ b → true ≡ pairs_left a b pairs u
   unfolding is_pair
   pair_here h e q = rw (next h, eq-eqb _ a e, eq-eqb _ b q)
 
-  pub other_first : u < m → ((get_or pairs u no_pair).a ≡ a → ⊥) → pairs_left a b pairs m (u + 1) ≡ pairs_left a b pairs m u
+  pub other_first : u < length pairs → ((get_or pairs u no_pair).a ≡ a → ⊥) → pairs_left a b pairs (u + 1) ≡ pairs_left a b pairs u
   unfolding is_pair
   other_first h ne = rw (next h, ne_eqb _ a ne)
 
-  pub other_second : u < m → (get_or pairs u no_pair).a ≡ a → ((get_or pairs u no_pair).b ≡ b → ⊥) → pairs_left a b pairs m (u + 1) ≡ pairs_left a b pairs m u
+  pub other_second : u < length pairs → (get_or pairs u no_pair).a ≡ a → ((get_or pairs u no_pair).b ≡ b → ⊥) → pairs_left a b pairs (u + 1) ≡ pairs_left a b pairs u
   unfolding is_pair
   other_second h e ne = rw (next h, eq-eqb _ a e, ne_eqb _ b ne)
 
-  pub no_pair_lem : m ≤ u → false ≡ pairs_left a b pairs m u
+  pub no_pair_lem : length pairs ≤ u → false ≡ pairs_left a b pairs u
   unfolding is_pair
-  no_pair_lem h =
-      let all : length (firsts m no_pair pairs) ≤ u = omega (arith, firsts_length no_pair pairs m) in
-      rw (drop_of_length-le (firsts m no_pair pairs) all)
+  no_pair_lem h = rw (drop_of_length-le pairs h)
+
+pub pairs_taken : (pairs : List Pair) (m : ℕ) → m ≤ length pairs → take m pairs ≡ firsts m no_pair pairs
+pairs_taken pairs m h =
+    let as_many : length (take m pairs) ≡ m = length-take-le m pairs h in
+    ext_get_or no_pair (take m pairs) (firsts m no_pair pairs) (as_many ∙ sym (firsts_length no_pair pairs m))
+    (λ i l. let below : i < m = omega (arith, as_many) in get_or-take m pairs i no_pair below ∙ sym (get_or_firsts no_pair pairs m i below))
 
 -- The whole call
 

@@ -2,10 +2,8 @@
 // The heater link: a command goes out with each served entry of task a, a reply with each of task b, and either may be lost. It stands above the dispatcher
 // and the check, and knows only their promises.
 ghost use Rattle.std.specs.Prelude.{◌≡◌, not, cond, ◌&&◌, ◌≤◌};
-ghost use Rattle.cursor.specs.Padded.{firsts};
-ghost use Rattle.request.specs.Request.{no_pair};
 ghost use Rattle.heater_link.specs.Machine.{differ};
-ghost use Rattle.heater_link.specs.Exchange.{fresh_link, serves, arrives, refused_exchange, exchanged, exchanged_in, is_pair, exchange};
+ghost use Rattle.heater_link.specs.Exchange.{fresh_link, arrives, refused_exchange, exchanged, exchanged_in, is_pair, exchange};
 
 use dispatcher::{Frame, State};
 use request::Pair;
@@ -42,9 +40,8 @@ pub struct Exchange {
 pub fn fresh() -> Link
     ensures { result ≡ fresh_link }
 {
-    let state = dispatcher::fresh();
     Link {
-        state,
+        state: dispatcher::fresh(),
         master: false,
         obeyed: true,
     }
@@ -64,35 +61,14 @@ fn refused(number: u8, link: Link) -> Exchange
     }
 }
 
-// Whether a, b is one of the first m pairs.
-fn is_pair(pairs: [Pair; 16], m: usize, a: u8, b: u8) -> bool
-    requires { m ≤ 16 }
-    ensures { result ≡ is_pair a b (firsts m no_pair pairs) }
+// Whether a, b is one of the pairs.
+fn is_pair(pairs: &[Pair], a: u8, b: u8) -> bool
+    ensures { result ≡ is_pair a b pairs.now }
 {
-    let mut u: usize = 0;
-    while u < m {
-        let pair = pairs[u];
-        if pair.a == a {
-            if pair.b == b {
-                return true;
-            }
-        }
-        u += 1;
-    }
-    false
-}
-
-// Whether one of the first `count` entries is the task's.
-fn serves(tasks: [u8; 16], count: usize, task: u8) -> bool
-    requires { count ≤ 16 }
-    ensures { result ≡ serves task tasks count }
-{
-    let mut i: usize = 0;
-    while i < count {
-        if tasks[i] == task {
+    for pair in pairs {
+        if pair.a == a && pair.b == b {
             return true;
         }
-        i += 1;
     }
     false
 }
@@ -101,24 +77,14 @@ fn serves(tasks: [u8; 16], count: usize, task: u8) -> bool
 fn arrives(served: bool, lost: bool) -> bool
     ensures { result ≡ arrives served lost }
 {
-    if served { !lost } else { false }
-}
-
-fn differ(x: bool, y: bool) -> bool
-    ensures { result ≡ differ x y }
-{
-    if x { !y } else { y }
+    served && !lost
 }
 
 // The board toggles if a bit arrives that differs from the one that it obeyed last.
 fn board_toggles(command: bool, master: bool, obeyed: bool) -> bool
     ensures { result ≡ command && differ master obeyed }
 {
-    if command {
-        differ(master, obeyed)
-    } else {
-        false
-    }
+    command && master != obeyed
 }
 
 // The bit that the board obeyed last, after a command that arrived or did not.
@@ -132,7 +98,7 @@ fn board_obeys(command: bool, master: bool, obeyed: bool) -> bool
 fn answers(reply: bool, shown: bool, master: bool) -> bool
     ensures { result ≡ reply && not (differ shown master) }
 {
-    if reply { !differ(shown, master) } else { false }
+    reply && shown == master
 }
 
 // A frame was served, and in it a command and a reply arrived, or did not. The command goes before the reply.
@@ -142,13 +108,17 @@ fn exchanged(command: bool, reply: bool, frame: Frame, link: Link) -> Exchange
     let toggled = board_toggles(command, link.master, link.obeyed);
     let obeyed = board_obeys(command, link.master, link.obeyed);
     let answered = answers(reply, obeyed, link.master);
-    let master = differ(answered, link.master);
-    let state = frame.state;
-    let tasks = frame.tasks;
-    let jobs = frame.jobs;
+    let master = answered != link.master;
+    let Frame {
+        count,
+        tasks,
+        jobs,
+        state,
+        ..
+    } = frame;
     Exchange {
         refusal: 0,
-        count: frame.count,
+        count,
         tasks,
         jobs,
         toggled,
@@ -169,10 +139,9 @@ fn in_frame(frame: Frame, a: u8, b: u8, lost: Losses, link: Link) -> Exchange
     if frame.refusal != 0 {
         return refused(frame.refusal, link);
     }
-    let tasks = frame.tasks;
-    let count = frame.count;
-    let command = arrives(serves(tasks, count, a), lost.command);
-    let reply = arrives(serves(tasks, count, b), lost.reply);
+    let served = &frame.tasks[..frame.count];
+    let command = arrives(served.contains(&a), lost.command);
+    let reply = arrives(served.contains(&b), lost.reply);
     exchanged(command, reply, frame, link)
 }
 
@@ -185,8 +154,7 @@ pub fn serve(request: &[u8], table: &[u8], a: u8, b: u8, lost: Losses, link: Lin
         return refused(read.refusal, link);
     }
     let cycle = read.cycle;
-    let pairs = cycle.pairs;
-    if !is_pair(pairs, cycle.m, a, b) {
+    if !is_pair(&cycle.pairs[..cycle.m], a, b) {
         return refused(30, link);
     }
     let frame = dispatcher::next_frame(table, link.state);

@@ -1,4 +1,4 @@
--- Words stored into lent bytes, and read from them, one behind the other; and zeros stored.
+-- Words stored into lent bytes, and read from them, one behind the other.
 use Rattle.std.specs.Prelude.{ℕ, zero, suc, ◌+◌, ◌*◌, ◌-◌, ◌≤◌, ◌<◌, ◌≡◌, refl, get_or, set, take}
 use Rattle.std.proofs.Math.Path.{ap}
 use Rattle.std.proofs.Common.{◌∙◌, arith, take_at, drop_at, drop-drop}
@@ -102,23 +102,3 @@ module _ (bytes : List ℕ) (at n : ℕ) where
         let few : length (zeros n) ≤ length (words_from bytes at n 0) = omega (arith, words_count bytes at n 0, as_many) in
         let none : drop (length (words_from bytes at n 0)) (zeros n) ≡ [] = drop_of_length-le (zeros n) few in
         done.whole ∙ rw (none, append-nil)
-
--- n zeros: i are stored
-
-module _ (n : ℕ) (old : List ℕ) where
-  pub cleared_start : n ≤ length old → PartWay (zeros n) old old (zeros (n - 0)) 0
-  cleared_start h =
-      let none_yet : n - 0 ≡ n = omega arith in
-      rw none_yet (part_start [] (zeros n) old 0 refl (rw (length-replicate {A = ℕ} n 0) h))
-
-  module _ (out : List ℕ) (i : ℕ) (so : PartWay (zeros n) old out (zeros (n - i)) i) where
-    pub cleared_room : i < n → i < length out
-    cleared_room h = let left : length (zeros (n - i)) ≡ n - i = length-replicate {A = ℕ} (n - i) 0 in omega (arith, so.room, so.long)
-
-    pub cleared_more : i < n → PartWay (zeros n) old (set out i 0) (zeros (n - (i + 1))) (i + 1)
-    cleared_more h = one_more (zeros n) old out (zeros (n - i)) i so 0 (zeros (n - (i + 1))) (rw (less_one n i h))
-
-    pub cleared_end : n ≤ i → out ≡ zeros n ++ drop n old
-    cleared_end h =
-        let done = part_end (zeros n) old out (zeros (n - i)) i so (rw (none_left n i h)) in
-        done.whole ∙ ap (λ (k : ℕ). zeros n ++ drop k old) (length-replicate {A = ℕ} n 0)

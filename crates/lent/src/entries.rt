@@ -7,12 +7,8 @@ pub fn write_pairs(entries: &mut [u8], tasks: [u8; 16], jobs: [u8; 16])
     requires { 32 ≤ length entries.old }
     ensures { entries.new ≡ entry_bytes tasks jobs 16 0 ++ drop 32 entries.old }
 {
-    let mut at: usize = 0;
-    let mut i: usize = 0;
-    while i < 16 {
-        entries[at] = tasks[i];
-        entries[at + 1] = jobs[i];
-        at += 2;
-        i += 1;
+    for i in 0..16 {
+        entries[2 * i] = tasks[i];
+        entries[2 * i + 1] = jobs[i];
     }
 }

@@ -8,7 +8,7 @@ use heater_link::Link;
 fn two_bits(x: u8, y: u8) -> bool
     ensures { result ≡ ltb x 2 && ltb y 2 }
 {
-    if x < 2 { y < 2 } else { false }
+    x < 2 && y < 2
 }
 
 // 72 bytes or more, a state in front, and bytes 64 to 67 each 0 or 1.

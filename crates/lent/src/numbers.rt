@@ -9,13 +9,7 @@ pub fn write_number(out: &mut [u8], number: u64)
     requires { 8 ≤ length out.old }
     ensures { out.new ≡ low_first 8 number ++ drop 8 out.old }
 {
-    let mut rest = number;
-    let mut i: usize = 0;
-    while i < 8 {
-        out[i] = (rest % 256) as u8;
-        rest = rest / 256;
-        i += 1;
-    }
+    out[..8].copy_from_slice(&number.to_le_bytes());
 }
 
 // The first 8 bytes get the four counts; those behind them are left alone.

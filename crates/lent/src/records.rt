@@ -23,13 +23,7 @@ pub fn write_records(out: &mut [u8], known: JobsKnown)
     requires { (known.count ≤ 128) × (8 * known.count ≤ length out.old) }
     ensures { out.new ≡ flat_map record_bytes (records_known known) ++ drop (8 * known.count) out.old }
 {
-    let n = known.count;
-    let mut at: usize = 0;
-    let mut y: usize = 0;
-    while y < n {
-        let job = job_records::record_at(known, y);
-        write_record(&mut out[at..], job);
-        at += 8;
-        y += 1;
+    for y in 0..known.count {
+        write_record(&mut out[8 * y..], job_records::record_at(known, y));
     }
 }

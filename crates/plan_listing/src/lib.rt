@@ -26,6 +26,5 @@ pub fn plan(request: &[u8], out: &mut [u8]) -> usize
     if planned.refusal != 0 {
         return refused(planned.refusal, out);
     }
-    let length = planned.length;
-    rows::put_table(out, request, &table[..length])
+    rows::put_table(out, request, &table[..planned.length])
 }

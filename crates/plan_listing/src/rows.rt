@@ -27,14 +27,9 @@ fn put_entries(out: &mut [u8], at: usize, row: Row) -> usize
     requires { row.count ≤ 16 }
     ensures { filled_to result out.new ≡ put_all_of (filled_to at out.old) (each entry_text (entries_said row)) }
 {
-    let n = row.count;
-    let tasks = row.tasks;
-    let jobs = row.jobs;
     let mut end = at;
-    let mut i: usize = 0;
-    while i < n {
-        end = put_entry(out, end, tasks[i], jobs[i]);
-        i += 1;
+    for i in 0..row.count {
+        end = put_entry(out, end, row.tasks[i], row.jobs[i]);
     }
     end
 }
@@ -44,13 +39,9 @@ fn busy(row: Row, tasks: [Task; 16]) -> u32
     requires { (row.count ≤ 16) × (length tasks ≡ 16) }
     ensures { result ≡ busy_ticks tasks (entries_said row) }
 {
-    let n = row.count;
-    let entries = row.tasks;
     let mut sum: u32 = 0;
-    let mut i: usize = 0;
-    while i < n {
-        sum += cost(tasks, entries[i]) as u32;
-        i += 1;
+    for &entry in &row.tasks[..row.count] {
+        sum += cost(tasks, entry) as u32;
     }
     sum
 }
@@ -72,12 +63,10 @@ fn put_rows(out: &mut [u8], at: usize, table: &[u8], height: u16, tasks: [Task; 
 {
     let mut end = at;
     let mut here = table::read::first_row();
-    let mut k: u16 = 0;
-    while k < height {
+    for k in 0..height {
         let taken = table::read::next_row(table, here);
         here = taken.next;
         end = put_row(out, end, k, taken.row, tasks);
-        k += 1;
     }
     end
 }

@@ -10,8 +10,7 @@ pub fn cost(tasks: [Task; 16], task: u8) -> u16
 {
     let i = task as usize;
     if i < 16 {
-        let x = tasks[i];
-        return x.c;
+        return tasks[i].c;
     }
     0
 }

@@ -19,10 +19,8 @@ pub fn put_all(out: &mut [u8], at: usize, text: &[u8]) -> usize
     ensures { filled_to result out.new ≡ put_all_of (filled_to at out.old) text.now }
 {
     let mut end = at;
-    let mut i: usize = 0;
-    while i < text.len() {
-        end = put(out, end, text[i]);
-        i += 1;
+    for &b in text {
+        end = put(out, end, b);
     }
     end
 }

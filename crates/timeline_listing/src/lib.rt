@@ -35,12 +35,9 @@ fn put_records(out: &mut [u8], at: usize, known: JobsKnown) -> usize
     requires { known.count ≤ 128 }
     ensures { filled_to result out.new ≡ put_all_of (filled_to at out.old) (record_lines (records_known known)) }
 {
-    let n = known.count;
     let mut end = at;
-    let mut y: usize = 0;
-    while y < n {
+    for y in 0..known.count {
         end = put_record(out, end, job_records::record_at(known, y));
-        y += 1;
     }
     end
 }
@@ -50,13 +47,9 @@ fn busy(known: JobsKnown, tasks: [Task; 16]) -> u32
     requires { (known.count ≤ 128) × (length tasks ≡ 16) }
     ensures { result ≡ busy_of tasks (records_known known) }
 {
-    let n = known.count;
     let mut sum: u32 = 0;
-    let mut y: usize = 0;
-    while y < n {
-        let job = job_records::record_at(known, y);
+    for job in &known.jobs[..known.count] {
         sum += plan_listing::ticks::cost(tasks, job.task) as u32;
-        y += 1;
     }
     sum
 }
@@ -90,6 +83,5 @@ pub fn list(request: &[u8], out: &mut [u8]) -> usize
     if planned.refusal != 0 {
         return plan_listing::refused(planned.refusal, out);
     }
-    let length = planned.length;
-    put_timeline(out, request, &table[..length])
+    put_timeline(out, request, &table[..planned.length])
 }

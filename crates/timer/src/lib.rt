@@ -1,10 +1,10 @@
 #![tactic(auto)]
 // The bus timer: the dispatcher shown as eight registers. It stands above the dispatcher.
-ghost use Rattle.std.specs.Prelude.{◌≡◌, ◌≤◌, ◌<◌, ◌||◌, not, ◌&&◌};
+ghost use Rattle.std.specs.Prelude.{◌≡◌, ◌<◌};
 ghost use Rattle.request.specs.Request.{reading};
 ghost use Rattle.table.specs.Table.{decode};
 ghost use Rattle.timer.specs.Registers.{is_set, fresh_timer, control_byte, status_byte, sum_of, sum_shown, register_read};
-ghost use Rattle.timer.specs.Registers.{control_of, status_of, cleared_by, with_control, with_status, after_write, due_or_missed, after_event};
+ghost use Rattle.timer.specs.Registers.{control_of, status_of, cleared_by, after_write, due_or_missed, after_event};
 ghost use Rattle.timer.specs.Registers.{served_once, none_served, serving, marked, reporting, line_on};
 
 use dispatcher::{Frame, State};
@@ -80,21 +80,13 @@ pub fn status_byte(status: Status) -> u8
     (status.due as u8) + 2 * (status.overrun as u8) + 4 * (status.missed as u8)
 }
 
-fn wide(count: u16) -> u32
-    ensures { (result ≡ count) × (result ≤ 65535) }
-{
-    count as u32
-}
-
 // The sum of 16 counts needs more than 16 bits.
 fn sum_of(counts: [u16; 16]) -> u32
     ensures { result ≡ sum_of counts }
 {
     let mut sum: u32 = 0;
-    let mut i: usize = 0;
-    while i < 16 {
-        sum += wide(counts[i]);
-        i += 1;
+    for count in counts {
+        sum += u32::from(count);
     }
     sum
 }
@@ -103,8 +95,7 @@ fn sum_of(counts: [u16; 16]) -> u32
 fn sum_shown(counts: [u16; 16]) -> u16
     ensures { result ≡ sum_shown counts }
 {
-    let sum = sum_of(counts);
-    if sum < 65535 { sum as u16 } else { 65535 }
+    sum_of(counts).min(65535) as u16
 }
 
 // The byte at an address: 29 where it is above 7.
@@ -118,14 +109,13 @@ pub fn read(address: u8, timer: Timer) -> RegisterRead
         };
     }
     let state = timer.state;
-    let counts = state.counts;
     let value = match address {
         0 => control_byte(timer.control),
         1 => status_byte(timer.status),
         2 => (state.row % 256) as u8,
         3 => (state.row / 256) as u8,
-        4 => (sum_shown(counts) % 256) as u8,
-        5 => (sum_shown(counts) / 256) as u8,
+        4 => (sum_shown(state.counts) % 256) as u8,
+        5 => (sum_shown(state.counts) / 256) as u8,
         _ => 0,
     };
     RegisterRead { refusal: 0, value }
@@ -137,19 +127,6 @@ fn is_set(weight: u8, byte: u8) -> bool
     ensures { result ≡ is_set weight byte }
 {
     byte / weight % 2 == 1
-}
-
-fn either(a: bool, b: bool) -> bool
-    ensures { result ≡ a || b }
-{
-    a || b
-}
-
-// A bit that is set stays so unless it is cleared.
-fn kept(set: bool, cleared: bool) -> bool
-    ensures { result ≡ set && not cleared }
-{
-    set && !cleared
 }
 
 // The bits of a byte as control; unnamed bits are dropped.
@@ -178,33 +155,9 @@ fn cleared_by(value: u8, status: Status) -> Status
     ensures { result ≡ cleared_by value status }
 {
     Status {
-        due: status.due,
-        overrun: kept(status.overrun, is_set(2, value)),
-        missed: kept(status.missed, is_set(4, value)),
-    }
-}
-
-fn with_control(control: Control, timer: Timer) -> Timer
-    ensures { result ≡ with_control control timer }
-{
-    let state = timer.state;
-    let status = timer.status;
-    Timer {
-        state,
-        control,
-        status,
-    }
-}
-
-fn with_status(status: Status, timer: Timer) -> Timer
-    ensures { result ≡ with_status status timer }
-{
-    let state = timer.state;
-    let control = timer.control;
-    Timer {
-        state,
-        control,
-        status,
+        overrun: status.overrun && !is_set(2, value),
+        missed: status.missed && !is_set(4, value),
+        ..status
     }
 }
 
@@ -219,14 +172,14 @@ pub fn write(address: u8, value: u8, timer: Timer) -> Changed
         let control = control_of(value);
         return Changed {
             refusal: 0,
-            timer: with_control(control, timer),
+            timer: Timer { control, ..timer },
         };
     }
     if address == 1 {
         let status = cleared_by(value, timer.status);
         return Changed {
             refusal: 0,
-            timer: with_status(status, timer),
+            timer: Timer { status, ..timer },
         };
     }
     Changed { refusal: 0, timer }
@@ -238,8 +191,8 @@ fn due_or_missed(status: Status) -> Status
 {
     Status {
         due: true,
-        overrun: status.overrun,
-        missed: either(status.due, status.missed),
+        missed: status.due || status.missed,
+        ..status
     }
 }
 
@@ -247,12 +200,13 @@ fn due_or_missed(status: Status) -> Status
 pub fn event(timer: Timer) -> Timer
     ensures { result ≡ after_event timer }
 {
-    let control = timer.control;
-    if !control.run {
+    if !timer.control.run {
         return timer;
     }
-    let status = due_or_missed(timer.status);
-    with_status(status, timer)
+    Timer {
+        status: due_or_missed(timer.status),
+        ..timer
+    }
 }
 
 // No frame is due: no entries, and nothing changes.
@@ -272,11 +226,16 @@ fn none_served(timer: Timer) -> FrameServed
 fn frame_served(frame: Frame, timer: Timer) -> FrameServed
     ensures { result ≡ record { refusal = frame.refusal; count = frame.count; tasks = frame.tasks; jobs = frame.jobs; timer = timer } }
 {
-    let tasks = frame.tasks;
-    let jobs = frame.jobs;
+    let Frame {
+        refusal,
+        count,
+        tasks,
+        jobs,
+        ..
+    } = frame;
     FrameServed {
-        refusal: frame.refusal,
-        count: frame.count,
+        refusal,
+        count,
         tasks,
         jobs,
         timer,
@@ -287,16 +246,14 @@ fn frame_served(frame: Frame, timer: Timer) -> FrameServed
 fn served_once(state: State, timer: Timer) -> Timer
     ensures { result ≡ served_once state timer }
 {
-    let control = timer.control;
-    let status = timer.status;
+    let status = Status {
+        due: false,
+        ..timer.status
+    };
     Timer {
         state,
-        control,
-        status: Status {
-            due: false,
-            overrun: status.overrun,
-            missed: status.missed,
-        },
+        status,
+        ..timer
     }
 }
 
@@ -304,8 +261,7 @@ fn served_once(state: State, timer: Timer) -> Timer
 pub fn serve(table: &[u8], timer: Timer) -> FrameServed
     ensures { result ≡ serving (decode table.now) timer }
 {
-    let status = timer.status;
-    if !status.due {
+    if !timer.status.due {
         return none_served(timer);
     }
     let frame = dispatcher::next_frame(table, timer.state);
@@ -321,9 +277,8 @@ fn marked_if(over: bool, status: Status) -> Status
     ensures { result ≡ marked over status }
 {
     Status {
-        due: status.due,
-        overrun: either(over, status.overrun),
-        missed: status.missed,
+        overrun: over || status.overrun,
+        ..status
     }
 }
 
@@ -333,14 +288,13 @@ pub fn report(request: &[u8], task: u8, ticks: u32, timer: Timer) -> Changed
 {
     let reported = dispatcher::report(request, task, ticks, timer.state);
     let state = reported.state;
-    let control = timer.control;
     let status = marked_if(reported.over, timer.status);
     Changed {
         refusal: reported.refusal,
         timer: Timer {
             state,
-            control,
             status,
+            ..timer
         },
     }
 }
@@ -349,8 +303,6 @@ pub fn report(request: &[u8], task: u8, ticks: u32, timer: Timer) -> Changed
 pub fn line(timer: Timer) -> bool
     ensures { result ≡ line_on timer }
 {
-    let control = timer.control;
     let status = timer.status;
-    let set = either(status.due, either(status.overrun, status.missed));
-    control.enable && set
+    timer.control.enable && (status.due || status.overrun || status.missed)
 }

@@ -1,22 +1,13 @@
--- The ways out are the cases of the definition's two tests.
-use Rattle.std.proofs.Common.{◌≤◌, ◌<◌, arith, lt-ltb, le-ltb}
+-- Each way out is one case of the definition's tests; a count is at most 65,535.
+use Rattle.std.proofs.Common.{arith}
+use Rattle.dispatcher.specs.StepLaws.{raised_lem}
 use Rattle.dispatcher.specs.Dispatch.{raised}
 use Rattle.dispatcher.proofs.count_overrun.Goals as goal
 
-pub returns-then-not-over : goal.returns-then-not-over
+pub returns-then-over : goal.returns-then-over
 unfolding raised
-returns-then-not-over c = rw c.if-not-over.true
+returns-then-over c = rw c.if-over.true (omega (arith, raised_lem c.args.count (omega arith)))
 
-pub returns-then-count-lt65535 : goal.returns-then-count-lt65535
+pub returns-else-over : goal.returns-else-over
 unfolding raised
-returns-then-count-lt65535 c =
-    let s = c.args in
-    let below : s.count < 65535 = omega (arith, c.if-count-lt65535.true) in
-    rw (c.if-not-over.false, lt-ltb s.count 65535 below)
-
-pub returns : goal.returns
-unfolding raised
-returns c =
-    let s = c.args in
-    let full : 65535 ≤ s.count = omega (arith, c.if-count-lt65535.false) in
-    rw (c.if-not-over.false, le-ltb s.count 65535 full)
+returns-else-over c = rw c.if-over.false

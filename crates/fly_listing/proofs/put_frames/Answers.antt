@@ -14,7 +14,6 @@ loop-m-init c =
     let sizes = c.sizes-sizes in
     let s = c.args in
     let z = sizes_read s.table.now sizes.result sizes.ensures in (
-      omega arith,
       ap (λ n. 3 * n) z.height_is,
       refl,
       λ some. c.fresh-state.ensures ∙ fresh_at (height (table_in (decode s.table.now))) some,
@@ -33,7 +32,7 @@ put_frame-end-requires c =
     let frame = c.next_frame-frame in (
       omega (arith, more, z.height_is, z.few),
       omega (arith, some, z.height_is),
-      (frame_read s.table.now c.loop-m.m c.loop-m.state frame.result frame.ensures (c.loop-m.invariant.3 some) some).few,
+      (frame_read s.table.now c.loop-m.m c.loop-m.state frame.result frame.ensures (c.loop-m.invariant.2 some) some).few,
     )
 
 pub loop-m-preserved : goal.loop-m-preserved
@@ -45,13 +44,12 @@ loop-m-preserved c =
     let z = sizes_read s.table.now sizes.result sizes.ensures in
     let some : 0 < height t = omega (arith, more, z.height_is) in
     let frame = c.next_frame-frame in
-    let read = frame_read s.table.now c.loop-m.m c.loop-m.state frame.result frame.ensures (c.loop-m.invariant.3 some) some in (
-      omega (arith, more),
-      c.loop-m.invariant.1,
-      c.put_frame-end.auto.out ∙ c.loop-m.invariant.2,
+    let read = frame_read s.table.now c.loop-m.m c.loop-m.state frame.result frame.ensures (c.loop-m.invariant.2 some) some in (
+      c.loop-m.invariant.0,
+      c.put_frame-end.auto.out ∙ c.loop-m.invariant.1,
       λ some. read.state,
       rw (c.put_frame-end.ensures, z.f_is, z.height_is, read.entries)
-          (frames_turn t (3 * height t) c.loop-m.m _ (omega (arith, more, z.height_is))) ∙ c.loop-m.invariant.4,
+          (frames_turn t (3 * height t) c.loop-m.m _ (omega (arith, more, z.height_is))) ∙ c.loop-m.invariant.3,
     )
 
 pub returns : goal.returns
@@ -59,4 +57,4 @@ returns c =
     let l = c.loop-m in
     let s = c.args in
     let t = table_in (decode s.table.now) in
-    sym (frames_end t (3 * height t) l.m _ (omega (arith, c.loop-m-test.false, l.invariant.1))) ∙ l.invariant.4
+    sym (frames_end t (3 * height t) l.m _ (omega (arith, c.loop-m-test.false, l.invariant.0))) ∙ l.invariant.3

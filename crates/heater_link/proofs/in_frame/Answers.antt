@@ -1,7 +1,7 @@
 -- What is served arrives unless it is lost; the rest is what `exchanged` ensures.
-use Rattle.std.proofs.Common.{◌≡◌, ◌∙◌}
-use Rattle.heater_link.specs.Exchange.{arrives}
-use Rattle.heater_link.specs.StepLaws.{frame_refused, frame_exchanged}
+use Rattle.std.proofs.Common.{◌≡◌, ◌∙◌, ap, arith, Bool}
+use Rattle.heater_link.specs.Exchange.{serves, arrives}
+use Rattle.heater_link.specs.StepLaws.{served_among, frame_refused, frame_exchanged}
 use Rattle.heater_link.proofs.in_frame.Goals as goal
 
 pub returns-then-frame-ne0 : goal.returns-then-frame-ne0
@@ -12,8 +12,8 @@ returns-then-frame-ne0 c =
 pub returns : goal.returns
 returns c =
     let a = c.args in
-    let command : c.arrives-command.result ≡ arrives c.serves.result a.lost.command = c.arrives-command.ensures in
-    let reply : c.arrives-reply.result ≡ arrives c.serves-2.result a.lost.reply = c.arrives-reply.ensures in
-    c.exchanged.ensures
-    ∙ rw (reply, c.serves-2.ensures, command, c.serves.ensures)
-    (frame_exchanged a.a a.b a.lost a.frame a.link c.if-frame-ne0.false)
+    let command : c.arrives-command.result ≡ arrives (serves a.a a.frame.tasks a.frame.count) a.lost.command =
+    c.arrives-command.ensures ∙ ap (λ (b : Bool). arrives b a.lost.command) (c.contains.ensures.value ∙ served_among a.a a.frame.tasks a.frame.count (omega (arith, c.requires))) in
+    let reply : c.arrives-reply.result ≡ arrives (serves a.b a.frame.tasks a.frame.count) a.lost.reply =
+    c.arrives-reply.ensures ∙ ap (λ (b : Bool). arrives b a.lost.reply) (c.contains-2.ensures.value ∙ served_among a.b a.frame.tasks a.frame.count (omega (arith, c.requires))) in
+    c.exchanged.ensures ∙ rw (reply, command) (frame_exchanged a.a a.b a.lost a.frame a.link c.if-frame-ne0.false)

@@ -1,10 +1,8 @@
 -- The loop keeps that the pairs left decide.
-use Rattle.std.proofs.Common.{◌≤◌, ◌-◌, ◌≡◌}
+use Rattle.std.proofs.Common.{◌≡◌}
+use Rattle.heater_link.specs.Exchange.{is_pair}
 use Rattle.heater_link.specs.StepLaws.{pairs_left}
 use Rattle.heater_link.proofs.is_pair.Given as goal
 
-abbrev pub invariant-loop-u : goal.invariant-loop-u
-invariant-loop-u l = (l.u ≤ l.m) × (l.m ≤ 16) × (pairs_left l.a l.b l.pairs l.m l.u ≡ pairs_left l.a l.b l.pairs l.m 0)
-
-abbrev pub decreases-loop-u : goal.decreases-loop-u
-decreases-loop-u l = l.m - l.u
+abbrev pub invariant-loop-pair : goal.invariant-loop-pair
+invariant-loop-pair l = pairs_left l.a l.b l.pairs l.pair-index ≡ is_pair l.a l.b l.pairs

@@ -1,36 +1,39 @@
 -- The loop keeps that the ticks of the places left, added to the sum, are those of all places. Each place adds at most 65,535: no sum wraps.
-use Rattle.std.proofs.Common.{ap, zero-add, arith, get_or}
+use Rattle.std.proofs.Common.{◌≤◌, ◌<◌, ◌≡◌, zero-add, arith, get_or, length, take, length-take-le}
+use Rattle.std.proofs.lemmas.List.{get_or-take}
 use native.Mathlib.Nat.{sub-zero}
-use Rattle.request.specs.Request.{no_task}
+use Rattle.cycle.specs.Planned.{no_job}
 use Rattle.plan_listing.specs.ListingLaws.{ticks_are}
-use Rattle.job_records.specs.declared.JobRecord.{JobRecord}
 use Rattle.timeline_listing.specs.PutLaws.{busy_turn, busy_end}
 use Rattle.timeline_listing.proofs.busy.Goals as goal
+use Rattle.timeline_listing.proofs.busy.Goals.{Start}
 
-pub loop-y-init : goal.loop-y-init
-loop-y-init c = (omega arith, c.requires.0, omega arith, rw (sub-zero c.args.known.count) (zero-add _))
+as_many : (c : Start) → length (take c.args.known.count c.args.known.jobs) ≡ c.args.known.count
+as_many c = length-take-le c.args.known.count c.args.known.jobs (omega (arith, c.requires.0))
 
-pub loop-y-preserved : goal.loop-y-preserved
-loop-y-preserved c =
+pub loop-job-init : goal.loop-job-init
+loop-job-init c = (omega arith, rw (sub-zero c.args.known.count) (zero-add _))
+
+pub loop-job-preserved : goal.loop-job-preserved
+loop-job-preserved c =
     let s = c.args in
-    let l = c.loop-y in
-    let more = c.loop-y-test.true in
-    let is = ap (λ (r : JobRecord). (get_or s.tasks r.task no_task).c) c.record_at-job.ensures in (
-      omega arith,
-      l.invariant.1,
-      omega (arith, c.cost.type_inv, l.invariant.2),
+    let k = s.known in
+    let y = c.loop-job.job-index in
+    let more : y < k.count = omega (arith, c.loop-job-test.true, as_many (goal.at.loop-job-preserved c).Start) in
+    let ticks = rw (get_or-take k.count k.jobs y no_job more) at c.cost.ensures in (
+      omega (arith, c.cost.type_inv, c.loop-job.invariant.0),
       omega (
         arith,
-        c.cost.ensures,
-        ticks_are s.tasks c.record_at-job.result.task c.requires.1,
-        is,
-        busy_turn s.known s.known.count l.y s.tasks more,
-        l.invariant.3,
+        ticks,
+        ticks_are s.tasks (get_or k.jobs y no_job).task c.requires.1,
+        busy_turn k k.count y s.tasks more,
+        c.loop-job.invariant.1,
       ),
     )
 
 pub returns : goal.returns
 returns c =
     let s = c.args in
-    let l = c.loop-y in
-    omega (arith, busy_end s.known s.known.count l.y s.tasks c.loop-y-test.false, l.invariant.3)
+    let y = c.loop-job.job-index in
+    let last : s.known.count ≤ y = omega (arith, c.loop-job-test.false, as_many (goal.at.returns c).Start) in
+    omega (arith, busy_end s.known s.known.count y s.tasks last, c.loop-job.invariant.1)

@@ -4,10 +4,8 @@ use Rattle.job_records.specs.Timeline.{busy_of}
 use Rattle.job_records.specs.Known.{records_from}
 use Rattle.timeline_listing.proofs.busy.Given as goal
 
-abbrev pub invariant-loop-y : goal.invariant-loop-y
-invariant-loop-y l =
-    (l.y ≤ l.n) × (l.n ≤ 128) × (l.sum ≤ l.y * 65535)
-    × (l.sum + busy_of l.tasks (records_from l.known (l.n - l.y) l.y) ≡ busy_of l.tasks (records_from l.known l.n 0))
-
-abbrev pub decreases-loop-y : goal.decreases-loop-y
-decreases-loop-y l = l.n - l.y
+abbrev pub invariant-loop-job : goal.invariant-loop-job
+invariant-loop-job l =
+    let known = l.fn.known in
+    (l.sum ≤ l.job-index * 65535)
+    × (l.sum + busy_of l.tasks (records_from known (known.count - l.job-index) l.job-index) ≡ busy_of l.tasks (records_from known known.count 0))

@@ -1,17 +1,11 @@
 -- Run clear, and run set.
-use Rattle.std.proofs.Common.{◌≡◌, sym, true, false}
+use Rattle.std.proofs.Common.{sym}
 use Rattle.std.proofs.lemmas.Bool.{not-true, not-false}
 use Rattle.timer.specs.RegisterLaws.{event_ignored, event_heard}
 use Rattle.timer.proofs.event.Goals as goal
 
-pub returns-then-not-control : goal.returns-then-not-control
-returns-then-not-control c =
-    let t = c.args.timer in
-    let run-clear : t.control.run ≡ false = not-true t.control.run c.if-not-control.true in
-    sym (event_ignored t run-clear)
+pub returns-then-not-timer : goal.returns-then-not-timer
+returns-then-not-timer c = sym (event_ignored c.args.timer (not-true _ c.if-not-timer.true))
 
 pub returns : goal.returns
-returns c =
-    let t = c.args.timer in
-    let run-set : t.control.run ≡ true = not-false t.control.run c.if-not-control.false in
-    rw (c.with_status.ensures, c.due_or_missed-status.ensures) (sym (event_heard t run-set))
+returns c = rw c.due_or_missed.ensures (sym (event_heard c.args.timer (not-false _ c.if-not-timer.false)))

@@ -27,6 +27,6 @@ returns-in-5 c = read_at _ _ 5 _ c.in-5.is (omega arith) (rw c.sum_shown-in-5.en
 pub returns-in_default : goal.returns-in_default
 returns-in_default c =
     let a = c.args in
-    let behind : 6 ≤ a.address = omega (arith, c.in_default.in_default-own.rest) in
+    let behind : 6 ≤ a.address = omega arith in
     let within : a.address < 8 = omega (arith, c.if-address-gt7.false) in
     read_free _ a.timer behind within

@@ -3,22 +3,19 @@ use Rattle.std.proofs.Common.{arith}
 use Rattle.timer.specs.RegisterLaws.{sum_is, sum_more, sum_end}
 use Rattle.timer.proofs.sum_of.Goals as goal
 
-pub loop-i-init : goal.loop-i-init
-loop-i-init c = (omega arith, omega arith, omega (arith, sum_is c.args.counts))
+pub loop-count-init : goal.loop-count-init
+loop-count-init c = (omega arith, omega (arith, sum_is c.args.counts))
 
 pub overflow_add-sum : goal.overflow_add-sum
-overflow_add-sum c = omega (arith, c.wide-sum.ensures.1, c.loop-i.invariant.1, c.loop-i-test.true)
+overflow_add-sum c = omega (arith, c.loop-count.invariant.0, c.loop-count-test.true)
 
-pub loop-i-preserved : goal.loop-i-preserved
-loop-i-preserved c =
-    let l = c.loop-i in
-    let more = c.loop-i-test.true in (
-      omega arith,
-      omega (arith, c.wide-sum.ensures.1, l.invariant.1),
-      omega (arith, c.wide-sum.ensures.0, l.invariant.2, sum_more c.args.counts l.i more),
-    )
+pub loop-count-preserved : goal.loop-count-preserved
+loop-count-preserved c =
+    let l = c.loop-count in
+    let more = c.loop-count-test.true in
+    (omega (arith, l.invariant.0), omega (arith, l.invariant.1, sum_more c.args.counts l.count-index more))
 
 pub returns : goal.returns
 returns c =
-    let l = c.loop-i in
-    omega (arith, l.invariant.2, sum_end c.args.counts l.i c.loop-i-test.false)
+    let l = c.loop-count in
+    omega (arith, l.invariant.1, sum_end c.args.counts l.count-index c.loop-count-test.false)

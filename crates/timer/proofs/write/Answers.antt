@@ -9,10 +9,10 @@ returns-then-address-gt7 c =
     sym (write_no_more _ c.args.value _ above)
 
 pub returns-then-address-eq0 : goal.returns-then-address-eq0
-returns-then-address-eq0 c = rw (c.with_control.ensures, c.control_of-control.ensures) (sym (write_control _ _ _ c.if-address-eq0.true))
+returns-then-address-eq0 c = rw c.control_of-control.ensures (sym (write_control _ _ _ c.if-address-eq0.true))
 
 pub returns-then-address-eq1 : goal.returns-then-address-eq1
-returns-then-address-eq1 c = rw (c.with_status.ensures, c.cleared_by-status.ensures) (sym (write_status _ _ _ c.if-address-eq1.true))
+returns-then-address-eq1 c = rw c.cleared_by-status.ensures (sym (write_status _ _ _ c.if-address-eq1.true))
 
 pub returns : goal.returns
 returns c =

@@ -4,4 +4,4 @@ use Rattle.lent.proofs.draft_bytes.read_draft.Goals as goal
 
 pub returns : goal.returns
 unfolding draft_in
-returns c = rw (c.word.ensures, c.read_loads-loads.ensures, c.read_frames-frames.ensures)
+returns c = rw (c.word.ensures, c.words-loads.ensures, c.words-frames.ensures)

@@ -1,16 +1,8 @@
--- The loop keeps that the first i bytes of the number are in their places and those of what is left of it are to come.
-use Rattle.std.proofs.Common.{arith}
-use Rattle.lent.specs.NumberLaws.{count_start, count_room, count_more, count_end}
+-- Byte i of a number is the lowest of what is left of it after i divisions by 256.
+use Rattle.std.proofs.Math.Nat.{div-div-eq-div-mul}
+use Rattle.lent.specs.Numbers.{low_first}
 use Rattle.lent.proofs.numbers.write_number.Goals as goal
 
-pub loop-i-init : goal.loop-i-init
-loop-i-init c = (omega arith, count_start _ _ c.requires)
-
-pub bounds-out-i : goal.bounds-out-i
-bounds-out-i c = let l = c.loop-i in count_room c.args.number _ _ l.rest _ l.invariant.1 c.loop-i-test.true
-
-pub loop-i-preserved : goal.loop-i-preserved
-loop-i-preserved c = let l = c.loop-i in (omega arith, count_more _ _ _ l.rest _ l.invariant.1 c.loop-i-test.true)
-
 pub returns : goal.returns
-returns c = let l = c.loop-i in count_end _ _ _ l.rest _ l.invariant.1 c.loop-i-test.false
+unfolding low_first
+returns c = rw (c.copy_from_slice.ensures.after, c.to_le_bytes.ensures) (simp div-div-eq-div-mul)

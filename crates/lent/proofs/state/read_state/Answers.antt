@@ -4,4 +4,4 @@ use Rattle.lent.proofs.state.read_state.Goals as goal
 
 pub returns : goal.returns
 unfolding state_of
-returns c = rw (c.read_counts-counts.ensures, c.word.ensures)
+returns c = rw (c.words-counts.ensures, c.word.ensures)

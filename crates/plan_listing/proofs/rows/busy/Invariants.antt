@@ -4,10 +4,9 @@ use Rattle.table.specs.AnswerLaws.{entries_at}
 use Rattle.plan_listing.specs.Listing.{busy_ticks}
 use Rattle.plan_listing.proofs.rows.busy.Given as goal
 
-abbrev pub invariant-loop-i : goal.invariant-loop-i
-invariant-loop-i l =
-    (l.i ≤ l.n) × (l.n ≤ 16) × (l.sum ≤ l.i * 65535)
-    × ((jobs : List ℕ) → l.sum + busy_ticks l.tasks (entries_at l.entries jobs (l.n - l.i) l.i) ≡ busy_ticks l.tasks (entries_at l.entries jobs l.n 0))
-
-abbrev pub decreases-loop-i : goal.decreases-loop-i
-decreases-loop-i l = l.n - l.i
+abbrev pub invariant-loop-entry : goal.invariant-loop-entry
+invariant-loop-entry l =
+    let row = l.fn.row in
+    (l.sum ≤ l.entry-index * 65535)
+    × ((jobs : List ℕ) → l.sum + busy_ticks l.tasks (entries_at row.tasks jobs (row.count - l.entry-index) l.entry-index) ≡ busy_ticks l.tasks
+    (entries_at row.tasks jobs row.count 0))

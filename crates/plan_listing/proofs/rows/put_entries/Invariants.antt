@@ -1,5 +1,5 @@
 -- The loop keeps that putting the entries of the places left, behind those put, gives the answer.
-use Rattle.std.proofs.Common.{◌≤◌, ◌-◌, ◌≡◌, length}
+use Rattle.std.proofs.Common.{◌-◌, ◌≡◌, length}
 use Rattle.table.specs.AnswerLaws.{entries_at}
 use Rattle.text.specs.Text.{filled_to, put_all_of}
 use Rattle.plan_listing.specs.Listing.{entry_text, each}
@@ -7,9 +7,7 @@ use Rattle.plan_listing.proofs.rows.put_entries.Given as goal
 
 abbrev pub invariant-loop-i : goal.invariant-loop-i
 invariant-loop-i l =
-    (l.i ≤ l.n) × (l.n ≤ 16) × (length l.out ≡ length l.initial.out)
-    × (put_all_of (filled_to l.end l.out) (each entry_text (entries_at l.tasks l.jobs (l.n - l.i) l.i)) ≡ put_all_of (filled_to l.at l.initial.out)
-    (each entry_text (entries_at l.tasks l.jobs l.n 0)))
-
-abbrev pub decreases-loop-i : goal.decreases-loop-i
-decreases-loop-i l = l.n - l.i
+    let row = l.row in
+    (length l.out ≡ length l.initial.out)
+    × (put_all_of (filled_to l.end l.out) (each entry_text (entries_at row.tasks row.jobs (row.count - l.i) l.i)) ≡ put_all_of
+    (filled_to l.at l.initial.out) (each entry_text (entries_at row.tasks row.jobs row.count 0)))

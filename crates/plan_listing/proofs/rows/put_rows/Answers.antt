@@ -8,7 +8,7 @@ use Rattle.plan_listing.specs.ListingLaws.{rows_turn, rows_end, row_taken}
 use Rattle.plan_listing.proofs.rows.put_rows.Goals as goal
 
 pub loop-k-init : goal.loop-k-init
-loop-k-init c = (omega arith, refl, rw c.first_row-here.ensures (rows_begin _), refl)
+loop-k-init c = (refl, rw c.first_row-here.ensures (rows_begin _), refl)
 
 pub put_row-end-requires : goal.put_row-end-requires
 put_row-end-requires c =
@@ -16,7 +16,7 @@ put_row-end-requires c =
     let taken = c.next_row-taken in
     let bytes : Bytes c.args.table.now = λ i. omega (arith, c.type_inv.table i) in
     let below : l.k < length (table_in (decode c.args.table.now)).rows = omega (arith, c.loop-k-test.true, c.requires.0) in
-    ((row_taken c.args.table.now l.here.at l.k l.invariant.2 bytes taken.result taken.ensures below).0.few, c.requires.1)
+    ((row_taken c.args.table.now l.here.at l.k l.invariant.1 bytes taken.result taken.ensures below).0.few, c.requires.1)
 
 pub loop-k-preserved : goal.loop-k-preserved
 loop-k-preserved c =
@@ -27,11 +27,11 @@ loop-k-preserved c =
     let put = c.put_row-end in
     let rows = (table_in (decode c.args.table.now)).rows in
     let below : l.k < length rows = omega (arith, more, c.requires.0) in
-    let read = row_taken c.args.table.now l.here.at l.k l.invariant.2 bytes taken.result taken.ensures below in
-    (omega (arith, more), put.auto.out ∙ l.invariant.1, read.1, rw (put.ensures, read.0.entries) (rows_turn c.args.tasks rows l.k _ below) ∙ l.invariant.3)
+    let read = row_taken c.args.table.now l.here.at l.k l.invariant.1 bytes taken.result taken.ensures below in
+    (put.auto.out ∙ l.invariant.0, read.1, rw (put.ensures, read.0.entries) (rows_turn c.args.tasks rows l.k _ below) ∙ l.invariant.2)
 
 pub returns : goal.returns
 returns c =
     let l = c.loop-k in
     let rows = (table_in (decode c.args.table.now)).rows in
-    sym (rows_end c.args.tasks rows l.k _ (omega (arith, c.loop-k-test.false, c.requires.0))) ∙ l.invariant.3
+    sym (rows_end c.args.tasks rows l.k _ (omega (arith, c.loop-k-test.false, c.requires.0))) ∙ l.invariant.2
