@@ -4,7 +4,7 @@ pub use Rattle.std.specs.Prelude.{ℕ, ◌+◌, ◌*◌, ◌%◌, ◌^◌, ◌�
 pub use Rattle.std.specs.Int.{◌∣◌}
 -- Request
 pub use Rattle.cursor.specs.Fields.{Bytes}
-pub use Rattle.cursor.specs.declared.Written.{Written}
+pub use Rattle.cursor.specs.Written.{Written}
 pub use Rattle.request.specs.declared.Task.{Task}
 pub use Rattle.request.specs.declared.Pair.{Pair}
 pub use Rattle.request.specs.declared.Request.{Request}
