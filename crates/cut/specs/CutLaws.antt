@@ -12,7 +12,7 @@ use Rattle.request.specs.Answers.{request_answered}
 use Rattle.request.specs.AnswerLaws.{not_read}
 use Rattle.request.specs.declared.Task.{Task}
 use Rattle.request.specs.declared.Pair.{Pair}
-use Rattle.request.specs.declared.Request.{Request}
+use Rattle.request.specs.Numbered.{Request}
 use Rattle.cursor.specs.Written.{written, buffer}
 use Rattle.request.specs.Written.{request_answer, request_buffer}
 use Rattle.request.specs.FileLaws.{refusal_answered, request_answered_lem}

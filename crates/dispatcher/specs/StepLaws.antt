@@ -6,7 +6,7 @@ use Rattle.std.proofs.Math.Seq.{append_snoc}
 use Rattle.request.specs.Request.{reading, no_task}
 use Rattle.request.specs.Answers.{request_answered}
 use Rattle.request.specs.AnswerLaws.{WasRead, not_read}
-use Rattle.request.specs.declared.Request.{Request}
+use Rattle.request.specs.Numbered.{Request}
 use Rattle.table.specs.Table.{Entry, carried_in, decode, entry_of, row_of}
 use Rattle.table.specs.EntryLaws.{carried_of_byte}
 use Rattle.table.specs.RisingLaws.{row_rises, row_few}

@@ -11,7 +11,7 @@ use Rattle.request.specs.Request.{Reading, readable, unreadable, reading, no_tas
 use Rattle.request.specs.ReadableLaws.{readable_kept}
 use Rattle.request.specs.Answers.{request_answered}
 use Rattle.request.specs.declared.Task.{Task}
-use Rattle.request.specs.declared.Request.{Request}
+use Rattle.request.specs.Numbered.{Request}
 use Rattle.table.specs.Table.{Entry, Table, Decoded, table, malformed, decode, entry_of, row_of}
 use Rattle.table.specs.Inverse.{decode_wellformed}
 use Rattle.table.specs.EntryLaws.{task_of_byte, number_of_byte}

@@ -7,7 +7,7 @@ pub use Rattle.cursor.specs.Fields.{Bytes}
 pub use Rattle.cursor.specs.Written.{Written}
 pub use Rattle.request.specs.declared.Task.{Task}
 pub use Rattle.request.specs.declared.Pair.{Pair}
-pub use Rattle.request.specs.declared.Request.{Request}
+pub use Rattle.request.specs.Numbered.{Request}
 pub use Rattle.request.specs.Request.{period_of, readable, unreadable, reading}
 pub use Rattle.request.specs.Encode.{two_sections, request_bytes, SaysRequest}
 pub use Rattle.request.specs.Answers.{request_answered}
