@@ -15,8 +15,8 @@ use Rattle.table.specs.Answers.{sizes_of, row_given, row_answer, entries_said}
 use Rattle.table.specs.AnswerLaws.{EntriesPlaced, none_placed, one_placed, placed_given}
 use Rattle.table.specs.AnswerLaws.{entries_at, entries_more, entries_none, entries_given, given_count, given_refusal, height_is}
 use Rattle.table.specs.AnswerLaws.{RowSought, found, behind, no_table, row_sought, RowFound}
-use Rattle.table.specs.declared.Row.{Row}
-use Rattle.table.specs.declared.Sizes.{Sizes}
+use Rattle.table.specs.Answers.{Row}
+use Rattle.table.specs.Answers.{Sizes}
 use Rattle.dispatcher.specs.Dispatch.{uncarried, framed, moved, next_frame, raised, raised_at, with_counts, report_taken, report_refused, reported}
 use Rattle.dispatcher.specs.FrameLaws.{uncarried_none, uncarried_kept, uncarried_passed, frame_served_lem, frame_behind, frame_malformed}
 use Rattle.dispatcher.specs.ReportLaws.{report_counted, report_unknown, report_unreadable}

@@ -19,9 +19,9 @@ use Rattle.table.specs.RisingLaws.{row_rises, row_few}
 use Rattle.table.specs.Answers.{sizes_of, row_given, row_answer, row_at, entries_said}
 use Rattle.table.specs.AnswerLaws.{entries_at, entries_more, entries_none, entries_given, given_count, row_answered_lem}
 use Rattle.table.specs.RowsLeft.{RowsLeft, row_there, rows_go_on}
-use Rattle.table.specs.declared.Sizes.{Sizes}
-use Rattle.table.specs.declared.TakenRow.{TakenRow}
-use Rattle.table.specs.declared.Row.{Row}
+use Rattle.table.specs.Answers.{Sizes}
+use Rattle.table.specs.Answers.{TakenRow}
+use Rattle.table.specs.Answers.{Row}
 use Rattle.text.specs.Text.{ascii, decimal_of, Filled, put_all_of}
 use Rattle.text.specs.TextLaws.{put_none, put_append}
 use Rattle.plan_listing.specs.Listing.{head_line, busy_ticks, named, each, row_line, row_lines, table_lines, tasks_in}
