@@ -2,7 +2,7 @@
 use Rattle.std.specs.Prelude.{ℕ, List, ℤ}
 use Rattle.request.specs.Request.{reading}
 use Rattle.request.specs.Written.{request_answer, request_buffer}
-use Rattle.cursor.specs.declared.Written.{Written}
+use Rattle.cursor.specs.Written.{Written}
 use Rattle.cut.specs.Cut.{cut}
 use Rattle.bus.specs.Reply.{written_reply}
 

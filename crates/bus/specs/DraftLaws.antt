@@ -3,7 +3,7 @@ use Rattle.std.specs.Prelude.{ℕ, ◌≤◌, ◌<◌, ◌≡◌, List, ℤ, pos
 use Rattle.std.proofs.Common.{inl, inr, arith}
 use borrow.Author.Tests.{lt-ltb, le-ltb}
 use Rattle.cursor.specs.WrittenLaws.{written_most}
-use Rattle.cursor.specs.declared.Written.{Written}
+use Rattle.cursor.specs.Written.{Written}
 use Rattle.table.specs.Table.{encode}
 use Rattle.model.specs.WithinLaws.{within_good}
 use Rattle.model.specs.Described.{plan_table}

@@ -1,6 +1,6 @@
 -- What C gets: a number from 0 on, or the number of a refusal negated.
 use Rattle.std.specs.Prelude.{ℕ, cond, ℤ, pos, neg_ℤ, eqb}
-use Rattle.cursor.specs.declared.Written.{Written}
+use Rattle.cursor.specs.Written.{Written}
 
 abbrev pub refused_reply : ℕ → ℤ
 refused_reply number = neg_ℤ (pos number)

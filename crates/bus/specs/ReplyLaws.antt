@@ -6,7 +6,7 @@ use Rattle.std.specs.Int.Signed.{mag}
 use Rattle.std.specs.Int.{w32}
 use mir.Val.{SFits, to_z, of_z, hbits}
 use Rattle.std.proofs.Math.Facts.{to_z_pos}
-use Rattle.cursor.specs.declared.Written.{Written}
+use Rattle.cursor.specs.Written.{Written}
 use Rattle.bus.specs.Reply.{refused_reply, reply, written_reply, after}
 
 refused_fits : (n : ℕ) → n < 256 → SFits w32 (refused_reply n)

@@ -1,7 +1,7 @@
 -- Lists of the bus_timer calls from C, on the bytes of a timer: they answer as the timer's calls do, so the registers are as told.
 use Rattle.std.specs.Prelude.{ℕ, ◌<◌, ◌≡◌, Bool, true, cond, ◌⊎◌, List, [], ◌++◌, pos, length, drop, leb}
 use Rattle.cursor.specs.Choice.{bit}
-use Rattle.table.specs.declared.Row.{Row}
+use Rattle.table.specs.Answers.{Row}
 use Rattle.timer.specs.Registers.{fresh_timer, register_read}
 use Rattle.timer.specs.declared.Timer.{Timer}
 use Rattle.flight.specs.Calls as plain

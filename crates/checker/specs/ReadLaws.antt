@@ -14,7 +14,7 @@ use Rattle.cycle.specs.declared.Cycle.{Cycle}
 use Rattle.table.specs.Table.{Table, Decoded, table, malformed, decode}
 use Rattle.table.specs.Answers.{sizes_of}
 use Rattle.table.specs.Inverse.{decode_wellformed}
-use Rattle.table.specs.declared.Sizes.{Sizes}
+use Rattle.table.specs.Answers.{Sizes}
 use Rattle.model.specs.Plausible.{plausible}
 use Rattle.model.specs.Answers.{instance_of}
 use Rattle.plan_rules.specs.Every.{every}

@@ -59,7 +59,7 @@ pub record Demand2 : Type 0 where
   pub cycle_keeps : (bytes : List ℕ) (tasks : List Task) (pairs : List Pair) (g h : ℕ) (jobs : List Job)
       → cycle_of bytes ≡ cycle tasks pairs g h jobs → WithinLimits tasks pairs h jobs
   -- 01: 7 "H above 10,000", 8 "more than 128 jobs": which number, exactly, or the cycle; and no other answer
-  pub cycle_answers : (bytes : List ℕ) → CycleExact bytes (cycle_answered (cycle_of bytes)) × ((c : Cycle) → CycleExact bytes c → c ≡ cycle_answered (cycle_of bytes))
+  pub cycle_answers : (bytes : List ℕ) → CycleExact bytes (cycle_numbered (cycle_of bytes)) × ((c : Cycle) → CycleExact bytes c → c ≡ cycle_numbered (cycle_of bytes))
   -- 01: "A request is within the limits if its bytes have the form under Request file with no bytes behind it, H is at most 10,000 and .. 128 jobs."
   pub within_is : (request : List ℕ) → WithinExact request
   -- 01: "Task i has jobs j = 0 to H/T − 1, released at r = P + j·T, due at r + D."; "Jobs are ordered by release, then task number."

@@ -1,11 +1,8 @@
 -- The two fields of the formats: a byte, and a u16, which is two bytes, low byte first; and what a byte string is.
 -- Each field twice: as the front of some bytes, and as the cursor's answer at a place of a byte string. FieldLaws ties the two.
-use Rattle.std.specs.Prelude.{ℕ, ◌+◌, ◌*◌, ◌/◌, ◌%◌, ◌<◌, List, [], ◌∷◌, drop, get_or}
+use Rattle.std.specs.Prelude.{ℕ, ◌+◌, ◌*◌, ◌/◌, ◌%◌, ◌<◌, List, [], ◌∷◌, drop, get_or, Option, Some, None}
 use Rattle.cursor.specs.Parsed.{Parsed, got, refused, then}
-use Rattle.cursor.specs.declared.ByteRead.{ByteRead}
-use Rattle.cursor.specs.declared.ByteRead.TheVariants.{Byte, NoByte}
-use Rattle.cursor.specs.declared.WordRead.{WordRead}
-use Rattle.cursor.specs.declared.WordRead.TheVariants.{Word, NoWord}
+use Rattle.cursor.specs.declared.Cursor.{Cursor}
 
 -- the elements of a byte string
 abbrev pub Bytes : List ℕ → Type 0
@@ -25,17 +22,17 @@ word_bytes w = (w % 256) ∷ (w / 256) ∷ []
 
 -- The cursor's answers at a place, for each case of a reading: the value with the cursor behind the field; or, where the bytes have ended, that there is none.
 -- Its number is the one that the reading was given for this case: 1 in a request, 12 in a table.
-abbrev pub byte_read : ℕ → Parsed ℕ → ByteRead
-byte_read at (got b rest) = Byte b (record { at = at + 1 })
-byte_read at (refused number) = NoByte
+abbrev pub byte_read : ℕ → Parsed ℕ → Option (ℕ × Cursor)
+byte_read at (got b rest) = Some (b, record { at = at + 1 })
+byte_read at (refused number) = None
 
-abbrev pub word_read : ℕ → Parsed ℕ → WordRead
-word_read at (got w rest) = Word w (record { at = at + 1 + 1 })
-word_read at (refused number) = NoWord
+abbrev pub word_read : ℕ → Parsed ℕ → Option (ℕ × Cursor)
+word_read at (got w rest) = Some (w, record { at = at + 1 + 1 })
+word_read at (refused number) = None
 
 -- the answer at a place of a byte string; it is the same for every number (FieldLaws)
-unfoldable pub byte_at : List ℕ → ℕ → ByteRead
+unfoldable pub byte_at : List ℕ → ℕ → Option (ℕ × Cursor)
 byte_at s at = byte_read at (byte_of 1 (drop at s))
 
-unfoldable pub word_at : List ℕ → ℕ → WordRead
+unfoldable pub word_at : List ℕ → ℕ → Option (ℕ × Cursor)
 word_at s at = word_read at (word_of 1 (drop at s))

@@ -1,6 +1,16 @@
 -- A file written into a lent buffer, a table or a request: what the writer answers and leaves there.
-use Rattle.std.specs.Prelude.{ℕ, Bool, cond, List, ◌++◌, length, drop, ltb}
-use Rattle.cursor.specs.declared.Written.{Written}
+use Rattle.std.specs.Prelude.{ℕ, Bool, cond, List, ◌++◌, length, drop, ltb, Result, Ok, Err}
+use Rattle.refusal.specs.Refusal.{number_of}
+use Rattle.refusal.specs.declared.Refusal.{Refusal}
+
+-- the answer with the paper's number, where 0 is none: "A refusal returns its number, length 0 or no entries"
+pub record Written : Type 0 where
+  pub refusal : ℕ
+  pub length : ℕ
+
+abbrev pub written_said : Result ℕ Refusal → Written
+written_said (Ok n) = record { refusal = 0; length = n }
+written_said (Err e) = record { refusal = number_of e; length = 0 }
 
 -- "buffer shorter than the table"; of a request: "A short buffer gives 11"
 abbrev pub too_short : List ℕ → List ℕ → Bool

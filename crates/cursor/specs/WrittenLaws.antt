@@ -7,7 +7,7 @@ use Rattle.std.proofs.Math.Seq.{take-append_seam, drop-append_seam}
 use Rattle.std.proofs.Common.{lt-ltb, le-ltb}
 use Rattle.cursor.specs.Pieces.{Placed}
 use Rattle.cursor.specs.Written.{too_short, written, buffer}
-use Rattle.cursor.specs.declared.Written.{Written}
+use Rattle.cursor.specs.Written.{Written}
 
 module _ (bytes out : List ℕ) where
   abbrev pub AnswersAs : ℕ → ℕ → List ℕ → Type 0

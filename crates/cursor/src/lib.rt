@@ -9,48 +9,22 @@ pub struct Cursor {
     pub at: usize,
 }
 
-#[derive(Clone, Copy)]
-pub enum ByteRead {
-    Byte(u8, Cursor),
-    NoByte,
-}
-
-#[derive(Clone, Copy)]
-pub enum WordRead {
-    Word(u16, Cursor),
-    NoWord,
-}
-
-// What a writer answers: the number of bytes written; or the number of the refusal, and 0.
-#[derive(Clone, Copy)]
-pub struct Written {
-    pub refusal: u8,
-    pub length: usize,
-}
-
 impl Cursor {
-    pub fn byte(self, s: &[u8]) -> ByteRead
+    // The byte here, and the cursor behind it; none, where the bytes have ended.
+    pub fn byte(self, s: &[u8]) -> Option<(u8, Cursor)>
         ensures { result ≡ byte_at s.now self.at }
     {
-        let at = self.at;
-        if at < s.len() {
-            ByteRead::Byte(s[at], Cursor { at: at + 1 })
-        } else {
-            ByteRead::NoByte
-        }
+        let b = *s.get(self.at)?;
+        Some((b, Cursor { at: self.at + 1 }))
     }
 
     // A u16 is two bytes, low byte first.
-    pub fn word(self, s: &[u8]) -> WordRead
+    pub fn word(self, s: &[u8]) -> Option<(u16, Cursor)>
         ensures { result ≡ word_at s.now self.at }
     {
-        let ByteRead::Byte(low, second) = self.byte(s) else {
-            return WordRead::NoWord;
-        };
-        let ByteRead::Byte(high, next) = second.byte(s) else {
-            return WordRead::NoWord;
-        };
-        WordRead::Word((low as u16) + (high as u16) * 256, next)
+        let (low, second) = self.byte(s)?;
+        let (high, next) = second.byte(s)?;
+        Some((u16::from_le_bytes([low, high]), next))
     }
 }
 

@@ -12,12 +12,12 @@ use Rattle.request.specs.Answers.{request_answered}
 use Rattle.request.specs.AnswerLaws.{not_read}
 use Rattle.request.specs.declared.Task.{Task}
 use Rattle.request.specs.declared.Pair.{Pair}
-use Rattle.request.specs.declared.Request.{Request}
+use Rattle.request.specs.Numbered.{Request}
 use Rattle.cursor.specs.Written.{written, buffer}
 use Rattle.request.specs.Written.{request_answer, request_buffer}
 use Rattle.request.specs.FileLaws.{refusal_answered, request_answered_lem}
 use Rattle.request.specs.Places.{ReadAs, counts_few, first_tasks, first_pairs, places_hold}
-use Rattle.cursor.specs.declared.Written.{Written}
+use Rattle.cursor.specs.Written.{Written}
 use Rattle.cut.specs.Cut.{piece, cut_tasks, cut_pair, cut_pairs, cuttable, cut}
 use Rattle.cut.specs.Exactly.{PieceOf, CutTasks}
 use Rattle.cut.specs.Places.{tasks_are, pairs_are}

@@ -6,7 +6,7 @@ use Rattle.request.specs.Encode.{two_sections, request_bytes}
 use Rattle.request.specs.declared.Task.{Task}
 use Rattle.request.specs.declared.Pair.{Pair}
 use Rattle.request.specs.Written.{request_answer, request_buffer}
-use Rattle.cursor.specs.declared.Written.{Written}
+use Rattle.cursor.specs.Written.{Written}
 use Rattle.cut.specs.Cut.{cut}
 
 -- "i is not below n or u is not from 1 to C − 1"

@@ -21,7 +21,7 @@ use Rattle.cursor.specs.Written.{written, buffer}
 use Rattle.request.specs.Written.{request_answer, request_buffer, file_of}
 use Rattle.request.specs.WriteLaws.{bytes_short}
 use Rattle.request.specs.FileLaws.{no_silence, refusal_answered, request_answered_lem}
-use Rattle.cursor.specs.declared.Written.{Written}
+use Rattle.cursor.specs.Written.{Written}
 use Rattle.cut.specs.Cut.{cut_tasks, cut_pairs, cuttable, cut}
 use Rattle.cut.specs.CutLaws.{can_means}
 use Rattle.cut.specs.Exactly.{BadCut, CutFile, OfRequest, CutInto, answer, after, CutExact}

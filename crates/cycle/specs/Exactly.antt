@@ -7,9 +7,9 @@ use Rattle.request.specs.declared.Task.{Task}
 use Rattle.request.specs.declared.Pair.{Pair}
 use Rattle.cycle.specs.Cycle.{cycle, no_cycle}
 use Rattle.cycle.specs.Planned.{InPlanningOrder}
-use Rattle.cycle.specs.Answers.{cycle_answered}
+use Rattle.cycle.specs.Numbered.{cycle_numbered}
 use Rattle.cycle.specs.declared.Job.{Job}
-use Rattle.cycle.specs.declared.Cycle as answer
+use Rattle.cycle.specs.Numbered as answer
 
 -- "H is the least common multiple of all T"
 pub record IsH (tasks : List Task) (h : ℕ) : Type 0 where
@@ -39,11 +39,11 @@ module _ (s : List ℕ) where
 
   -- c, the answer of `cycle::read`
   pub record CycleExact (c : answer.Cycle) : Type 0 where
-    pub own_number : (number : ℕ) → reading s ≡ unreadable number → c ≡ cycle_answered (no_cycle number)
+    pub own_number : (number : ℕ) → reading s ≡ unreadable number → c ≡ cycle_numbered (no_cycle number)
     -- 7: "H above 10,000"
-    pub seven : (c ≡ cycle_answered (no_cycle 7)) ↔ OfH (λ tasks h. 10000 < h)
+    pub seven : (c ≡ cycle_numbered (no_cycle 7)) ↔ OfH (λ tasks h. 10000 < h)
     -- 8: "more than 128 jobs"
-    pub eight : (c ≡ cycle_answered (no_cycle 8)) ↔ OfH (λ tasks h. (h ≤ 10000) × (128 < jobs_in_all tasks h))
+    pub eight : (c ≡ cycle_numbered (no_cycle 8)) ↔ OfH (λ tasks h. (h ≤ 10000) × (128 < jobs_in_all tasks h))
     -- "Jobs are ordered by release, then task number."
     pub cycles : (tasks : List Task) (pairs : List Pair) (g h : ℕ) (jobs : List Job)
-        → (c ≡ cycle_answered (cycle tasks pairs g h jobs)) ↔ (HasCycle tasks pairs g h × InPlanningOrder tasks h jobs)
+        → (c ≡ cycle_numbered (cycle tasks pairs g h jobs)) ↔ (HasCycle tasks pairs g h × InPlanningOrder tasks h jobs)

@@ -13,10 +13,11 @@ use Rattle.cycle.specs.Planned.{no_job, InPlanningOrder}
 use Rattle.cycle.specs.PlannedLaws.{Periodic, jobs_of, all_jobs_are, jobs_then_length}
 use Rattle.cycle.specs.OrderLaws.{before_irreflexive, before_asymmetric}
 use Rattle.cycle.specs.LimitLaws.{hyperperiod_divides, hyperperiod_pos, hyperperiod_least}
-use Rattle.cycle.specs.Answers.{listed, cycle_answered}
+use Rattle.cycle.specs.Answers.{listed}
+use Rattle.cycle.specs.Numbered.{cycle_numbered}
 use Rattle.cycle.specs.Exactly.{IsH, jobs_in_all}
 use Rattle.cycle.specs.declared.Job.{Job}
-use Rattle.cycle.specs.declared.Cycle as answer
+use Rattle.cycle.specs.Numbered as answer
 
 -- H
 
@@ -102,7 +103,7 @@ module _ (tasks : List Task) (h : ℕ) where
 
 -- The answer holds the whole cycle.
 pub answered_once : (ts us : List Task) (ps qs : List Pair) (g k h l : ℕ) (xs ys : List Job)
-    → cycle_answered (cycle ts ps g h xs) ≡ cycle_answered (cycle us qs k l ys) → cycle ts ps g h xs ≡ cycle us qs k l ys
+    → cycle_numbered (cycle ts ps g h xs) ≡ cycle_numbered (cycle us qs k l ys) → cycle ts ps g h xs ≡ cycle us qs k l ys
 unfolding listed
 answered_once ts us ps qs g k h l xs ys e =
     let tasks : ts ≡ us = sym (take_padded 16 no_task ts) ∙ ap (λ (c : answer.Cycle). take c.n c.tasks) e ∙ take_padded 16 no_task us in

@@ -6,6 +6,7 @@ pub mod Exactly
 pub mod Silent
 -- How answers stand in types:
 pub mod Answers
+pub mod Numbered
 -- Theorems:
 pub mod PlannedLaws
 pub mod LimitLaws

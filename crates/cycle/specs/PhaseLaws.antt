@@ -5,9 +5,9 @@ use Rattle.std.proofs.lemmas.Bool.{eqb-false}
 use Rattle.cursor.specs.Padded.{padded}
 use Rattle.cursor.specs.PaddedLaws.{get_or_padded}
 use Rattle.cursor.specs.ArrayLaws.{set_inside}
-use Rattle.request.specs.Request.{Reading, readable, unreadable, no_task, period_of}
-use Rattle.request.specs.Answers as request
-use Rattle.request.specs.Readable.{Readable, TaskKept, KeptReading}
+use Rattle.request.specs.Request.{no_task, period_of}
+use Rattle.request.specs.Numbered as read
+use Rattle.request.specs.Readable.{Readable, TaskKept}
 use Rattle.request.specs.declared.Task.{Task}
 use Rattle.request.specs.declared.Pair.{Pair}
 use Rattle.request.specs.declared.Request.{Request}
@@ -22,7 +22,7 @@ abbrev pub tasks_with : List Task → ℕ → ℕ → List Task
 tasks_with tasks i p = set tasks i (task_with (get_or tasks i no_task) p)
 
 abbrev pub request_with : Request → ℕ → ℕ → Request
-request_with r i p = record { refusal = r.refusal; n = r.n; tasks = tasks_with r.tasks i p; m = r.m; pairs = r.pairs; g = r.g }
+request_with r i p = record { n = r.n; tasks = tasks_with r.tasks i p; m = r.m; pairs = r.pairs; g = r.g }
 
 module _ (tasks : List Task) (i p : ℕ) (known : i < length tasks) (early : p < period_of tasks i) where
   -- task i changed, or another one as it was
@@ -64,19 +64,19 @@ module _ (tasks : List Task) (i p : ℕ) (known : i < length tasks) (early : p <
 
 -- "phases from 0 to T − 1": the request with such a phase is as if it had been read
 pub phase_as_read : {r : Request} → AsRead r → (i p : ℕ) → i < r.n → p < period_of r.tasks i → AsRead (request_with r i p)
-phase_as_read {r} a i p known early = go a.read a.is a.kept
-  where
-    go : (x : Reading) → r ≡ request.request_answered x → KeptReading x → AsRead (request_with r i p)
-    go (readable tasks pairs g) is kept =
-        let inside : i < length tasks = omega (arith, known, ap (λ (y : Request). y.n) is) in
-        let task : get_or r.tasks i no_task ≡ get_or tasks i no_task = ap (λ (y : Request). get_or y.tasks i no_task) is ∙ get_or_padded 16 no_task tasks i inside in
-        let soon : p < period_of tasks i = omega (arith, early, ap (λ (x : Task). x.t) task) in
-        let size : length (tasks_with tasks i p) ≡ length tasks = length-set tasks i (task_with (get_or tasks i no_task) p) in
-        let places : tasks_with r.tasks i p ≡ padded 16 no_task (tasks_with tasks i p)
-        = rw (task, ap (λ (y : Request). y.tasks) is) (set_inside 16 no_task tasks i (task_with (get_or tasks i no_task) p) inside) in
-        record {
-          read = readable (tasks_with tasks i p) pairs g;
-          is = λ q. record { refusal = (is q).refusal; n = (ap (λ (y : Request). y.n) is ∙ sym size) q; tasks = places q; m = (is q).m; pairs = (is q).pairs; g = (is q).g };
-          kept = readable_with tasks i p inside soon pairs kept;
-        }
-    go (unreadable number) is kept = absurd (omega (arith, known, ap (λ (y : Request). y.n) is))
+phase_as_read {r} a i p known early =
+    let is = a.is in
+    let inside : i < length a.tasks = omega (arith, known, ap (λ (y : read.Request). y.n) is) in
+    let task : get_or r.tasks i no_task ≡ get_or a.tasks i no_task
+    = ap (λ (y : read.Request). get_or y.tasks i no_task) is ∙ get_or_padded 16 no_task a.tasks i inside in
+    let soon : p < period_of a.tasks i = omega (arith, early, ap (λ (x : Task). x.t) task) in
+    let size : length (tasks_with a.tasks i p) ≡ length a.tasks = length-set a.tasks i (task_with (get_or a.tasks i no_task) p) in
+    let places : tasks_with r.tasks i p ≡ padded 16 no_task (tasks_with a.tasks i p)
+    = rw (task, ap (λ (y : read.Request). y.tasks) is) (set_inside 16 no_task a.tasks i (task_with (get_or a.tasks i no_task) p) inside) in
+    record {
+      tasks = tasks_with a.tasks i p;
+      pairs = a.pairs;
+      g = a.g;
+      is = λ q. record { refusal = 0; n = (ap (λ (y : read.Request). y.n) is ∙ sym size) q; tasks = places q; m = (is q).m; pairs = (is q).pairs; g = (is q).g };
+      kept = readable_with a.tasks i p inside soon a.pairs a.kept;
+    }

@@ -13,11 +13,11 @@ use Rattle.cycle.specs.Cycle.{Cycle, cycle, no_cycle, hyperperiod, all_jobs, pla
 use Rattle.cycle.specs.Planned.{InPlanningOrder}
 use Rattle.cycle.specs.PlannedLaws.{Periodic, planned_in_order}
 use Rattle.cycle.specs.LimitLaws.{readable_periodic}
-use Rattle.cycle.specs.Answers.{cycle_answered}
+use Rattle.cycle.specs.Numbered.{cycle_numbered}
 use Rattle.cycle.specs.Exactly.{IsH, jobs_in_all, HasH, HasCycle, OfH, CycleExact}
 use Rattle.cycle.specs.ExactlyLaws.{hyperperiod_is_h, one_h, jobs_counted, one_order, answered_once}
 use Rattle.cycle.specs.declared.Job.{Job}
-use Rattle.cycle.specs.declared.Cycle as answer
+use Rattle.cycle.specs.Numbered as answer
 
 module _ (s : List ℕ) where
   -- the conditions
@@ -139,32 +139,32 @@ unfolding cycle_of
 own_of s number e = rw e
 
 -- The answer tells the number of a refusal, 0 for a cycle.
-told : (d e f : Cycle) → d ≡ e → cycle_answered d ≡ cycle_answered f → (cycle_answered e).refusal ≡ (cycle_answered f).refusal
-told d e f is q = ap (λ (c : answer.Cycle). c.refusal) (ap cycle_answered (sym is) ∙ q)
+told : (d e f : Cycle) → d ≡ e → cycle_numbered d ≡ cycle_numbered f → (cycle_numbered e).refusal ≡ (cycle_numbered f).refusal
+told d e f is q = ap (λ (c : answer.Cycle). c.refusal) (ap cycle_numbered (sym is) ∙ q)
 
 not_own : {number : ℕ} → UnreadNumber number → 6 < number → number < 17 → ⊥
 not_own (inl x) low high = omega (arith, x.1)
 not_own (inr x) low high = omega arith
 
-pub cycle_exact : (s : List ℕ) → CycleExact s (cycle_answered (cycle_of s))
+pub cycle_exact : (s : List ℕ) → CycleExact s (cycle_numbered (cycle_of s))
 cycle_exact s = record {
-  own_number = λ number e. ap cycle_answered (own_of s number e);
-  seven = (seven (cycle_of s) (outcome s), λ x. ap cycle_answered (is_seven s x));
-  eight = (eight (cycle_of s) (outcome s), λ x. ap cycle_answered (is_eight s x));
+  own_number = λ number e. ap cycle_numbered (own_of s number e);
+  seven = (seven (cycle_of s) (outcome s), λ x. ap cycle_numbered (is_seven s x));
+  eight = (eight (cycle_of s) (outcome s), λ x. ap cycle_numbered (is_eight s x));
   cycles = λ tasks pairs g h jobs. (
     λ e. (cycle_exactly s tasks pairs g h jobs).0 (cycles tasks pairs g h jobs (cycle_of s) refl (outcome s) e),
-    λ x. ap cycle_answered ((cycle_exactly s tasks pairs g h jobs).1 x),
+    λ x. ap cycle_numbered ((cycle_exactly s tasks pairs g h jobs).1 x),
   );
 }
   where
-    seven : (d : Cycle) → Outcome s d → cycle_answered d ≡ cycle_answered (no_cycle 7) → OfH s (λ tasks h. 10000 < h)
+    seven : (d : Cycle) → Outcome s d → cycle_numbered d ≡ cycle_numbered (no_cycle 7) → OfH s (λ tasks h. 10000 < h)
     seven d (own number e is) q =
         let same : number ≡ 7 = told d (no_cycle number) (no_cycle 7) is q in absurd (not_own (unreadable_number s number e) (omega arith) (omega arith))
     seven d (long tasks pairs g h has more is) q = (tasks, pairs, g, h, has, more)
     seven d (many tasks pairs g h has low more is) q = absurd (omega (arith, told d (no_cycle 8) (no_cycle 7) is q))
     seven d (made tasks pairs g h jobs has order is) q = absurd (omega (arith, told d (cycle tasks pairs g h jobs) (no_cycle 7) is q))
 
-    eight : (d : Cycle) → Outcome s d → cycle_answered d ≡ cycle_answered (no_cycle 8) → OfH s (λ tasks h. (h ≤ 10000) × (128 < jobs_in_all tasks h))
+    eight : (d : Cycle) → Outcome s d → cycle_numbered d ≡ cycle_numbered (no_cycle 8) → OfH s (λ tasks h. (h ≤ 10000) × (128 < jobs_in_all tasks h))
     eight d (own number e is) q =
         let same : number ≡ 8 = told d (no_cycle number) (no_cycle 8) is q in absurd (not_own (unreadable_number s number e) (omega arith) (omega arith))
     eight d (long tasks pairs g h has more is) q = absurd (omega (arith, told d (no_cycle 7) (no_cycle 8) is q))
@@ -177,20 +177,20 @@ cycle_exact s = record {
     refused_pos number (inr x) = omega arith
 
     cycles : (tasks : List Task) (pairs : List Pair) (g h : ℕ) (jobs : List Job) (d : Cycle) → cycle_of s ≡ d → Outcome s d
-        → cycle_answered d ≡ cycle_answered (cycle tasks pairs g h jobs) → cycle_of s ≡ cycle tasks pairs g h jobs
+        → cycle_numbered d ≡ cycle_numbered (cycle tasks pairs g h jobs) → cycle_of s ≡ cycle tasks pairs g h jobs
     cycles tasks pairs g h jobs d at (own number e is) q =
         let same : number ≡ 0 = told d (no_cycle number) (cycle tasks pairs g h jobs) is q in absurd (omega (arith, refused_pos number (unreadable_number s number e)))
     cycles tasks pairs g h jobs d at (long ts ps k l has more is) q = absurd (omega (arith, told d (no_cycle 7) (cycle tasks pairs g h jobs) is q))
     cycles tasks pairs g h jobs d at (many ts ps k l has low more is) q = absurd (omega (arith, told d (no_cycle 8) (cycle tasks pairs g h jobs) is q))
     cycles tasks pairs g h jobs d at (made ts ps k l xs has order is) q =
-        at ∙ is ∙ answered_once ts tasks ps pairs k g l h xs jobs (ap cycle_answered (sym is) ∙ q)
+        at ∙ is ∙ answered_once ts tasks ps pairs k g l h xs jobs (ap cycle_numbered (sym is) ∙ q)
 
 -- So there is no other answer.
-pub cycle_alone : (s : List ℕ) (c : answer.Cycle) → CycleExact s c → c ≡ cycle_answered (cycle_of s)
+pub cycle_alone : (s : List ℕ) (c : answer.Cycle) → CycleExact s c → c ≡ cycle_numbered (cycle_of s)
 cycle_alone s c x = go (cycle_of s) (outcome s)
   where
-    go : (d : Cycle) → Outcome s d → c ≡ cycle_answered d
-    go d (own number e is) = x.own_number number e ∙ ap cycle_answered (sym is)
-    go d (long tasks pairs g h has more is) = x.seven.1 (tasks, pairs, g, h, has, more) ∙ ap cycle_answered (sym is)
-    go d (many tasks pairs g h has low more is) = x.eight.1 (tasks, pairs, g, h, has, (low, more)) ∙ ap cycle_answered (sym is)
-    go d (made tasks pairs g h jobs has order is) = (x.cycles tasks pairs g h jobs).1 (has, order) ∙ ap cycle_answered (sym is)
+    go : (d : Cycle) → Outcome s d → c ≡ cycle_numbered d
+    go d (own number e is) = x.own_number number e ∙ ap cycle_numbered (sym is)
+    go d (long tasks pairs g h has more is) = x.seven.1 (tasks, pairs, g, h, has, more) ∙ ap cycle_numbered (sym is)
+    go d (many tasks pairs g h has low more is) = x.eight.1 (tasks, pairs, g, h, has, (low, more)) ∙ ap cycle_numbered (sym is)
+    go d (made tasks pairs g h jobs has order is) = (x.cycles tasks pairs g h jobs).1 (has, order) ∙ ap cycle_numbered (sym is)

@@ -3,7 +3,7 @@
 use Rattle.std.specs.Prelude.{ℕ, ◌≡◌, refl, Bool, true, false, List, ltb}
 use Rattle.std.proofs.Common.{sym, ap, ◌∙◌}
 use Rattle.cycle.specs.Cycle.{no_cycle, cycle_of}
-use Rattle.cursor.specs.declared.Written.{Written}
+use Rattle.cursor.specs.Written.{Written}
 use Rattle.model.specs.Plan.{Instance}
 use Rattle.model.specs.Chosen.{Choice, choose, choose_walk, full_tries}
 use Rattle.plan_writer.specs.Outcome.{refusal, outcome_answer, outcome_buffer}

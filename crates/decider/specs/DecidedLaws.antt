@@ -4,7 +4,7 @@ use Rattle.std.specs.Prelude.{ℕ, ◌≤◌, ◌<◌, ◌≡◌, List}
 use Rattle.std.proofs.Common.{sym, ◌∙◌, ⊎_elim, arith}
 use Rattle.std.proofs.Math.Path.{ap}
 use Rattle.cursor.specs.ChoiceLaws.{lt_or_ge}
-use Rattle.cursor.specs.declared.Written.{Written}
+use Rattle.cursor.specs.Written.{Written}
 use Rattle.cycle.specs.Cycle.{no_cycle, cycle_of}
 use Rattle.model.specs.Plan.{Instance}
 use Rattle.model.specs.Within.{Within}

@@ -5,7 +5,7 @@ use Rattle.request.specs.Request.{Reading, readable, unreadable, no_task}
 use Rattle.request.specs.declared.Task.{Task}
 use Rattle.table.specs.Table.{Entry, Decoded, table, malformed, row_of}
 use Rattle.table.specs.Answers.{row_given, row_refused, entries_said}
-use Rattle.table.specs.declared.Row.{Row}
+use Rattle.table.specs.Answers.{Row}
 use Rattle.dispatcher.specs.declared.State.{State}
 use Rattle.dispatcher.specs.declared.Frame.{Frame}
 use Rattle.dispatcher.specs.declared.Reported.{Reported}

@@ -14,7 +14,7 @@ use Rattle.table.specs.TableBytesLaws.{says_decodes, decodes_says}
 use Rattle.table.specs.RisingLaws.{row_few}
 use Rattle.table.specs.Answers.{task_byte, row_given}
 use Rattle.table.specs.AnswerLaws.{placed_given}
-use Rattle.table.specs.declared.Row.{Row}
+use Rattle.table.specs.Answers.{Row}
 use Rattle.dispatcher.specs.Dispatch.{uncarried, served, shown, no_frame, onward, around, moved, next_frame}
 use Rattle.dispatcher.specs.FrameLaws.{
   uncarried_none,

@@ -7,7 +7,7 @@ use Rattle.cursor.specs.ChoiceLaws.{lt_or_ge}
 use Rattle.request.specs.Request.{reading, no_task}
 use Rattle.request.specs.Answers.{request_answered}
 use Rattle.request.specs.AnswerLaws.{WasRead, not_read}
-use Rattle.request.specs.declared.Request.{Request}
+use Rattle.request.specs.Numbered.{Request}
 use Rattle.table.specs.Table.{Entry, carried_in, decode, entry_of, row_of}
 use Rattle.table.specs.EntryLaws.{carried_of_byte}
 use Rattle.table.specs.RisingLaws.{row_rises, row_few}
@@ -16,8 +16,8 @@ use Rattle.table.specs.Answers.{sizes_of, row_given, row_answer, entries_said}
 use Rattle.table.specs.AnswerLaws.{EntriesPlaced, none_placed, one_placed, placed_given}
 use Rattle.table.specs.AnswerLaws.{entries_at, entries_more, entries_none, entries_given, given_count, given_refusal, height_is}
 use Rattle.table.specs.AnswerLaws.{RowSought, found, behind, no_table, row_sought, RowFound}
-use Rattle.table.specs.declared.Row.{Row}
-use Rattle.table.specs.declared.Sizes.{Sizes}
+use Rattle.table.specs.Answers.{Row}
+use Rattle.table.specs.Answers.{Sizes}
 use Rattle.dispatcher.specs.Dispatch.{uncarried, framed, moved, next_frame, raised, raised_at, with_counts, report_taken, report_refused, reported}
 use Rattle.dispatcher.specs.FrameLaws.{uncarried_none, uncarried_kept, uncarried_passed, frame_served_lem, frame_behind, frame_malformed}
 use Rattle.dispatcher.specs.ReportLaws.{report_counted, report_unknown, report_unreadable}

@@ -33,7 +33,7 @@ use Rattle.checker.specs.Checked as checker
 use Rattle.checker.specs.Answers.{read_answer}
 use Rattle.checker.specs.Verdicts.{HandedOn, handed_on}
 use Rattle.checker.specs.declared.Read.{Read}
-use Rattle.cursor.specs.declared.Written.{Written}
+use Rattle.cursor.specs.Written.{Written}
 use Rattle.model.specs.Described.{plan_table}
 use Rattle.plan_writer.specs.Outcome.{handed, refusal, outcome_answer, outcome_buffer}
 use Rattle.plan_writer.specs.OutcomeLaws.{refused_answer, refused_buffer, table_answer, table_buffer}

@@ -1,7 +1,7 @@
 -- Which answer each of the four calls gives, exactly, for all byte strings and all drafts, damaged ones too. 02, R-10.
 use Rattle.std.specs.Prelude.{ℕ, ◌+◌, ◌*◌, ◌≤◌, ◌<◌, ◌≡◌, ◌↔◌, ◌⊎◌, List, ◌++◌, cond, length, set, take, drop, eqb}
 use Rattle.cursor.specs.Fields.{Bytes}
-use Rattle.cursor.specs.declared.Written.{Written}
+use Rattle.cursor.specs.Written.{Written}
 use Rattle.cycle.specs.Cycle.{no_cycle, cycle_of}
 use Rattle.table.specs.Table.{Table, encode, decode}
 use Rattle.table.specs.TableBytes.{SaysTable}

@@ -4,7 +4,7 @@ use Rattle.std.proofs.Common.{sym, ap, ◌∙◌, inl, inr, ⊎_elim, arith}
 use Rattle.std.proofs.Math.Seq.{take-append_seam}
 use Rattle.cursor.specs.ChoiceLaws.{lt_or_ge}
 use Rattle.cursor.specs.PaddedLaws.{get_or_firsts}
-use Rattle.cursor.specs.declared.Written.{Written}
+use Rattle.cursor.specs.Written.{Written}
 use Rattle.cycle.specs.Cycle.{no_cycle, cycle_of}
 use Rattle.cycle.specs.LimitLaws.{RequestNumber, request_number_own}
 use Rattle.table.specs.Table.{Table, encode, decode}

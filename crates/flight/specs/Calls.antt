@@ -3,7 +3,7 @@ use Rattle.std.specs.Prelude.{Bool, cond, List, [], ◌∷◌, ℕ, ◌+◌, ◌
 use Rattle.request.specs.Request.{Reading, readable, unreadable, reading}
 use Rattle.table.specs.Table.{Entry, Table, decode, row_of}
 use Rattle.table.specs.Answers.{row_given, entries_said}
-use Rattle.table.specs.declared.Row.{Row}
+use Rattle.table.specs.Answers.{Row}
 use Rattle.dispatcher.specs.Dispatch.{no_overruns, served, next_frame, exceeds, raised_at, reported, row_shown}
 use Rattle.dispatcher.specs.declared.State.{State}
 use Rattle.dispatcher.specs.declared.Frame.{Frame}

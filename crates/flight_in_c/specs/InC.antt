@@ -15,7 +15,7 @@ use Rattle.cursor.specs.RangeLaws.{over_same}
 use Rattle.request.specs.Request.{reading}
 use Rattle.table.specs.Table.{Entry, entry_of, decode}
 use Rattle.table.specs.AnswerLaws.{entries_at}
-use Rattle.table.specs.declared.Row.{Row}
+use Rattle.table.specs.Answers.{Row}
 use Rattle.dispatcher.specs.Dispatch.{fresh_state, next_frame, reported, row_shown}
 use Rattle.dispatcher.specs.FrameLaws.{frame_refused_still, frame_few}
 use Rattle.dispatcher.specs.ReportLaws.{report_refused_still}

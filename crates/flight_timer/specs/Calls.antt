@@ -2,7 +2,7 @@
 use Rattle.std.specs.Prelude.{ℕ, Bool, List, [], ◌∷◌}
 use Rattle.request.specs.Request.{reading}
 use Rattle.table.specs.Table.{decode}
-use Rattle.table.specs.declared.Row.{Row}
+use Rattle.table.specs.Answers.{Row}
 use Rattle.flight.specs.Calls as flight
 use Rattle.timer.specs.declared.Timer.{Timer}
 use Rattle.timer.specs.declared.RegisterRead.{RegisterRead}

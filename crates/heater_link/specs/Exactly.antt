@@ -2,7 +2,7 @@
 use Rattle.std.specs.Prelude.{ℕ, ◌≤◌, ◌<◌, ◌≡◌, ◌↔◌, List, length}
 use Rattle.cursor.specs.Fields.{Bytes}
 use Rattle.table.specs.Table.{decode}
-use Rattle.table.specs.declared.Row.{Row}
+use Rattle.table.specs.Answers.{Row}
 use Rattle.model.specs.Plan.{Instance, pair_at}
 use Rattle.model.specs.Described.{Accepted}
 use Rattle.checker.specs.Checked.{check_number}

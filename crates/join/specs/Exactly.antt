@@ -5,7 +5,7 @@ use Rattle.request.specs.Request.{readable, unreadable, reading, no_task, no_pai
 use Rattle.request.specs.Encode.{two_sections, request_bytes}
 use Rattle.request.specs.declared.Task.{Task}
 use Rattle.request.specs.declared.Pair.{Pair}
-use Rattle.cursor.specs.declared.Written.{Written}
+use Rattle.cursor.specs.Written.{Written}
 
 -- the list of a board: a request as it was read
 pub record Board : Type 0 where

@@ -14,12 +14,12 @@ use Rattle.request.specs.Answers.{request_answered}
 use Rattle.request.specs.AnswerLaws.{not_read}
 use Rattle.request.specs.declared.Task.{Task}
 use Rattle.request.specs.declared.Pair.{Pair}
-use Rattle.request.specs.declared.Request.{Request}
+use Rattle.request.specs.Numbered.{Request}
 use Rattle.cursor.specs.Written.{written, buffer}
 use Rattle.request.specs.Written.{request_answer, request_buffer}
 use Rattle.request.specs.FileLaws.{refusal_answered, request_answered_lem}
 use Rattle.request.specs.Places.{ReadAs, first_tasks, first_pairs, places_hold}
-use Rattle.cursor.specs.declared.Written.{Written}
+use Rattle.cursor.specs.Written.{Written}
 use Rattle.join.specs.Joined.{raised_by, joined_tasks, joined_pairs, misfit, unless, joined}
 
 -- An array with one element more behind those of two lists.

@@ -14,7 +14,7 @@ use Rattle.cursor.specs.Written.{too_short, written, buffer}
 use Rattle.request.specs.Written.{request_answer, request_buffer}
 use Rattle.request.specs.WriteLaws.{bytes_short}
 use Rattle.request.specs.FileLaws.{no_silence, refusal_answered, request_answered_lem}
-use Rattle.cursor.specs.declared.Written.{Written}
+use Rattle.cursor.specs.Written.{Written}
 use Rattle.join.specs.Joined.{joined_tasks, joined_pairs, joined}
 use Rattle.join.specs.JoinLaws.{many_tasks, many_pairs, other_silence, all_fit}
 use Rattle.join.specs.Exactly.{Board, ReadsAs, both_tasks, both_pairs, JoinFile, OfBoards, JoinInto, JoinExact}

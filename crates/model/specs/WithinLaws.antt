@@ -1,16 +1,21 @@
 -- What a request within the limits keeps. A cycle that `cycle::read` or `cycle::of` answers without a refusal is within the limits.
-use Rattle.std.specs.Prelude.{ℕ, ◌≡◌, refl, List, ◌↔◌, ◌⊎◌}
+use Rattle.std.specs.Prelude.{ℕ, ◌≡◌, refl, List, ◌↔◌, ◌⊎◌, Ok, Err}
 use Rattle.std.proofs.Common.{sym, ap, subst, ◌∙◌, inl, inr, arith}
+use Rattle.refusal.specs.Refusal.{number_of}
+use Rattle.refusal.specs.declared.Refusal.{Refusal}
+use Rattle.request.specs.Request.{readable}
+use Rattle.request.specs.SectionLaws.{no_zero}
 use Rattle.request.specs.declared.Task.{Task}
 use Rattle.request.specs.declared.Pair.{Pair}
 use Rattle.request.specs.declared.Request.{Request}
 use Rattle.cycle.specs.Cycle.{Cycle, cycle, no_cycle, cycle_of, after_reading}
 use Rattle.cycle.specs.Answers.{AsRead, cycle_for, cycle_answered}
+use Rattle.cycle.specs.Numbered as numbered
 use Rattle.cycle.specs.LimitLaws.{WithinLimits, after_within, after_number, cycle_within, no_cycle_number, request_number_pos}
 use Rattle.cycle.specs.Planned.{InPlanningOrder}
 use Rattle.cycle.specs.Exactly.{HasCycle}
 use Rattle.cycle.specs.Theorem.{cycle_exactly, cycle_there}
-use Rattle.cycle.specs.ReadLaws.{as_read_cycle}
+use Rattle.cycle.specs.ReadLaws.{as_read_cycle, said_answered}
 use Rattle.cycle.specs.declared.Job.{Job}
 use Rattle.cycle.specs.declared.Cycle as answer
 use Rattle.model.specs.Plan.{Instance}
@@ -63,36 +68,45 @@ module _ (tasks : List Task) (pairs : List Pair) (g h : ℕ) (jobs : List Job) (
     }
 
 -- the answer of `cycle::of`
-pub of_in_limits : (r : Request) → AsRead r → (c : answer.Cycle) → c ≡ cycle_answered (cycle_for r) → c.refusal ≡ 0 → InLimits c
-of_in_limits r a c is z = go (after_reading a.read) refl (is ∙ ap cycle_answered (as_read_cycle a))
+pub of_in_limits : (r : Request) → AsRead r → (c : answer.Cycle) → numbered.cycle_said (Ok c) ≡ numbered.cycle_numbered (cycle_for r) → InLimits c
+of_in_limits r a c is = go (after_reading (readable a.tasks a.pairs a.g)) refl (is ∙ ap numbered.cycle_numbered (as_read_cycle a))
   where
-    go : (d : Cycle) → after_reading a.read ≡ d → c ≡ cycle_answered d → InLimits c
-    go (cycle tasks pairs g h jobs) e q = in_limits tasks pairs g h jobs (after_within a.read a.kept tasks pairs g h jobs e) c q
-    go (no_cycle number) e q = absurd (omega (arith, ap (λ (d : answer.Cycle). d.refusal) q, request_number_pos (after_number a.read a.kept number e)))
+    go : (d : Cycle) → after_reading (readable a.tasks a.pairs a.g) ≡ d → numbered.cycle_said (Ok c) ≡ numbered.cycle_numbered d → InLimits c
+    go (cycle tasks pairs g h jobs) e q =
+        let w = after_within (readable a.tasks a.pairs a.g) a.kept tasks pairs g h jobs e in
+        in_limits tasks pairs g h jobs w c (said_answered (cycle tasks pairs g h jobs) q)
+    go (no_cycle number) e q =
+        let positive = request_number_pos (after_number (readable a.tasks a.pairs a.g) a.kept number e) in
+        absurd (omega (arith, ap (λ (d : numbered.Cycle). d.refusal) q, positive))
 
 -- The answer of `cycle::read` tells what is planned, and that it is within the limits; or the number of the refusal.
 pub record Taken (request : List ℕ) (c : answer.Cycle) : Type 0 where
   pub within : Within request (instance_of c)
   pub limits : InLimits c
 
-module _ (request : List ℕ) (c : answer.Cycle) (is : c ≡ cycle_answered (cycle_of request)) where
-  pub read_within : c.refusal ≡ 0 → Taken request c
-  read_within z = go (cycle_of request) refl is
-    where
-      go : (d : Cycle) → cycle_of request ≡ d → c ≡ cycle_answered d → Taken request c
-      go (cycle tasks pairs g h jobs) e q =
-          let w = cycle_within request tasks pairs g h jobs e in
-          let same = same_instance tasks pairs g h jobs w c q in
-          record {
-            within = e ∙ ap (λ (x : Instance). cycle x.tasks x.pairs x.g x.h x.jobs) (sym same);
-            limits = in_limits tasks pairs g h jobs w c q;
-          }
-      go (no_cycle number) e q =
-          absurd (omega (arith, ap (λ (d : answer.Cycle). d.refusal) q, request_number_pos (no_cycle_number request number e)))
+-- the cycle of a request that is not refused
+pub read_within : (request : List ℕ) (c : answer.Cycle) → c ≡ cycle_answered (cycle_of request) → numbered.cycle_number (cycle_of request) ≡ 0 → Taken request c
+read_within request c is z = go (cycle_of request) refl is z
+  where
+    go : (d : Cycle) → cycle_of request ≡ d → c ≡ cycle_answered d → numbered.cycle_number d ≡ 0 → Taken request c
+    go (cycle tasks pairs g h jobs) e q none =
+        let w = cycle_within request tasks pairs g h jobs e in
+        let same = same_instance tasks pairs g h jobs w c q in
+        record {
+          within = e ∙ ap (λ (x : Instance). cycle x.tasks x.pairs x.g x.h x.jobs) (sym same);
+          limits = in_limits tasks pairs g h jobs w c q;
+        }
+    go (no_cycle number) e q none = absurd (omega (arith, none, request_number_pos (no_cycle_number request number e)))
 
-  pub read_refused : (c.refusal ≡ 0 → ⊥) → cycle_of request ≡ no_cycle c.refusal
-  read_refused ne = go (cycle_of request) refl is
-    where
-      go : (d : Cycle) → cycle_of request ≡ d → c ≡ cycle_answered d → cycle_of request ≡ no_cycle c.refusal
-      go (cycle tasks pairs g h jobs) e q = absurd (ne (ap (λ (d : answer.Cycle). d.refusal) q))
-      go (no_cycle number) e q = e ∙ ap no_cycle (sym (ap (λ (d : answer.Cycle). d.refusal) q))
+-- the answer of `cycle::read`: a cycle,
+pub read_taken : (request : List ℕ) (c : answer.Cycle) → numbered.cycle_said (Ok c) ≡ numbered.cycle_numbered (cycle_of request) → Taken request c
+read_taken request c is =
+    read_within request c (said_answered (cycle_of request) is) (ap (λ (d : numbered.Cycle). d.refusal) (sym is))
+
+-- or a refusal
+pub read_refused : (request : List ℕ) (e : Refusal) → numbered.cycle_said (Err e) ≡ numbered.cycle_numbered (cycle_of request) → cycle_of request ≡ no_cycle (number_of e)
+read_refused request e is = go (cycle_of request) refl is
+  where
+    go : (d : Cycle) → cycle_of request ≡ d → numbered.cycle_said (Err e) ≡ numbered.cycle_numbered d → cycle_of request ≡ no_cycle (number_of e)
+    go (cycle tasks pairs g h jobs) at q = absurd (no_zero e (ap (λ (d : numbered.Cycle). d.refusal) q))
+    go (no_cycle number) at q = at ∙ ap no_cycle (sym (ap (λ (d : numbered.Cycle). d.refusal) q))

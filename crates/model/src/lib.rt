@@ -1,10 +1,8 @@
 #![tactic(auto)]
 // The plausible frame lengths of a request.
-ghost use Rattle.std.specs.Prelude.{◌≡◌, ◌≤◌, ◌<◌};
-ghost use Rattle.cursor.specs.Padded.{firsts};
-ghost use Rattle.request.specs.Request.{no_task};
+ghost use Rattle.std.specs.Prelude.{◌≡◌, ◌<◌};
 ghost use Rattle.model.specs.Plan.{slot};
-ghost use Rattle.model.specs.Plausible.{phase_rule, frame_rules, plausible};
+ghost use Rattle.model.specs.Plausible.{phase_rule, frame_rule, frame_rules, plausible};
 ghost use Rattle.model.specs.Answers.{instance_of};
 
 use cycle::Cycle;
@@ -30,39 +28,25 @@ fn phase_rule(f: u16, task: Task) -> bool
     2 * (f as u32) <= (task.d as u32) + (p as u32)
 }
 
-// f ≥ C + g and the rule of the phase for the first n tasks.
-fn frame_rules(tasks: [Task; 16], n: usize, g: u8, f: u16) -> bool
-    requires { (n ≤ 16) × (0 < f) }
-    ensures { result ≡ frame_rules phase_rule g f (firsts n no_task tasks) }
+// f ≥ C + g and the rule of the phase.
+fn frame_rule(task: Task, g: u8, f: u16) -> bool
+    requires { 0 < f }
+    ensures { result ≡ frame_rule phase_rule g f task }
 {
-    let mut i: usize = 0;
-    while i < n {
-        let x = tasks[i];
-        if (f as u32) < slot(g, x) {
-            return false;
-        }
-        if !phase_rule(f, x) {
-            return false;
-        }
-        i += 1;
-    }
-    true
+    slot(g, task) <= (f as u32) && phase_rule(f, task)
+}
+
+fn frame_rules(tasks: &[Task], g: u8, f: u16) -> bool
+    requires { 0 < f }
+    ensures { result ≡ frame_rules phase_rule g f tasks.now }
+{
+    tasks.iter().all(|task| frame_rule(*task, g, f))
 }
 
 // Whether f divides the cycle into at most 256 rows and keeps the frame rule of every task.
 pub fn plausible(cycle: Cycle, f: u16) -> bool
     ensures { result ≡ plausible (instance_of cycle) f }
 {
-    if f < 1 {
-        return false;
-    }
-    if cycle.h % f != 0 {
-        return false;
-    }
-    if 256 < cycle.h / f {
-        return false;
-    }
-    let tasks = cycle.tasks;
-    let n = arith::at_most(cycle.n, 16);
-    frame_rules(tasks, n, cycle.g, f)
+    let n = cycle.n.min(16);
+    0 < f && cycle.h % f == 0 && cycle.h / f <= 256 && frame_rules(&cycle.tasks[..n], cycle.g, f)
 }

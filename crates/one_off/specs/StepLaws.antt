@@ -22,9 +22,9 @@ use Rattle.table.specs.Inverse.{decode_wellformed}
 use Rattle.table.specs.Answers.{sizes_of, row_given, row_at, entries_said}
 use Rattle.table.specs.AnswerLaws.{entries_at, entries_more, entries_none, entries_given, given_count, sizes_table, row_answered_lem}
 use Rattle.table.specs.RowsLeft.{RowsLeft, row_there, rows_go_on}
-use Rattle.table.specs.declared.Row.{Row}
-use Rattle.table.specs.declared.TakenRow.{TakenRow}
-use Rattle.table.specs.declared.Sizes.{Sizes}
+use Rattle.table.specs.Answers.{Row}
+use Rattle.table.specs.Answers.{TakenRow}
+use Rattle.table.specs.Answers.{Sizes}
 use Rattle.model.specs.Plan.{Instance, slot}
 use Rattle.model.specs.Slots.{slots}
 use Rattle.model.specs.Answers.{instance_of}

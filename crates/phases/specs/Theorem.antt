@@ -17,7 +17,7 @@ use Rattle.model.specs.Answers.{instance}
 use Rattle.model.specs.Within.{Within}
 use Rattle.model.specs.WithinLaws.{within_limits, within_or_not}
 use Rattle.model.specs.Chosen.{Choice, chosen, no_plan, no_plausible, choose}
-use Rattle.cursor.specs.declared.Written.{Written}
+use Rattle.cursor.specs.Written.{Written}
 use Rattle.plan_writer.specs.Outcome.{Outcome, handed, refusal, outcome_answer}
 use Rattle.planner.specs.Outcome.{by_choice, in_cycle, outcome, request_tries, outcome_within, searched_answer}
 use Rattle.planner.specs.PlanLaws.{within_reached, within_exceeded}

@@ -11,7 +11,7 @@ use Rattle.request.specs.Request.{Reading, readable, unreadable, reading, no_tas
 use Rattle.request.specs.ReadableLaws.{readable_kept}
 use Rattle.request.specs.Answers.{request_answered}
 use Rattle.request.specs.declared.Task.{Task}
-use Rattle.request.specs.declared.Request.{Request}
+use Rattle.request.specs.Numbered.{Request}
 use Rattle.table.specs.Table.{Entry, Table, Decoded, table, malformed, decode, entry_of, row_of}
 use Rattle.table.specs.Inverse.{decode_wellformed}
 use Rattle.table.specs.EntryLaws.{task_of_byte, number_of_byte}
@@ -19,9 +19,9 @@ use Rattle.table.specs.RisingLaws.{row_rises, row_few}
 use Rattle.table.specs.Answers.{sizes_of, row_given, row_answer, row_at, entries_said}
 use Rattle.table.specs.AnswerLaws.{entries_at, entries_more, entries_none, entries_given, given_count, row_answered_lem}
 use Rattle.table.specs.RowsLeft.{RowsLeft, row_there, rows_go_on}
-use Rattle.table.specs.declared.Sizes.{Sizes}
-use Rattle.table.specs.declared.TakenRow.{TakenRow}
-use Rattle.table.specs.declared.Row.{Row}
+use Rattle.table.specs.Answers.{Sizes}
+use Rattle.table.specs.Answers.{TakenRow}
+use Rattle.table.specs.Answers.{Row}
 use Rattle.text.specs.Text.{ascii, decimal_of, Filled, put_all_of}
 use Rattle.text.specs.TextLaws.{put_none, put_append}
 use Rattle.plan_listing.specs.Listing.{head_line, busy_ticks, named, each, row_line, row_lines, table_lines, tasks_in}

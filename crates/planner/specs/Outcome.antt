@@ -2,7 +2,7 @@
 use Rattle.std.specs.Prelude.{List, ℕ, min, Bool, cond, ltb}
 use Rattle.request.specs.declared.Task.{Task}
 use Rattle.cycle.specs.Cycle.{Cycle, cycle, no_cycle, cycle_of}
-use Rattle.cursor.specs.declared.Written.{Written}
+use Rattle.cursor.specs.Written.{Written}
 use Rattle.model.specs.Plan.{Instance}
 use Rattle.model.specs.Answers.{instance}
 use Rattle.model.specs.Plausible.{phase_rule}

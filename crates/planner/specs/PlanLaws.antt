@@ -8,7 +8,7 @@ use Rattle.std.proofs.Math.Dec.{ltb}
 use borrow.Author.Tests.{le-ltb, lt-ltb, ltb-true, ltb-false}
 use Rattle.cycle.specs.Cycle.{no_cycle, cycle_of}
 use Rattle.cycle.specs.declared.Cycle as c
-use Rattle.cursor.specs.declared.Written.{Written}
+use Rattle.cursor.specs.Written.{Written}
 use Rattle.model.specs.Plan.{Instance}
 use Rattle.model.specs.Answers.{instance_of}
 use Rattle.model.specs.WithinLaws.{Taken}

@@ -10,7 +10,7 @@ use Rattle.cycle.specs.LimitLaws.{cycle_within, no_cycle_number, request_number_
 use Rattle.table.specs.Table.{Table, encode}
 use Rattle.table.specs.WellFormed.{WellFormed}
 use Rattle.table.specs.LengthLaws.{entry_count}
-use Rattle.cursor.specs.declared.Written.{Written}
+use Rattle.cursor.specs.Written.{Written}
 use Rattle.model.specs.Plan.{Instance}
 use Rattle.model.specs.Good.{Good}
 use Rattle.model.specs.Answers.{instance}

@@ -8,7 +8,7 @@ use Rattle.request.specs.Readable.{Readable}
 use Rattle.request.specs.ReadableLaws.{readable_kept, unreadable_number, unread_pos}
 use Rattle.request.specs.declared.Task.{Task}
 use Rattle.request.specs.declared.Pair.{Pair}
-use Rattle.request.specs.declared.Request.{Request}
+use Rattle.request.specs.Numbered.{Request}
 
 -- the request was read
 pub record WasRead (bytes : List ℕ) (r : Request) : Type 0 where

@@ -6,7 +6,7 @@ use Rattle.request.specs.Readable.{TaskKept}
 use Rattle.request.specs.Answers.{request_answered}
 use Rattle.request.specs.declared.Task.{Task}
 use Rattle.request.specs.declared.Pair.{Pair}
-use Rattle.request.specs.declared.Request.{Request}
+use Rattle.request.specs.Numbered.{Request}
 
 -- the counts and records of a request, and its end
 pub data Place : Type 0 where

@@ -1,5 +1,6 @@
 -- To be believed:
 pub mod Request
+pub mod Numbered
 pub mod Encode
 pub mod Readable
 pub mod Exactly

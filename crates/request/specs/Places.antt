@@ -11,7 +11,7 @@ use Rattle.request.specs.AnswerLaws.{was_read}
 use Rattle.request.specs.Readable.{Readable}
 use Rattle.request.specs.declared.Task.{Task}
 use Rattle.request.specs.declared.Pair.{Pair}
-use Rattle.request.specs.declared.Request.{Request}
+use Rattle.request.specs.Numbered.{Request}
 
 -- a request that was read
 pub record ReadAs (bytes : List ℕ) (x : Request) : Type 0 where

@@ -1,22 +1,16 @@
 -- The laws by which the readers of a record go: a task is 8 bytes wide and a pair 2, so an answer with a cursor tells what the
 -- definition reads there.
-use Rattle.std.specs.Prelude.{ℕ, ◌+◌, ◌≤◌, ◌≡◌, refl, List, drop}
+use Rattle.std.specs.Prelude.{ℕ, ◌+◌, ◌≤◌, ◌≡◌, refl, List, drop, Some}
 use Rattle.std.proofs.Common.{arith}
 use Rattle.cursor.specs.Parsed.{got, refused}
 use Rattle.cursor.specs.Fields.{byte_of, word_of, byte_at, word_at}
 use Rattle.cursor.specs.FieldLaws.{byte_taken, word_taken}
-use Rattle.cursor.specs.Widths.{Wide, byte_wide, word_wide, then_wide, rule_wide, Told, a_record, a_number, record_taken, record_refused}
+use Rattle.cursor.specs.Widths.{Wide, byte_wide, word_wide, then_wide, rule_wide, a_record, a_number, record_taken, record_refused}
 use Rattle.cursor.specs.declared.Cursor.{Cursor}
-use Rattle.cursor.specs.declared.ByteRead.TheVariants.{Byte}
-use Rattle.cursor.specs.declared.WordRead.TheVariants.{Word}
 use Rattle.request.specs.Request.{task_of, judged_task, task_rule, pair_of, judged_pair, pair_rule}
 use Rattle.request.specs.Answers.{task_read, pair_read}
 use Rattle.request.specs.declared.Task.{Task}
 use Rattle.request.specs.declared.Pair.{Pair}
-use Rattle.request.specs.declared.TaskRead.{TaskRead}
-use Rattle.request.specs.declared.TaskRead.TheVariants.{OneTask, NoTask}
-use Rattle.request.specs.declared.PairRead.{PairRead}
-use Rattle.request.specs.declared.PairRead.TheVariants.{OnePair, NoPair}
 
 -- the numbers of the first section and of the second
 abbrev pub TaskNumber : ℕ → Type 0
@@ -44,7 +38,7 @@ pair_wide tasks bytes =
 
 -- four words in a row are a task, which is judged
 module _ (s : List ℕ) (at : ℕ) {c t d p : ℕ} {k1 k2 k3 k4 : Cursor}
-    (e1 : word_at s at ≡ Word c k1) (e2 : word_at s k1.at ≡ Word t k2) (e3 : word_at s k2.at ≡ Word d k3) (e4 : word_at s k3.at ≡ Word p k4) where
+    (e1 : word_at s at ≡ Some (c, k1)) (e2 : word_at s k1.at ≡ Some (t, k2)) (e3 : word_at s k2.at ≡ Some (d, k3)) (e4 : word_at s k3.at ≡ Some (p, k4)) where
   pub task_words : task_of (drop at s) ≡ judged_task (record { c = c; t = t; d = d; p = p }) (drop k4.at s)
   unfolding task_of
   task_words =
@@ -59,7 +53,7 @@ module _ (s : List ℕ) (at : ℕ) {c t d p : ℕ} {k1 k2 k3 k4 : Cursor}
       λ i. record { at = moved i }
 
 -- two bytes in a row are a pair, which is judged
-module _ (s : List ℕ) (at : ℕ) {a b : ℕ} {k1 k2 : Cursor} (e1 : byte_at s at ≡ Byte a k1) (e2 : byte_at s k1.at ≡ Byte b k2) where
+module _ (s : List ℕ) (at : ℕ) {a b : ℕ} {k1 k2 : Cursor} (e1 : byte_at s at ≡ Some (a, k1)) (e2 : byte_at s k1.at ≡ Some (b, k2)) where
   pub pair_bytes_lem : (tasks : List Task) → pair_of tasks (drop at s) ≡ judged_pair tasks a b (drop k2.at s)
   unfolding pair_of
   pair_bytes_lem tasks = simp ((byte_taken 1 s at a k1 e1).field, (byte_taken 1 s k1.at b k2 e2).field)
@@ -69,27 +63,18 @@ module _ (s : List ℕ) (at : ℕ) {a b : ℕ} {k1 k2 : Cursor} (e1 : byte_at s 
       let moved : k2.at ≡ at + 2 = omega (arith, (byte_taken 1 s at a k1 e1).moved, (byte_taken 1 s k1.at b k2 e2).moved) in
       λ i. record { at = moved i }
 
--- what the answer for a record tells
-abbrev task_told : TaskRead → Told Task
-task_told (OneTask x next) = a_record x next
-task_told (NoTask number) = a_number number
-
-abbrev pair_told : PairRead → Told Pair
-pair_told (OnePair x next) = a_record x next
-pair_told (NoPair number) = a_number number
-
 module _ (s : List ℕ) (at : ℕ) where
-  pub task_taken : {x : Task} {next : Cursor} → task_read at (task_of (drop at s)) ≡ OneTask x next
+  pub task_taken : {x : Task} {next : Cursor} → task_read at (task_of (drop at s)) ≡ a_record x next
       → (task_of (drop at s) ≡ got x (drop next.at s)) × (next.at ≡ at + 8)
-  task_taken = record_taken OneTask NoTask task_told (λ x next. refl) (λ number. refl) 8 at s TaskNumber (task_of (drop at s)) (task_wide (drop at s)) _ _
+  task_taken = record_taken a_record a_number (λ t. t) (λ x next. refl) (λ number. refl) 8 at s TaskNumber (task_of (drop at s)) (task_wide (drop at s)) _ _
 
-  pub task_refused : {number : ℕ} → task_read at (task_of (drop at s)) ≡ NoTask number → task_of (drop at s) ≡ refused number
-  task_refused = record_refused OneTask NoTask task_told (λ x next. refl) (λ number. refl) 8 at s (task_of (drop at s)) _
+  pub task_refused : {number : ℕ} → task_read at (task_of (drop at s)) ≡ a_number number → task_of (drop at s) ≡ refused number
+  task_refused = record_refused a_record a_number (λ t. t) (λ x next. refl) (λ number. refl) 8 at s (task_of (drop at s)) _
 
 module _ (tasks : List Task) (s : List ℕ) (at : ℕ) where
-  pub pair_taken : {x : Pair} {next : Cursor} → pair_read at (pair_of tasks (drop at s)) ≡ OnePair x next
+  pub pair_taken : {x : Pair} {next : Cursor} → pair_read at (pair_of tasks (drop at s)) ≡ a_record x next
       → (pair_of tasks (drop at s) ≡ got x (drop next.at s)) × (next.at ≡ at + 2)
-  pair_taken = record_taken OnePair NoPair pair_told (λ x next. refl) (λ number. refl) 2 at s PairNumber (pair_of tasks (drop at s)) (pair_wide tasks (drop at s)) _ _
+  pair_taken = record_taken a_record a_number (λ t. t) (λ x next. refl) (λ number. refl) 2 at s PairNumber (pair_of tasks (drop at s)) (pair_wide tasks (drop at s)) _ _
 
-  pub pair_refused : {number : ℕ} → pair_read at (pair_of tasks (drop at s)) ≡ NoPair number → pair_of tasks (drop at s) ≡ refused number
-  pair_refused = record_refused OnePair NoPair pair_told (λ x next. refl) (λ number. refl) 2 at s (pair_of tasks (drop at s)) _
+  pub pair_refused : {number : ℕ} → pair_read at (pair_of tasks (drop at s)) ≡ a_number number → pair_of tasks (drop at s) ≡ refused number
+  pair_refused = record_refused a_record a_number (λ t. t) (λ x next. refl) (λ number. refl) 2 at s (pair_of tasks (drop at s)) _

@@ -4,20 +4,19 @@ use Rattle.std.specs.Prelude.{ℕ, ◌+◌, ◌-◌, ◌*◌, ◌≤◌, ◌<◌
 use Rattle.std.proofs.Common.{sym, ◌∙◌, arith, length-drop, drop-drop, leb-true}
 use Rattle.std.proofs.Math.Path.{ap}
 use Rattle.cursor.specs.Parsed.{Parsed, got, refused, then, records}
-use Rattle.cursor.specs.ParsedLaws.{then_got, rule_got, both_true}
+use Rattle.cursor.specs.ParsedLaws.{never, then_got, rule_got, both_true}
 use Rattle.cursor.specs.Fields.{byte_of}
 use Rattle.cursor.specs.Widths.{Wide, byte_wide, records_wide, records_count}
 use Rattle.cursor.specs.RecordLaws.{SoFar, all_records, records_each}
-use Rattle.cursor.specs.Padded.{padded}
 use Rattle.cursor.specs.PaddedLaws.{padded_length, take_padded}
 use Rattle.request.specs.Request.{section, task_count, task_of, tasks_of, pair_count, pair_of, pairs_of, silent_of, reading, ended, after_pairs, after_tasks, no_task, no_pair}
-use Rattle.request.specs.Answers.{section_answer, task_answer, task_section, pair_answer, pair_section, silent_section, unread, request_answered}
+use Rattle.request.specs.Answers.{SectionTold, section_answer, task_section, pair_section, SilentTold, silent_section, request_answered}
 use Rattle.request.specs.declared.Task.{Task}
 use Rattle.request.specs.declared.Pair.{Pair}
-use Rattle.request.specs.declared.Request.{Request}
-use Rattle.request.specs.declared.TaskSection.{TaskSection}
-use Rattle.request.specs.declared.PairSection.{PairSection}
-use Rattle.request.specs.declared.SilentSection.{SilentSection}
+use Rattle.request.specs.Numbered.{Request, unread}
+use Rattle.refusal.specs.Refusal.{number_of}
+use Rattle.refusal.specs.RefusalLaws.{is_refused}
+use Rattle.refusal.specs.declared.Refusal.{Refusal}
 use Rattle.request.specs.SilentLaws.{SilentRead, silent_section_lem, silent_number_pos}
 use Rattle.request.specs.ReadingLaws.{TaskNumber, PairNumber, task_wide, pair_wide}
 
@@ -100,42 +99,44 @@ pub record SectionOf {A : Type 0} (test : ℕ → Bool) (width : ℕ) (bytes : L
   pub is : r ≡ got items rest
   pub read : SectionRead test width bytes items rest
 
--- What a section is, by its answer, whose refusal number `refusal` gives; and its answer, from its parts.
-module _ {A R : Type 0} (answer : ℕ → ℕ → List A → ℕ → R) (refusal : R → ℕ)
-    (says : (number n : ℕ) (xs : List A) (end : ℕ) → refusal (answer number n xs end) ≡ number)
-    (blank : A) (width : ℕ) where
-  section_refused : (r : Parsed (List A)) → (refusal (section_answer answer blank width r) ≡ 0 → ⊥) → r ≡ refused (refusal (section_answer answer blank width r))
-  section_refused (got xs rest) ne = absurd (ne (says 0 (length xs) (padded 16 blank xs) (1 + width * length xs)))
-  section_refused (refused number) ne = rw says
+-- What a section is, by its answer; and its answer, from its parts.
+module _ {A : Type 0} (blank : A) (width : ℕ) where
+  section_refused : (r : Parsed (List A)) → ((section_answer blank width r).refusal ≡ 0 → ⊥) → r ≡ refused (section_answer blank width r).refusal
+  section_refused (got xs rest) ne = absurd (ne refl)
+  section_refused (refused number) ne = refl
 
   section_got : (Number : ℕ → Type 0) → (Number 0 → ⊥) → (test : ℕ → Bool) (bytes : List ℕ) (r : Parsed (List A)) → Section Number test width bytes r
-      → refusal (section_answer answer blank width r) ≡ 0 → SectionOf test width bytes r
+      → (section_answer blank width r).refusal ≡ 0 → SectionOf test width bytes r
   section_got Number some test bytes (got xs rest) h e = record { items = xs; rest = rest; is = refl; read = h }
-  section_got Number some test bytes (refused number) h e = let none : number ≡ 0 = rw says at e in absurd (some (rw none at h))
+  section_got Number some test bytes (refused number) h e = absurd (some (rw e at h))
 
 -- all its records are read
-module _ {A R : Type 0} (answer : ℕ → ℕ → List A → ℕ → R) (width : ℕ)
+module _ {A : Type 0} (width : ℕ)
     {one : List ℕ → Parsed A} {blank : A} {whole : Parsed (List A)} {s : List ℕ} {n i at : ℕ} {places : List A} where
   pub section_answer_lem : SoFar one 16 blank whole s n i at places → n ≤ i → i ≤ n → at ≡ 1 + width * n
-      → answer 0 n places at ≡ section_answer answer blank width whole
+      → record { refusal = 0; n = n; records = places; end = at } ≡ section_answer blank width whole
   section_answer_lem so_far end most place =
       let size : length so_far.done ≡ n = omega (arith, so_far.count) in
       let bytes : at ≡ 1 + width * length so_far.done = place ∙ rw size in
-      (λ q. answer 0 (sym size q) (so_far.stored q) (bytes q)) ∙ ap (section_answer answer blank width) (sym (all_records so_far end))
+      (λ q. record { refusal = 0; n = sym size q; records = so_far.stored q; end = bytes q }) ∙ ap (section_answer blank width) (sym (all_records so_far end))
+
+-- no refusal has the number 0
+pub no_zero : (e : Refusal) → number_of e ≡ 0 → ⊥
+no_zero e z = let none : true ≡ false = rw z at (is_refused e) in absurd (never (cc))
 
 -- What is known of the first section once its answer has no refusal number.
-pub record FirstSection (s : List ℕ) (a : TaskSection) : Type 0 where
+pub record FirstSection (s : List ℕ) (a : SectionTold Task) : Type 0 where
   pub tasks : List Task
   pub rest : List ℕ
   pub is : tasks_of s ≡ got tasks rest
   pub answer : a ≡ task_section (got tasks rest)
   pub few : a.n ≤ 16
-  pub places : length a.tasks ≡ 16
-  pub listed : take a.n a.tasks ≡ tasks
+  pub places : length a.records ≡ 16
+  pub listed : take a.n a.records ≡ tasks
   pub within : a.end ≤ length s
   pub behind : drop a.end s ≡ rest
 
-section_is : (s : List ℕ) (a : TaskSection) (tasks : List Task) (rest : List ℕ) → tasks_of s ≡ got tasks rest → SectionRead task_count 8 s tasks rest
+section_is : (s : List ℕ) (a : SectionTold Task) (tasks : List Task) (rest : List ℕ) → tasks_of s ≡ got tasks rest → SectionRead task_count 8 s tasks rest
     → a ≡ task_section (got tasks rest) → FirstSection s a
 section_is s a tasks rest is read answer =
     let few = count_some (length tasks) read.counted in
@@ -151,23 +152,23 @@ section_is s a tasks rest is read answer =
       behind = rw answer (sym read.behind);
     }
 
-pub first_section : (s : List ℕ) (a : TaskSection) → a ≡ task_section (tasks_of s) → a.refusal ≡ 0 → FirstSection s a
+pub first_section : (s : List ℕ) (a : SectionTold Task) → a ≡ task_section (tasks_of s) → a.refusal ≡ 0 → FirstSection s a
 first_section s a e z =
-    let none = ap (λ (x : TaskSection). x.refusal) (sym e) ∙ z in
-    let h = section_got task_answer (λ x. x.refusal) (λ number n xs end. refl) no_task 8 TaskNumber (λ k. omega arith) task_count s
+    let none = ap (λ (x : SectionTold Task). x.refusal) (sym e) ∙ z in
+    let h = section_got no_task 8 TaskNumber (λ k. omega arith) task_count s
     (tasks_of s) (tasks_section s) none in
     section_is s a h.items h.rest h.is h.read (e ∙ ap task_section h.is)
 
 -- the request is refused in its first section
-pub refused_first : (s : List ℕ) (a : TaskSection) → a ≡ task_section (tasks_of s) → (a.refusal ≡ 0 → ⊥) → unread a.refusal ≡ request_answered (reading s)
+pub refused_first : (s : List ℕ) (a : SectionTold Task) → a ≡ task_section (tasks_of s) → (a.refusal ≡ 0 → ⊥) → unread a.refusal ≡ request_answered (reading s)
 unfolding reading
 refused_first s a e ne =
-    let number = ap (λ (x : TaskSection). x.refusal) e in
-    let r = section_refused task_answer (λ x. x.refusal) (λ number n xs end. refl) no_task 8 (tasks_of s) (λ z. ne (number ∙ z)) in
+    let number = ap (λ (x : SectionTold Task). x.refusal) e in
+    let r = section_refused no_task 8 (tasks_of s) (λ z. ne (number ∙ z)) in
     rw number (sym (ap (λ (x : Parsed (List Task)). request_answered (after_tasks x)) r))
 
 -- What is known of the second section once its answer has no refusal number: the request is what the bytes behind it make it.
-pub record SecondSection (s : List ℕ) (a : TaskSection) (b : PairSection) : Type 0 where
+pub record SecondSection (s : List ℕ) (a : SectionTold Task) (b : SectionTold Pair) : Type 0 where
   pub first : FirstSection s a
   pub pairs : List Pair
   pub rest : List ℕ
@@ -176,7 +177,7 @@ pub record SecondSection (s : List ℕ) (a : TaskSection) (b : PairSection) : Ty
   pub within : a.end + b.end ≤ length s
   pub behind : drop (a.end + b.end) s ≡ rest
 
-module _ (s : List ℕ) (a : TaskSection) (h : FirstSection s a) (b : PairSection) (e : b ≡ pair_section (pairs_of (take a.n a.tasks) (drop a.end s))) where
+module _ (s : List ℕ) (a : SectionTold Task) (h : FirstSection s a) (b : SectionTold Pair) (e : b ≡ pair_section (pairs_of (take a.n a.records) (drop a.end s))) where
   b_is : b ≡ pair_section (pairs_of h.tasks h.rest)
   b_is = e ∙ rw (h.listed, h.behind)
 
@@ -187,16 +188,16 @@ module _ (s : List ℕ) (a : TaskSection) (h : FirstSection s a) (b : PairSectio
   -- the request is refused in its second section
   pub refused_second : (b.refusal ≡ 0 → ⊥) → unread b.refusal ≡ request_answered (reading s)
   refused_second ne =
-      let number = ap (λ (x : PairSection). x.refusal) b_is in
-      let r = section_refused pair_answer (λ x. x.refusal) (λ number m xs end. refl) no_pair 2 (pairs_of h.tasks h.rest) (λ z. ne (number ∙ z)) in
+      let number = ap (λ (x : SectionTold Pair). x.refusal) b_is in
+      let r = section_refused no_pair 2 (pairs_of h.tasks h.rest) (λ z. ne (number ∙ z)) in
       rw number (sym (ap request_answered (whole ∙ ap (after_pairs h.tasks) r)))
 
   pub second_section : b.refusal ≡ 0 → SecondSection s a b
   second_section z =
-      let r = section_got pair_answer (λ x. x.refusal) (λ number m xs end. refl) no_pair 2 PairNumber (λ k. omega arith) pair_count h.rest
-      (pairs_of h.tasks h.rest) (pairs_section h.tasks h.rest) (ap (λ (x : PairSection). x.refusal) (sym b_is) ∙ z) in
+      let r = section_got no_pair 2 PairNumber (λ k. omega arith) pair_count h.rest
+      (pairs_of h.tasks h.rest) (pairs_section h.tasks h.rest) (ap (λ (x : SectionTold Pair). x.refusal) (sym b_is) ∙ z) in
       let answer : b ≡ pair_section (got r.items r.rest) = b_is ∙ ap pair_section r.is in
-      let end : b.end ≡ 1 + 2 * length r.items = ap (λ (x : PairSection). x.end) answer in
+      let end : b.end ≡ 1 + 2 * length r.items = ap (λ (x : SectionTold Pair). x.end) answer in
       let size : length h.rest ≡ length s - a.end = rw (← h.behind, length-drop) refl in
       record {
         first = h;
@@ -209,7 +210,7 @@ module _ (s : List ℕ) (a : TaskSection) (h : FirstSection s a) (b : PairSectio
       }
 
 -- the third section, from the bytes behind the second
-module _ (s : List ℕ) (a : TaskSection) (b : PairSection) (k : SecondSection s a b) (c : SilentSection)
+module _ (s : List ℕ) (a : SectionTold Task) (b : SectionTold Pair) (k : SecondSection s a b) (c : SilentTold)
     (e : c ≡ silent_section (drop (a.end + b.end) s) (silent_of (drop (a.end + b.end) s))) where
   c_is : c ≡ silent_section k.rest (silent_of k.rest)
   c_is = rw k.behind at e
@@ -230,17 +231,17 @@ module _ (s : List ℕ) (a : TaskSection) (b : PairSection) (k : SecondSection s
   bytes_follow z more = go (silent_of k.rest) (silent_section_lem k.rest) c_is k.is
     where
       go : (r : Parsed ℕ) → SilentRead k.rest r → c ≡ silent_section k.rest r → reading s ≡ ended k.first.tasks k.pairs r → unread 6 ≡ request_answered (reading s)
-      go (got g []) known q is = absurd (omega (arith, size, ap (λ (x : SilentSection). x.end) q))
+      go (got g []) known q is = absurd (omega (arith, size, ap (λ (x : SilentTold). x.end) q))
       go (got g (x ∷ l)) known q is = rw is
-      go (refused number) known q is = absurd (omega (arith, silent_number_pos known, ap (λ (x : SilentSection). x.refusal) q))
+      go (refused number) known q is = absurd (omega (arith, silent_number_pos known, ap (λ (x : SilentTold). x.refusal) q))
 
   -- the request is read
   pub all_read : c.refusal ≡ 0 → length s - (a.end + b.end) ≤ c.end
-      → ◌≡◌ {A = Request} (record { refusal = 0; n = a.n; tasks = a.tasks; m = b.m; pairs = b.pairs; g = c.g }) (request_answered (reading s))
+      → ◌≡◌ {A = Request} (record { refusal = 0; n = a.n; tasks = a.records; m = b.n; pairs = b.records; g = c.g }) (request_answered (reading s))
   all_read z end = go (silent_of k.rest) (silent_section_lem k.rest) c_is k.is
     where
       go : (r : Parsed ℕ) → SilentRead k.rest r → c ≡ silent_section k.rest r → reading s ≡ ended k.first.tasks k.pairs r
-          → ◌≡◌ {A = Request} (record { refusal = 0; n = a.n; tasks = a.tasks; m = b.m; pairs = b.pairs; g = c.g }) (request_answered (reading s))
+          → ◌≡◌ {A = Request} (record { refusal = 0; n = a.n; tasks = a.records; m = b.n; pairs = b.records; g = c.g }) (request_answered (reading s))
       go (got g []) known q is = rw (k.first.answer, k.answer, q, is)
-      go (got g (x ∷ l)) known q is = absurd (omega (arith, size, ap (λ (x : SilentSection). x.end) q))
-      go (refused number) known q is = absurd (omega (arith, silent_number_pos known, ap (λ (x : SilentSection). x.refusal) q))
+      go (got g (x ∷ l)) known q is = absurd (omega (arith, size, ap (λ (x : SilentTold). x.end) q))
+      go (refused number) known q is = absurd (omega (arith, silent_number_pos known, ap (λ (x : SilentTold). x.refusal) q))

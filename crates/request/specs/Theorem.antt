@@ -20,7 +20,7 @@ use Rattle.request.specs.ExactlyLaws.{find, find_end, found, KeptBelow, Step, st
 use Rattle.request.specs.StepLaws.{tasks_step, pairs_step}
 use Rattle.request.specs.declared.Task.{Task}
 use Rattle.request.specs.declared.Pair.{Pair}
-use Rattle.request.specs.declared.Request.{Request}
+use Rattle.request.specs.Numbered.{Request}
 
 module _ (s : List ℕ) where
   -- A place stops, or all are kept and the bytes say the request.

@@ -1,25 +1,25 @@
 -- What the writer keeps: a section goes into a buffer record by record behind its count, and the sections go there one behind the other.
 use Prim.Native.Nat.{ℕ, zero, suc, ◌+◌, ◌*◌, ◌≤◌, ◌<◌}
-use Rattle.std.specs.Prelude.{◌≡◌, get_or, take, set}
+use Rattle.std.specs.Prelude.{min, ◌≡◌, get_or, take, set}
 use Rattle.std.proofs.Math.Path.{refl}
 use Rattle.std.proofs.Common.{sym, ap, ◌∙◌, zero-add, add-one, drop-drop}
 use mathlib.Core.List.{List, [], ◌∷◌, ◌++◌, flat_map, append-nil, append_assoc}
 use native.Mathlib.Omega.{arith}
 use Rattle.std.proofs.Math.ListN.{length, drop, length-append, length-drop, drop_of_length-le}
-use Rattle.std.proofs.Math.Seq.{drop-cons, drop-set-lt}
+use Rattle.std.proofs.Math.Seq.{drop-cons, drop-set-lt, take-suc}
 use Rattle.std.proofs.lemmas.List.{set_split}
 use Rattle.std.proofs.lemmas.List.Edits.{sets, sets-eq}
 use Rattle.cursor.specs.Fields.{word_bytes}
 use Rattle.cursor.specs.WordBytesLaws.{word_parts, four_stored}
 use Rattle.cursor.specs.Padded.{firsts}
-use Rattle.cursor.specs.PaddedLaws.{firsts_length, get_or_firsts}
+use Rattle.cursor.specs.PaddedLaws.{firsts_length}
 use Rattle.cursor.specs.Pieces.{Placed, PartWay, part_start, part_more, part_end, two_stored}
 use Rattle.request.specs.Request.{no_task, no_pair}
 use Rattle.request.specs.Encode.{task_bytes, pair_bytes, section_bytes, silent_bytes, request_bytes}
 use Rattle.request.specs.declared.Task.{Task}
 use Rattle.request.specs.declared.Pair.{Pair}
 
--- A section of n records, each `width` bytes wide, which stand in the first places of an array.
+-- A section of records, each `width` bytes wide.
 module _ {A : Type 0} (write : A → List ℕ) (width : ℕ) (wide : (x : A) → length (write x) ≡ width) where
   flat_length : (xs : List A) → length (flat_map write xs) ≡ width * length xs
   unfolding flat_map
@@ -30,29 +30,28 @@ module _ {A : Type 0} (write : A → List ℕ) (width : ℕ) (wide : (x : A) →
   unfolding section_bytes
   section_length xs = rw (flat_length xs) (omega arith)
 
-  module _ (blank : A) (xs : List A) (n : ℕ) where
+  module _ (blank : A) (xs : List A) where
     -- the count and the records before record i are in their places
     abbrev pub SectionPart : List ℕ → List ℕ → ℕ → ℕ → Type 0
-    SectionPart old out at i = PartWay (section_bytes write (firsts n blank xs)) old out (flat_map write (drop i (firsts n blank xs))) at
+    SectionPart old out at i = PartWay (section_bytes write xs) old out (flat_map write (drop i xs)) at
 
-    module _ (old : List ℕ) (fits : length (section_bytes write (firsts n blank xs)) ≤ length old) where
+    module _ (old : List ℕ) (fits : length (section_bytes write xs) ≤ length old) where
       pub count_room : 0 < length old
-      count_room = omega (arith, section_length (firsts n blank xs))
+      count_room = omega (arith, section_length xs)
 
-      pub section_start : SectionPart (set old 0 n) (set old 0 n) 1 0
+      pub section_start : SectionPart (set old 0 (length xs)) (set old 0 (length xs)) 1 0
       unfolding section_bytes
       section_start =
-          let records = flat_map write (firsts n blank xs) in
+          let records = flat_map write xs in
           let room : length records ≤ length (drop 1 old) = rw length-drop (omega (arith, fits)) in
-          rw (set_split old 0 n count_room, firsts_length blank xs n) (part_start (n ∷ []) records (drop 1 old) 1 refl room)
+          rw (set_split old 0 (length xs) count_room) (part_start (length xs ∷ []) records (drop 1 old) 1 refl room)
 
     module _ (old out : List ℕ) (at i : ℕ) (so : SectionPart old out at i) where
-      module _ (more : i < n) where
-        section_next : flat_map write (drop i (firsts n blank xs)) ≡ write (get_or xs i blank) ++ flat_map write (drop (i + 1) (firsts n blank xs))
+      module _ (more : i < length xs) where
+        section_next : flat_map write (drop i xs) ≡ write (get_or xs i blank) ++ flat_map write (drop (i + 1) xs)
         unfolding flat_map
         section_next =
-            let there : i < length (firsts n blank xs) = omega (arith, firsts_length blank xs n) in
-            rw (add-one i, drop-cons (firsts n blank xs) i blank there, get_or_firsts blank xs n i more)
+            rw (add-one i, drop-cons xs i blank more)
 
         pub section_room : at + width ≤ length out
         section_room = omega (arith, so.room, so.long, simp length-append at (ap length section_next), wide (get_or xs i blank))
@@ -67,13 +66,12 @@ module _ {A : Type 0} (write : A → List ℕ) (width : ℕ) (wide : (x : A) →
         section_placed part e =
             section_more (take at out ++ part) (rw (e, drop-drop) (sym (append_assoc (take at out) (write (get_or xs i blank)) (drop (at + width) out))))
 
-    pub section_end : (old out : List ℕ) (at i : ℕ) → SectionPart (set old 0 n) out at i → n ≤ i → Placed (section_bytes write (firsts n blank xs)) old out at
+    pub section_end : (old out : List ℕ) (at i : ℕ) → SectionPart (set old 0 (length xs)) out at i → length xs ≤ i → Placed (section_bytes write xs) old out at
     unfolding flat_map
     section_end old out at i so last =
-        let short : length (firsts n blank xs) ≤ i = omega (arith, firsts_length blank xs n) in
-        let none : drop i (firsts n blank xs) ≡ [] = drop_of_length-le (firsts n blank xs) short in
+        let none : drop i xs ≡ [] = drop_of_length-le xs last in
         let done = part_end _ _ _ _ _ so (rw none) in
-        let kept = drop-set-lt (length (section_bytes write (firsts n blank xs))) old 0 n (omega (arith, section_length (firsts n blank xs))) in
+        let kept = drop-set-lt (length (section_bytes write xs)) old 0 (length xs) (omega (arith, section_length xs)) in
         record { whole = done.whole ∙ rw kept; ends = done.ends }
 
 pub task_wide : (x : Task) → length (task_bytes x) ≡ 8
@@ -175,6 +173,12 @@ module _ (s p t entry : List ℕ) (fits : length (s ++ p ++ t) ≤ length entry)
     all_placed last more third =
         part_end _ _ _ _ _ (part_placed _ _ _ _ _ second_part t [] last more (sym (append-nil t)) third) refl
 
+-- The elements in the first places of an array are a part of it.
+pub firsts_are : {A : Type 0} (blank : A) (xs : List A) (n : ℕ) → n ≤ length xs → firsts n blank xs ≡ take n xs
+unfolding firsts
+firsts_are blank xs zero h = refl
+firsts_are blank xs (suc n) h = rw (firsts_are blank xs n (omega arith)) (sym (take-suc xs n blank (omega arith)))
+
 -- The length, which is known before the first byte.
 module _ (tasks : List Task) (n : ℕ) (pairs : List Pair) (m g : ℕ) (entry : List ℕ) where
   abbrev bytes : List ℕ
@@ -183,3 +187,8 @@ module _ (tasks : List Task) (n : ℕ) (pairs : List Pair) (m g : ℕ) (entry : 
   pub request_length : length bytes ≡ 2 + 8 * n + 2 * m + length (silent_bytes g)
   request_length =
       bytes_length (firsts n no_task tasks) (firsts m no_pair pairs) g ∙ rw (firsts_length no_task tasks n, firsts_length no_pair pairs m)
+
+  -- the first places of arrays of 16
+  module _ (count links : ℕ) (e : count ≡ min n 16) (f : links ≡ min m 16) (all_tasks : length tasks ≡ 16) (all_pairs : length pairs ≡ 16) where
+    pub parts_are : request_bytes (take count tasks) (take links pairs) g ≡ request_bytes (firsts (min n 16) no_task tasks) (firsts (min m 16) no_pair pairs) g
+    parts_are = rw (e, f, firsts_are no_task tasks (min n 16) (omega arith), firsts_are no_pair pairs (min m 16) (omega arith))

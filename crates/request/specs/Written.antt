@@ -3,7 +3,7 @@ use Rattle.std.specs.Prelude.{ℕ, List, take}
 use Rattle.cursor.specs.Written.{written, buffer}
 use Rattle.request.specs.Request.{Reading, readable, unreadable}
 use Rattle.request.specs.Encode.{request_bytes}
-use Rattle.cursor.specs.declared.Written.{Written}
+use Rattle.cursor.specs.Written.{Written}
 
 -- A request that is to be written, or the number of a refusal. "A refusal returns its number, length 0 .. and the buffer untouched."
 unfoldable pub request_answer : Reading → List ℕ → Written

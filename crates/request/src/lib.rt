@@ -3,11 +3,13 @@
 // Sections stand in a fixed order, each after its count; every count and record is judged as it is met.
 pub mod write;
 
-ghost use Rattle.std.specs.Prelude.{◌≡◌, ◌≤◌, take, drop, length};
+ghost use Rattle.std.specs.Prelude.{◌≡◌, ◌≤◌, length, drop};
 ghost use Rattle.request.specs.Request.{task_rule, pair_rule, task_of, pair_of, tasks_of, pairs_of, silent_of, reading};
-ghost use Rattle.request.specs.Answers.{task_read, pair_read, task_number, pair_number, no_tasks, no_pairs, no_silent, task_section, pair_section, silent_section, unread, request_answered};
+ghost use Rattle.request.specs.Answers.{task_read, pair_read, record_said, tasks_said, pairs_said, silent_said, task_section, pair_section, silent_section, request_answered};
+ghost use Rattle.request.specs.Numbered.{request_said};
 
-use cursor::{ByteRead, Cursor, WordRead};
+use cursor::Cursor;
+use refusal::Refusal;
 
 // A periodic task: worst transfer time C, period T, deadline D after release, phase P.
 #[derive(Clone, Copy)]
@@ -18,6 +20,16 @@ pub struct Task {
     pub p: u16,
 }
 
+impl Task {
+    // Stands in an unused place.
+    pub const NONE: Task = Task {
+        c: 0,
+        t: 0,
+        d: 0,
+        p: 0,
+    };
+}
+
 // Task a runs before task b.
 #[derive(Clone, Copy)]
 pub struct Pair {
@@ -25,11 +37,14 @@ pub struct Pair {
     pub b: u8,
 }
 
-// A readable request (refusal 0) has n tasks and m pairs, from the first place on, and g silent ticks after every transfer; one that is
-// refused has the number and none.
+impl Pair {
+    // Stands in an unused place.
+    pub const NONE: Pair = Pair { a: 0, b: 0 };
+}
+
+// A readable request: n tasks and m pairs, from the first place on, and g silent ticks after every transfer.
 #[derive(Clone, Copy)]
 pub struct Request {
-    pub refusal: u8,
     pub n: usize,
     pub tasks: [Task; 16],
     pub m: usize,
@@ -37,39 +52,10 @@ pub struct Request {
     pub g: u8,
 }
 
-#[derive(Clone, Copy)]
-pub enum TaskRead {
-    OneTask(Task, Cursor),
-    NoTask(u8),
-}
-
-#[derive(Clone, Copy)]
-pub enum PairRead {
-    OnePair(Pair, Cursor),
-    NoPair(u8),
-}
-
-// A section that was read: its records and where the next section begins.
-#[derive(Clone, Copy)]
-struct TaskSection {
-    refusal: u8,
+// A section that was read: its records, from the first place on, and where the next section begins.
+struct Section<T> {
     n: usize,
-    tasks: [Task; 16],
-    end: usize,
-}
-
-#[derive(Clone, Copy)]
-struct PairSection {
-    refusal: u8,
-    m: usize,
-    pairs: [Pair; 16],
-    end: usize,
-}
-
-#[derive(Clone, Copy)]
-struct SilentSection {
-    refusal: u8,
-    g: u8,
+    records: [T; 16],
     end: usize,
 }
 
@@ -77,286 +63,156 @@ struct SilentSection {
 fn keeps_task_rule(x: Task) -> bool
     ensures { result ≡ task_rule x }
 {
-    if x.c < 1 {
-        return false;
-    }
-    if x.d < x.c {
-        return false;
-    }
-    if x.t < x.d {
-        return false;
-    }
-    if x.t <= x.p {
-        return false;
-    }
-    true
+    1 <= x.c && x.c <= x.d && x.d <= x.t && x.p < x.t
 }
 
-fn read_task(s: &[u8], from: Cursor) -> TaskRead
-    ensures { result ≡ task_read from.at (task_of (drop from.at s.now)) }
+fn read_task(s: &[u8], from: Cursor) -> Result<(Task, Cursor), Refusal>
+    ensures { record_said result ≡ task_read from.at (task_of (drop from.at s.now)) }
 {
-    let WordRead::Word(c, after_c) = from.word(s) else {
-        return TaskRead::NoTask(1);
+    let Some((c, after_c)) = from.word(s) else {
+        return Err(Refusal::EndsEarly);
     };
-    let WordRead::Word(t, after_t) = after_c.word(s) else {
-        return TaskRead::NoTask(1);
+    let Some((t, after_t)) = after_c.word(s) else {
+        return Err(Refusal::EndsEarly);
     };
-    let WordRead::Word(d, after_d) = after_t.word(s) else {
-        return TaskRead::NoTask(1);
+    let Some((d, after_d)) = after_t.word(s) else {
+        return Err(Refusal::EndsEarly);
     };
-    let WordRead::Word(p, after_p) = after_d.word(s) else {
-        return TaskRead::NoTask(1);
+    let Some((p, after_p)) = after_d.word(s) else {
+        return Err(Refusal::EndsEarly);
     };
     let x = Task { c, t, d, p };
     if keeps_task_rule(x) {
-        TaskRead::OneTask(x, after_p)
+        Ok((x, after_p))
     } else {
-        TaskRead::NoTask(3)
-    }
-}
-
-fn number_of_task(r: TaskRead) -> u8
-    ensures { result ≡ task_number r }
-{
-    match r {
-        TaskRead::OneTask(_, _) => 0,
-        TaskRead::NoTask(number) => number,
-    }
-}
-
-fn no_tasks(refusal: u8) -> TaskSection
-    ensures { result ≡ no_tasks refusal }
-{
-    TaskSection {
-        refusal,
-        n: 0,
-        tasks: [Task {
-            c: 0,
-            t: 0,
-            d: 0,
-            p: 0,
-        }; 16],
-        end: 0,
+        Err(Refusal::TaskRule)
     }
 }
 
 // The first section, from the front of s.
-fn read_tasks(s: &[u8]) -> TaskSection
-    ensures { result ≡ task_section (tasks_of s.now) }
+fn read_tasks(s: &[u8]) -> Result<Section<Task>, Refusal>
+    ensures { tasks_said result ≡ task_section (tasks_of s.now) }
 {
     let front = Cursor { at: 0 };
-    let ByteRead::Byte(count, start) = front.byte(s) else {
-        return no_tasks(1);
+    let Some((count, start)) = front.byte(s) else {
+        return Err(Refusal::EndsEarly);
     };
-    if count < 1 {
-        return no_tasks(2);
-    }
-    if 16 < count {
-        return no_tasks(2);
+    if count < 1 || 16 < count {
+        return Err(Refusal::TaskCount);
     }
     let n = count as usize;
-    let mut tasks = [Task {
-        c: 0,
-        t: 0,
-        d: 0,
-        p: 0,
-    }; 16];
+    let mut records = [Task::NONE; 16];
     let mut here = start;
-    let mut i: usize = 0;
-    while i < n {
-        let r = read_task(s, here);
-        let TaskRead::OneTask(x, next) = r else {
-            return no_tasks(number_of_task(r));
-        };
-        tasks[i] = x;
+    for i in 0..n {
+        let (task, next) = read_task(s, here)?;
+        records[i] = task;
         here = next;
-        i += 1;
     }
-    TaskSection {
-        refusal: 0,
+    Ok(Section {
         n,
-        tasks,
+        records,
         end: here.at,
-    }
+    })
 }
 
 // a < b < n and equal T.
-fn keeps_pair_rule(tasks: [Task; 16], n: usize, a: u8, b: u8) -> bool
-    requires { (n ≤ 16) × (length tasks ≡ 16) }
-    ensures { result ≡ pair_rule (take n tasks) a b }
+fn keeps_pair_rule(tasks: &[Task], a: u8, b: u8) -> bool
+    ensures { result ≡ pair_rule tasks.now a b }
 {
     let first = a as usize;
     let second = b as usize;
-    if second <= first {
-        return false;
-    }
-    if n <= second {
-        return false;
-    }
-    let x = tasks[first];
-    let y = tasks[second];
-    x.t == y.t
+    first < second && second < tasks.len() && tasks[first].t == tasks[second].t
 }
 
-fn read_pair(s: &[u8], from: Cursor, tasks: [Task; 16], n: usize) -> PairRead
-    requires { (n ≤ 16) × (length tasks ≡ 16) }
-    ensures { result ≡ pair_read from.at (pair_of (take n tasks) (drop from.at s.now)) }
+fn read_pair(s: &[u8], from: Cursor, tasks: &[Task]) -> Result<(Pair, Cursor), Refusal>
+    ensures { record_said result ≡ pair_read from.at (pair_of tasks.now (drop from.at s.now)) }
 {
-    let ByteRead::Byte(a, after_a) = from.byte(s) else {
-        return PairRead::NoPair(1);
+    let Some((a, after_a)) = from.byte(s) else {
+        return Err(Refusal::EndsEarly);
     };
-    let ByteRead::Byte(b, after_b) = after_a.byte(s) else {
-        return PairRead::NoPair(1);
+    let Some((b, after_b)) = after_a.byte(s) else {
+        return Err(Refusal::EndsEarly);
     };
-    if keeps_pair_rule(tasks, n, a, b) {
-        PairRead::OnePair(Pair { a, b }, after_b)
+    if keeps_pair_rule(tasks, a, b) {
+        Ok((Pair { a, b }, after_b))
     } else {
-        PairRead::NoPair(5)
-    }
-}
-
-fn number_of_pair(r: PairRead) -> u8
-    ensures { result ≡ pair_number r }
-{
-    match r {
-        PairRead::OnePair(_, _) => 0,
-        PairRead::NoPair(number) => number,
-    }
-}
-
-fn no_pairs(refusal: u8) -> PairSection
-    ensures { result ≡ no_pairs refusal }
-{
-    PairSection {
-        refusal,
-        m: 0,
-        pairs: [Pair { a: 0, b: 0 }; 16],
-        end: 0,
+        Err(Refusal::PairRule)
     }
 }
 
 // The second section, from the front of s, for the tasks of the first.
-fn read_pairs(s: &[u8], tasks: [Task; 16], n: usize) -> PairSection
-    requires { (n ≤ 16) × (length tasks ≡ 16) }
-    ensures { result ≡ pair_section (pairs_of (take n tasks) s.now) }
+fn read_pairs(s: &[u8], tasks: &[Task]) -> Result<Section<Pair>, Refusal>
+    ensures { pairs_said result ≡ pair_section (pairs_of tasks.now s.now) }
 {
     let front = Cursor { at: 0 };
-    let ByteRead::Byte(count, start) = front.byte(s) else {
-        return no_pairs(1);
+    let Some((count, start)) = front.byte(s) else {
+        return Err(Refusal::EndsEarly);
     };
     if 16 < count {
-        return no_pairs(4);
+        return Err(Refusal::PairCount);
     }
     let m = count as usize;
-    let mut pairs = [Pair { a: 0, b: 0 }; 16];
+    let mut records = [Pair::NONE; 16];
     let mut here = start;
-    let mut i: usize = 0;
-    while i < m {
-        let r = read_pair(s, here, tasks, n);
-        let PairRead::OnePair(x, next) = r else {
-            return no_pairs(number_of_pair(r));
-        };
-        pairs[i] = x;
+    for i in 0..m {
+        let (pair, next) = read_pair(s, here, tasks)?;
+        records[i] = pair;
         here = next;
-        i += 1;
     }
-    PairSection {
-        refusal: 0,
-        m,
-        pairs,
+    Ok(Section {
+        n: m,
+        records,
         end: here.at,
-    }
+    })
 }
 
-fn no_silent(refusal: u8) -> SilentSection
-    ensures { result ≡ no_silent refusal }
-{
-    SilentSection {
-        refusal,
-        g: 0,
-        end: 0,
-    }
-}
-
-// The third section, from the front of s: the silent ticks, and 0 where it is left out.
-fn read_silent(s: &[u8]) -> SilentSection
-    ensures { result ≡ silent_section s.now (silent_of s.now) }
+// The third section, from the front of s, and where it ends: the silent ticks, and 0 where it is left out.
+fn read_silent(s: &[u8]) -> Result<(u8, usize), Refusal>
+    ensures { silent_said result ≡ silent_section s.now (silent_of s.now) }
 {
     let front = Cursor { at: 0 };
-    let ByteRead::Byte(count, start) = front.byte(s) else {
-        return no_silent(0);
+    let Some((count, start)) = front.byte(s) else {
+        return Ok((0, 0));
     };
     if 1 < count {
-        return no_silent(17);
+        return Err(Refusal::SilentSection);
     }
     if count == 0 {
-        return SilentSection {
-            refusal: 0,
-            g: 0,
-            end: start.at,
-        };
+        return Ok((0, start.at));
     }
-    let ByteRead::Byte(g, behind) = start.byte(s) else {
-        return no_silent(1);
+    let Some((g, behind)) = start.byte(s) else {
+        return Err(Refusal::EndsEarly);
     };
     if 15 < g {
-        return no_silent(17);
+        return Err(Refusal::SilentSection);
     }
-    SilentSection {
-        refusal: 0,
-        g,
-        end: behind.at,
-    }
+    Ok((g, behind.at))
 }
 
-fn refused(refusal: u8) -> Request
-    ensures { result ≡ unread refusal }
+// A request, or the refusal of its bytes, with a number from 1 to 6 or 17.
+pub fn read(s: &[u8]) -> Result<Request, Refusal>
+    ensures { request_said result ≡ request_answered (reading s.now) }
 {
-    Request {
-        refusal,
-        n: 0,
-        tasks: [Task {
-            c: 0,
-            t: 0,
-            d: 0,
-            p: 0,
-        }; 16],
-        m: 0,
-        pairs: [Pair { a: 0, b: 0 }; 16],
-        g: 0,
+    let Section {
+        n,
+        records: tasks,
+        end: first,
+    } = read_tasks(s)?;
+    let Section {
+        n: m,
+        records: pairs,
+        end: second,
+    } = read_pairs(&s[first..], &tasks[..n])?;
+    let behind = first + second;
+    let (g, third) = read_silent(&s[behind..])?;
+    if third < s.len() - behind {
+        return Err(Refusal::BytesBehind);
     }
-}
-
-// A request, or the number, from 1 to 6 or 17, that its bytes are refused with.
-pub fn read(s: &[u8]) -> Request
-    ensures { result ≡ request_answered (reading s.now) }
-{
-    let first = read_tasks(s);
-    if first.refusal != 0 {
-        return refused(first.refusal);
-    }
-    let n = first.n;
-    let tasks = first.tasks;
-    let end = first.end;
-    let second = read_pairs(&s[end..], tasks, n);
-    if second.refusal != 0 {
-        return refused(second.refusal);
-    }
-    let behind = end + second.end;
-    let third = read_silent(&s[behind..]);
-    if third.refusal != 0 {
-        return refused(third.refusal);
-    }
-    if third.end < s.len() - behind {
-        return refused(6);
-    }
-    let pairs = second.pairs;
-    Request {
-        refusal: 0,
+    Ok(Request {
         n,
         tasks,
-        m: second.m,
+        m,
         pairs,
-        g: third.g,
-    }
+        g,
+    })
 }

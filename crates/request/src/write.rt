@@ -4,10 +4,10 @@ ghost use Rattle.cursor.specs.Padded.{firsts};
 ghost use Rattle.cursor.specs.Pieces.{Placed};
 ghost use Rattle.request.specs.Request.{no_task, no_pair};
 ghost use Rattle.request.specs.Encode.{task_bytes, pair_bytes, section_bytes, silent_bytes, request_bytes};
-ghost use Rattle.cursor.specs.Written.{written, buffer};
+ghost use Rattle.cursor.specs.Written.{written_said, written, buffer};
 
 use crate::{Pair, Task};
-use cursor::Written;
+use refusal::Refusal;
 
 fn write_task(out: &mut [u8], x: Task)
     requires { 8 ≤ length out.old }
@@ -20,36 +20,30 @@ fn write_task(out: &mut [u8], x: Task)
 }
 
 // The first section, at the front of `out`; answers the number of its bytes.
-fn write_tasks(out: &mut [u8], tasks: [Task; 16], n: usize) -> usize
-    requires { (n ≤ 16) × (length (section_bytes task_bytes (firsts n no_task tasks)) ≤ length out.old) }
-    ensures { Placed (section_bytes task_bytes (firsts n no_task tasks)) out.old out.new result }
+fn write_tasks(out: &mut [u8], tasks: &[Task]) -> usize
+    requires { (length tasks.now ≤ 16) × (length (section_bytes task_bytes tasks.now) ≤ length out.old) }
+    ensures { Placed (section_bytes task_bytes tasks.now) out.old out.new result }
 {
-    out[0] = n as u8;
+    out[0] = tasks.len() as u8;
     let mut at: usize = 1;
-    let mut i: usize = 0;
-    while i < n {
-        let x = tasks[i];
-        write_task(&mut out[at..], x);
+    for task in tasks {
+        write_task(&mut out[at..], *task);
         at += 8;
-        i += 1;
     }
     at
 }
 
 // The second section, at the front of `out`; answers the number of its bytes.
-fn write_pairs(out: &mut [u8], pairs: [Pair; 16], m: usize) -> usize
-    requires { (m ≤ 16) × (length (section_bytes pair_bytes (firsts m no_pair pairs)) ≤ length out.old) }
-    ensures { Placed (section_bytes pair_bytes (firsts m no_pair pairs)) out.old out.new result }
+fn write_pairs(out: &mut [u8], pairs: &[Pair]) -> usize
+    requires { (length pairs.now ≤ 16) × (length (section_bytes pair_bytes pairs.now) ≤ length out.old) }
+    ensures { Placed (section_bytes pair_bytes pairs.now) out.old out.new result }
 {
-    out[0] = m as u8;
+    out[0] = pairs.len() as u8;
     let mut at: usize = 1;
-    let mut i: usize = 0;
-    while i < m {
-        let q = pairs[i];
-        out[at] = q.a;
-        out[at + 1] = q.b;
+    for pair in pairs {
+        out[at] = pair.a;
+        out[at + 1] = pair.b;
         at += 2;
-        i += 1;
     }
     at
 }
@@ -76,19 +70,12 @@ fn write_silent(out: &mut [u8], g: u8) -> usize
 }
 
 // The sections, at the front of `out`: each goes into the part that begins where the last one ended. Answers the number of their bytes.
-fn write_sections(
-    out: &mut [u8],
-    tasks: [Task; 16],
-    n: usize,
-    pairs: [Pair; 16],
-    m: usize,
-    g: u8,
-) -> usize
-    requires { (n ≤ 16) × (m ≤ 16) × (length (request_bytes (firsts n no_task tasks) (firsts m no_pair pairs) g) ≤ length out.old) }
-    ensures { Placed (request_bytes (firsts n no_task tasks) (firsts m no_pair pairs) g) out.old out.new result }
+fn write_sections(out: &mut [u8], tasks: &[Task], pairs: &[Pair], g: u8) -> usize
+    requires { (length tasks.now ≤ 16) × (length pairs.now ≤ 16) × (length (request_bytes tasks.now pairs.now g) ≤ length out.old) }
+    ensures { Placed (request_bytes tasks.now pairs.now g) out.old out.new result }
 {
-    let first = write_tasks(out, tasks, n);
-    let second = write_pairs(&mut out[first..], pairs, m);
+    let first = write_tasks(out, tasks);
+    let second = write_pairs(&mut out[first..], pairs);
     let behind = first + second;
     let third = write_silent(&mut out[behind..], g);
     behind + third
@@ -101,7 +88,7 @@ fn request_length(n: usize, m: usize, g: u8) -> usize
     2 + 8 * n + 2 * m + silent_length(g)
 }
 
-// The request of the first n tasks, the first m pairs and g silent ticks: 11 where the buffer is too short, which then stays as it was.
+// The request of the first n tasks, the first m pairs and g silent ticks; a buffer that is too short stays as it was.
 pub fn write(
     tasks: [Task; 16],
     n: usize,
@@ -109,18 +96,14 @@ pub fn write(
     m: usize,
     g: u8,
     out: &mut [u8],
-) -> Written
-    ensures { (result ≡ written (request_bytes (firsts (min n 16) no_task tasks) (firsts (min m 16) no_pair pairs) g) out.old)
+) -> Result<usize, Refusal>
+    ensures { (written_said result ≡ written (request_bytes (firsts (min n 16) no_task tasks) (firsts (min m 16) no_pair pairs) g) out.old)
         × (out.new ≡ buffer (request_bytes (firsts (min n 16) no_task tasks) (firsts (min m 16) no_pair pairs) g) out.old) }
 {
-    let count = arith::at_most(n, 16);
-    let links = arith::at_most(m, 16);
+    let count = n.min(16);
+    let links = m.min(16);
     if out.len() < request_length(count, links, g) {
-        return Written {
-            refusal: 11,
-            length: 0,
-        };
+        return Err(Refusal::ShortBuffer);
     }
-    let length = write_sections(out, tasks, count, pairs, links, g);
-    Written { refusal: 0, length }
+    Ok(write_sections(out, &tasks[..count], &pairs[..links], g))
 }

@@ -1,7 +1,7 @@
 -- Which answer rewriting gets, exactly, for all byte strings and buffers. 01: "Rewriting takes a request and a table, checks them, and writes the plan it read."
 -- Nothing here names a definition of Rewritten: to be believed is this record, over what the check answers.
 use Rattle.std.specs.Prelude.{ℕ, ◌≤◌, ◌<◌, ◌≡◌, ◌↔◌, List, ◌++◌, length, drop}
-use Rattle.cursor.specs.declared.Written.{Written}
+use Rattle.cursor.specs.Written.{Written}
 use Rattle.checker.specs.Checked.{check_number}
 
 -- of what a call answers, and of the buffer before and after it

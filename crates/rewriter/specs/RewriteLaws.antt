@@ -4,7 +4,7 @@ use Rattle.std.proofs.Math.Path.{ap, ap₂}
 use Rattle.cycle.specs.Cycle.{cycle_of}
 use Rattle.cycle.specs.Answers.{cycle_answered}
 use Rattle.table.specs.Table.{decode}
-use Rattle.cursor.specs.declared.Written.{Written}
+use Rattle.cursor.specs.Written.{Written}
 use Rattle.model.specs.Plan.{Instance}
 use Rattle.model.specs.Answers.{instance_of}
 use Rattle.model.specs.Within.{InLimits}

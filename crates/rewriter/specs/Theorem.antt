@@ -5,7 +5,7 @@ use Rattle.std.proofs.lemmas.Bool.{eqb-false}
 use Rattle.cursor.specs.ChoiceLaws.{lt_or_ge}
 use Rattle.cursor.specs.ParsedLaws.{never}
 use Rattle.cursor.specs.Fields.{Bytes}
-use Rattle.cursor.specs.declared.Written.{Written}
+use Rattle.cursor.specs.Written.{Written}
 use Rattle.cycle.specs.Cycle.{no_cycle, cycle_of}
 use Rattle.cycle.specs.LimitLaws.{no_cycle_number, request_number_own}
 use Rattle.table.specs.Table.{Table, Decoded, table, malformed, decode, encode}

@@ -13,9 +13,7 @@ use Rattle.table.specs.Table.{Entry, Table, Decoded, table, malformed, decode, j
 use Rattle.table.specs.WellFormed.{RisingFrom}
 use Rattle.table.specs.EntryLaws.{task_of_byte, job_of_byte, entry_back}
 use Rattle.table.specs.RisingLaws.{rising_first}
-use Rattle.table.specs.Answers.{sizes_of, task_byte, row_given, row_refused, row_answer, entries_said}
-use Rattle.table.specs.declared.Sizes.{Sizes}
-use Rattle.table.specs.declared.Row.{Row}
+use Rattle.table.specs.Answers.{Sizes, Row, sizes_of, task_byte, row_given, row_refused, row_answer, entries_said}
 
 -- Entries in places
 

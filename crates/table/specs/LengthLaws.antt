@@ -1,15 +1,15 @@
 -- How many bytes a table has: 7, one for each row and two for each entry. Of a layout's entries, those count whose row is one of the table's.
-use Prim.Native.Nat.{ℕ, zero, suc, ◌+◌, ◌*◌, ◌-◌, ◌≤◌, ◌<◌}
-use Rattle.std.specs.Prelude.{◌≡◌, Bool, true, false, ◌&&◌, length, drop, leb, ltb, eqb}
+use Prim.Native.Nat.{ℕ, zero, suc, ◌+◌, ◌*◌, ◌≤◌, ◌<◌}
+use Rattle.std.specs.Prelude.{◌≡◌, Bool, true, false, ◌&&◌, length, take, drop, count_by, leb, ltb, eqb}
 use Rattle.std.proofs.Math.Path.{refl}
-use Rattle.std.proofs.Common.{ap, add-zero, zero-add, length-append, drop_at}
+use Rattle.std.proofs.Common.{sym, ap, add-one, add-zero, zero-add, length-append, drop_at, drop-cons}
 use mathlib.Core.List.{List, [], ◌∷◌, flat_map}
 use native.Mathlib.Omega.{arith}
 use Rattle.std.proofs.Math.ListN.{get_or, length-map}
+use Rattle.std.proofs.lemmas.List.Sums.{sum_by-cons}
 use borrow.Author.Tests.{leb-true, leb-false, eqb-true, eqb-false, le-leb, lt-leb, lt-ltb, le-ltb}
 use Rattle.cursor.specs.Choice.{bit, keep}
 use Rattle.cursor.specs.WordBytesLaws.{word_parts}
-use Rattle.table.specs.Left.{less_one, none_left}
 use Rattle.table.specs.Table.{Entry, Table, entries_bytes, row_bytes, rows_bytes, head_bytes, encode}
 use Rattle.table.specs.Layout.{indices_in, entry_at, row_in, rows_in, entry_total, table_of}
 use Rattle.table.specs.Promises.{between}
@@ -103,19 +103,17 @@ module _ (rows : List ℕ) where
   pub table_holds : (tasks jobs : List ℕ) (n height : ℕ) → entry_count (rows_in rows tasks jobs n height 0) ≡ between rows 0 height n 0
   table_holds tasks jobs n height = rw zero-add at (rows_hold tasks jobs n height 0)
 
-  -- One turn of the loop that counts them, and its end
-  module _ (n height i : ℕ) where
-    pub entry_counted : i < n → get_or rows i 0 < height → between rows 0 height (n - i) i ≡ 1 + between rows 0 height (n - (i + 1)) (i + 1)
-    unfolding between
-    entry_counted h l = rw (less_one n i h, le-leb 0 (get_or rows i 0) (omega arith), lt-ltb _ _ l)
+  -- counted in a list
+  rows_below : (height m i : ℕ) → i + m ≤ length rows → between rows 0 height m i ≡ count_by (λ (r : ℕ). ltb r height) (take m (drop i rows))
+  unfolding between
+  rows_below height zero i h = refl
+  rows_below height (suc m) i h =
+      let first : drop i rows ≡ get_or rows i 0 ∷ drop (i + 1) rows = rw add-one (drop-cons rows i 0 (omega arith)) in
+      rw (first, le-leb 0 (get_or rows i 0) (omega arith), rows_below height m (i + 1) (omega arith))
+      (sym (sum_by-cons (λ (r : ℕ). bit (ltb r height)) (get_or rows i 0) (take m (drop (i + 1) rows))))
 
-    pub entry_passed : i < n → height ≤ get_or rows i 0 → between rows 0 height (n - i) i ≡ between rows 0 height (n - (i + 1)) (i + 1)
-    unfolding between
-    entry_passed h l = rw (less_one n i h, le-leb 0 (get_or rows i 0) (omega arith), le-ltb _ _ l) (omega arith)
-
-    pub all_counted : n ≤ i → between rows 0 height (n - i) i ≡ 0
-    unfolding between
-    all_counted h = rw (none_left n i h)
+  pub entries_counted : (height n : ℕ) → n ≤ length rows → count_by (λ (r : ℕ). ltb r height) (take n rows) ≡ between rows 0 height n 0
+  entries_counted height n h = sym (rows_below height n 0 (omega arith))
 
 pub rows_count : (rows tasks jobs : List ℕ) (n m k : ℕ) → length (rows_in rows tasks jobs n m k) ≡ m
 unfolding rows_in

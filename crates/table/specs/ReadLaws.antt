@@ -1,5 +1,5 @@
 -- One turn of each loop of the reader, and its ends: some records are read, and the rest of the reading gives what the whole gives.
-use Rattle.std.specs.Prelude.{ℕ, ◌+◌, ◌*◌, ◌-◌, ◌≤◌, ◌<◌, ◌≡◌, refl, Bool, get_or, drop, set, replicate}
+use Rattle.std.specs.Prelude.{ℕ, ◌+◌, ◌*◌, ◌-◌, ◌≤◌, ◌<◌, ◌≡◌, refl, Bool, get_or, drop, set, replicate, Option, Some, None, Ok}
 use Rattle.std.proofs.Math.Path.{sym, ap}
 use Rattle.std.proofs.Common.{◌∙◌, length-append}
 use mathlib.Core.List.{List, [], ◌∷◌, ◌++◌}
@@ -16,11 +16,10 @@ use Rattle.cursor.specs.declared.Cursor.{Cursor}
 use Rattle.table.specs.Left.{less_one, none_left}
 use Rattle.table.specs.Table.{Entry, Lengths, table, malformed, entry_of, entries_from, row_from, height_fits, rows_from, whole_table}
 use Rattle.table.specs.EntryLaws.{task_of_byte}
-use Rattle.table.specs.Answers.{row_given, row_refused, sizes_of, row_answer, table_read, row_at}
+use Rattle.table.specs.Answers.{Row, row_given, row_refused, row_said, sizes_of, row_answer, table_read, table_said, row_at, taken_said}
 use Rattle.table.specs.AnswerLaws.{EntriesPlaced, none_placed, one_placed, placed_given}
 use Rattle.table.specs.Promises.{EntryAt, RowHere}
-use Rattle.table.specs.declared.Row.{Row}
-use Rattle.table.specs.declared.read.EntryRead.TheVariants.{EntryBytes, NoEntry}
+use Rattle.table.specs.declared.Row as r
 
 one_longer : {A : Type 0} (xs : List A) (x : A) (i : ℕ) → length xs ≡ i → length (xs ++ (x ∷ [])) ≡ i + 1
 one_longer xs x i e = rw (length-append, e)
@@ -37,7 +36,7 @@ module _ (s : List ℕ) (n start : ℕ) where
   entries_start = record { done = []; placed = none_placed; left = simp sub-zero; place = omega arith }
 
   module _ (tasks jobs : List ℕ) (low at i : ℕ) (so : EntriesSoFar s n start tasks jobs low at i) where
-    pub entries_more : (task job : ℕ) (next : _) → i < n → n ≤ 16 → EntryAt s at low (EntryBytes task job next)
+    pub entries_more : (task job : ℕ) (next : Cursor) → i < n → n ≤ 16 → EntryAt s at low (Some (task, job, next))
         → EntriesSoFar s n start (set tasks i task) (set jobs i job) (task + 1) next.at (i + 1)
     unfolding entries_from
     entries_more task job next h few e = record {
@@ -48,11 +47,12 @@ module _ (s : List ℕ) (n start : ℕ) where
           ∙ sym (rw (less_one n i h, e.0)) ∙ so.left;
     }
 
-    pub entries_refused : i < n → EntryAt s at low NoEntry → entries_from n 0 [] (drop start s) ≡ refused 12
+    pub entries_refused : i < n → EntryAt s at low None → entries_from n 0 [] (drop start s) ≡ refused 12
     unfolding entries_from
     entries_refused h e = sym so.left ∙ rw (less_one n i h, e)
 
-    pub entries_row : (first : ℕ) → n ≤ i → i ≤ n → n ≤ 16 → byte_of 12 (drop first s) ≡ got n (drop start s) → start ≡ first + 1 → RowHere s first tasks jobs n at
+    pub entries_row : (first : ℕ) → n ≤ i → i ≤ n → n ≤ 16 → byte_of 12 (drop first s) ≡ got n (drop start s) → start ≡ first + 1
+        → RowHere s first (record { count = n; tasks = tasks; jobs = jobs }) at
     unfolding row_from entries_from
     entries_row first h k few byte begins =
         let all : i ≡ n = omega arith in
@@ -64,19 +64,18 @@ module _ (s : List ℕ) (n start : ℕ) where
         }
 
 -- a row that was read is the one at its place
-pub row_taken : (s : List ℕ) (at : ℕ) (tasks jobs : List ℕ) (n : ℕ) (next : Cursor) → RowHere s at tasks jobs n next.at
-    → record { row = record { refusal = 0; count = n; tasks = tasks; jobs = jobs }; next = next } ≡ row_at s at
+pub row_taken : (s : List ℕ) (at : ℕ) (row : r.Row) (next : Cursor) → RowHere s at row next.at → taken_said at (Some (row, next)) ≡ row_at s at
 unfolding row_at row_given
-row_taken s at tasks jobs n next here =
-    let count : length here.entries ≡ n = sym (ap (λ (r : Row). r.count) here.given) in
+row_taken s at row next here =
+    let count : length here.entries ≡ row.count = sym (ap (λ (r : Row). r.count) here.given) in
     let place : next.at ≡ at + 1 + 2 * length here.entries = here.ends ∙ rw count in
     rw here.read (λ i. record { row = here.given i; next = record { at = place i } })
 
 -- the rows' section as far as its first i rows: the row k is kept once it is read
-pub record RowsSoFar (s : List ℕ) (z : Lengths) (height start k : ℕ) (kept : Row) (at i : ℕ) : Type 0 where
+pub record RowsSoFar (s : List ℕ) (z : Lengths) (height start k : ℕ) (kept : Option r.Row) (at i : ℕ) : Type 0 where
   pub done : List (List Entry)
   pub count : length done ≡ i
-  pub kept_is : kept ≡ row_answer k (table (record { f = z.f; h = z.h; rows = done }))
+  pub kept_is : row_said kept ≡ row_answer k (table (record { f = z.f; h = z.h; rows = done }))
   pub left : records row_from (height - i) done (drop at s) ≡ records row_from height [] (drop start s)
 
 module _ (z : Lengths) (k : ℕ) (done : List (List Entry)) (es : List Entry) (i : ℕ) (count : length done ≡ i) where
@@ -100,28 +99,26 @@ module _ (z : Lengths) (k : ℕ) (done : List (List Entry)) (es : List Entry) (i
           rw (q, le-ltb k (i + 1) after)
 
 module _ (s : List ℕ) (z : Lengths) (height start k : ℕ) where
-  pub rows_start : RowsSoFar s z height start k (row_refused 15) start 0
+  pub rows_start : RowsSoFar s z height start k None start 0
   unfolding row_answer
   rows_start = record { done = []; count = refl; kept_is = rw (le-ltb k 0 (omega arith)); left = simp sub-zero }
 
-  module _ (kept : Row) (at i : ℕ) (so : RowsSoFar s z height start k kept at i) where
-    rows_more : (tasks jobs : List ℕ) (n next : ℕ) (new : Row) → i < height → (here : RowHere s at tasks jobs n next)
-        → new ≡ row_answer k (table (record { f = z.f; h = z.h; rows = so.done ++ (here.entries ∷ []) })) → RowsSoFar s z height start k new next (i + 1)
+  module _ (kept : Option r.Row) (at i : ℕ) (so : RowsSoFar s z height start k kept at i) where
+    rows_more : (row : r.Row) (next : ℕ) (new : Option r.Row) → i < height → (here : RowHere s at row next)
+        → row_said new ≡ row_answer k (table (record { f = z.f; h = z.h; rows = so.done ++ (here.entries ∷ []) })) → RowsSoFar s z height start k new next (i + 1)
     unfolding records
-    rows_more tasks jobs n next new h here e = record {
+    rows_more row next new h here e = record {
       done = so.done ++ (here.entries ∷ []);
       count = one_longer so.done here.entries i so.count;
       kept_is = e;
       left = sym (rw (less_one height i h, here.read)) ∙ so.left;
     }
 
-    pub rows_kept_lem : (tasks jobs : List ℕ) (n next : ℕ) → i < height → RowHere s at tasks jobs n next → i ≡ k
-        → RowsSoFar s z height start k (record { refusal = 0; count = n; tasks = tasks; jobs = jobs }) next (i + 1)
-    rows_kept_lem tasks jobs n next h here e = rows_more tasks jobs n next _ h here (here.given ∙ row_found z k so.done here.entries i so.count e)
+    pub rows_kept_lem : (row : r.Row) (next : ℕ) → i < height → RowHere s at row next → i ≡ k → RowsSoFar s z height start k (Some row) next (i + 1)
+    rows_kept_lem row next h here e = rows_more row next _ h here (here.given ∙ row_found z k so.done here.entries i so.count e)
 
-    pub rows_passed : (tasks jobs : List ℕ) (n next : ℕ) → i < height → RowHere s at tasks jobs n next → (i ≡ k → ⊥)
-        → RowsSoFar s z height start k kept next (i + 1)
-    rows_passed tasks jobs n next h here e = rows_more tasks jobs n next kept h here (so.kept_is ∙ row_other z k so.done here.entries i so.count e)
+    pub rows_passed : (row : r.Row) (next : ℕ) → i < height → RowHere s at row next → (i ≡ k → ⊥) → RowsSoFar s z height start k kept next (i + 1)
+    rows_passed row next h here e = rows_more row next kept h here (so.kept_is ∙ row_other z k so.done here.entries i so.count e)
 
     module _ (word : word_of 12 s ≡ got height (drop start s)) (fits : height_fits height z ≡ true) where
       pub rows_refused : i < height → row_from (drop at s) ≡ refused 12 → whole_table (rows_from z s) ≡ malformed
@@ -133,7 +130,7 @@ module _ (s : List ℕ) (z : Lengths) (height start k : ℕ) where
       rows_tail h l = rw (word, fits) (rw (← so.left, none_left height i h, drop-cons s at 0 l))
 
       pub rows_end : height ≤ i → i ≤ height → length s ≤ at
-          → table_read k (whole_table (rows_from z s)) ≡ record { sizes = record { refusal = 0; f = z.f; h = z.h; height = height }; row = kept }
+          → table_read k (whole_table (rows_from z s)) ≡ table_said (Ok (record { f = z.f; h = z.h; height = height }, kept))
       unfolding rows_from records table_read sizes_of
       rows_end h l e =
           let all : length so.done ≡ height = omega (arith, so.count) in

@@ -11,9 +11,8 @@ use Rattle.table.specs.Table.{Table, table, decode, row_from, row_bytes, rows_by
 use Rattle.table.specs.RisingLaws.{row_rises}
 use Rattle.table.specs.LengthLaws.{entries_length, rows_behind}
 use Rattle.table.specs.Inverse.{row_read, decode_wellformed, encode_decode}
-use Rattle.table.specs.Answers.{row_answer, row_at}
+use Rattle.table.specs.Answers.{TakenRow, row_answer, row_at}
 use Rattle.table.specs.AnswerLaws.{row_answered_lem}
-use Rattle.table.specs.declared.TakenRow.{TakenRow}
 
 -- where the bytes are a table, its rows from row k on stand at the place `at`, and nothing behind them
 pub record RowsLeft (s : List ℕ) (at k : ℕ) : Type 0 where

@@ -1,15 +1,12 @@
 #![tactic(auto)]
-// The table file: its sizes and its rows are read, and it is written. Every refusal has its number, and 0 is none.
+// The table file: its sizes and its rows are read, and it is written.
 pub mod job;
 pub mod read;
 pub mod write;
 
-use cursor::Cursor;
-
 // f, H and F.
 #[derive(Clone, Copy)]
 pub struct Sizes {
-    pub refusal: u8,
     pub f: u16,
     pub h: u16,
     pub height: u16,
@@ -18,24 +15,9 @@ pub struct Sizes {
 // A row's entries in 16 places, filled from the first: task bytes and job bytes.
 #[derive(Clone, Copy)]
 pub struct Row {
-    pub refusal: u8,
     pub count: usize,
     pub tasks: [u8; 16],
     pub jobs: [u8; 16],
-}
-
-// The sizes and one row, of one reading.
-#[derive(Clone, Copy)]
-pub struct TableRead {
-    pub sizes: Sizes,
-    pub row: Row,
-}
-
-// A row, and the cursor behind it.
-#[derive(Clone, Copy)]
-pub struct TakenRow {
-    pub row: Row,
-    pub next: Cursor,
 }
 
 // Entries in a given order, `count` of them and at most 128, each with its row: row k of the table holds those whose row is k.

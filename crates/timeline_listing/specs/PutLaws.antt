@@ -6,7 +6,7 @@ use Rattle.cursor.specs.PaddedLaws.{get_or_padded_any}
 use Rattle.request.specs.Request.{reading, no_task}
 use Rattle.request.specs.Answers.{request_answered}
 use Rattle.request.specs.declared.Task.{Task}
-use Rattle.request.specs.declared.Request.{Request}
+use Rattle.request.specs.Numbered.{Request}
 use Rattle.text.specs.Text.{Filled, put_all_of}
 use Rattle.text.specs.TextLaws.{put_none, put_append}
 use Rattle.plan_listing.specs.Listing.{tasks_in}

@@ -4,10 +4,10 @@ pub use Rattle.std.specs.Prelude.{ℕ, ◌+◌, ◌*◌, ◌%◌, ◌^◌, ◌�
 pub use Rattle.std.specs.Int.{◌∣◌}
 -- Request
 pub use Rattle.cursor.specs.Fields.{Bytes}
-pub use Rattle.cursor.specs.declared.Written.{Written}
+pub use Rattle.cursor.specs.Written.{Written}
 pub use Rattle.request.specs.declared.Task.{Task}
 pub use Rattle.request.specs.declared.Pair.{Pair}
-pub use Rattle.request.specs.declared.Request.{Request}
+pub use Rattle.request.specs.Numbered.{Request}
 pub use Rattle.request.specs.Request.{period_of, readable, unreadable, reading}
 pub use Rattle.request.specs.Encode.{two_sections, request_bytes, SaysRequest}
 pub use Rattle.request.specs.Answers.{request_answered}
@@ -24,8 +24,7 @@ pub use Rattle.arith.specs.Lcm.{lcm_of}
 pub use Rattle.arith.specs.LcmLaws.{dvd_lcm_left, dvd_lcm_right, lcm_dvd, lcm_least}
 pub use Rattle.cycle.specs.Cycle.{hyperperiod, planned, cycle, no_cycle, cycle_of}
 pub use Rattle.cycle.specs.declared.Job.{Job}
-pub use Rattle.cycle.specs.declared.Cycle.{Cycle}
-pub use Rattle.cycle.specs.Answers.{cycle_answered}
+pub use Rattle.cycle.specs.Numbered.{Cycle, cycle_numbered}
 pub use Rattle.cycle.specs.Exactly.{CycleExact}
 pub use Rattle.cycle.specs.Theorem.{cycle_exact, cycle_alone}
 pub use Rattle.cycle.specs.Planned.{IsJob, InPlanningOrder}

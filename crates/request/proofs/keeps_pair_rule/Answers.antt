@@ -1,27 +1,13 @@
--- The tests of the function are the definition's, one by one; the first that fails decides.
-use Rattle.std.proofs.Common.{◌≤◌, ◌<◌, arith, length, take, length-take, get_or-take, lt-ltb, le-ltb}
-use Rattle.request.specs.Request.{pair_rule, no_task}
+-- The tests are the definition's, one behind the other.
+use Rattle.std.proofs.Common.{arith}
+use Rattle.std.proofs.lemmas.Bool.Decides.{nat_tests}
+use Rattle.request.specs.Request.{pair_rule}
 use Rattle.request.proofs.keeps_pair_rule.Goals as goal
 
-pub returns-then-second-first : goal.returns-then-second-first
+pub returns-then-second-tasks : goal.returns-then-second-tasks
 unfolding pair_rule
-returns-then-second-first c = simp (le-ltb _ _ c.if-second-first.true)
+returns-then-second-tasks c = grind (arith, nat_tests)
 
-pub returns-then-n-second : goal.returns-then-n-second
+pub returns-else-second-tasks : goal.returns-else-second-tasks
 unfolding pair_rule
-returns-then-n-second c =
-    let a = c.args in
-    let few : length (take a.n a.tasks) ≤ a.b = rw length-take (omega arith) in
-    simp (lt-ltb _ _ c.if-second-first.false, le-ltb _ _ few)
-
-pub returns : goal.returns
-unfolding pair_rule
-returns c =
-    let a = c.args in
-    let in_range : a.b < length (take a.n a.tasks) = rw length-take (omega arith) in
-    simp (
-      lt-ltb _ _ c.if-second-first.false,
-      lt-ltb _ _ in_range,
-      get_or-take a.n a.tasks a.a no_task (omega arith),
-      get_or-take a.n a.tasks a.b no_task (omega arith),
-    )
+returns-else-second-tasks c = grind (arith, nat_tests)

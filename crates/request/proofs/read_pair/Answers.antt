@@ -13,20 +13,20 @@ pub returns-in_default-byte : goal.returns-in_default-byte
 unfolding pair_of
 returns-in_default-byte c =
     simp (
-      (byte_taken 1 _ _ _ _ (sym c.byte.ensures ∙ c.in-Byte.is)).field,
+      (byte_taken 1 _ _ _ _ (sym c.byte.ensures ∙ c.in-Some.is)).field,
       (byte_missing 1 _ _ (sym c.byte-2.ensures ∙ c.in_default-byte.is)).0,
     )
 
 pub returns-then-keeps_pair_rule : goal.returns-then-keeps_pair_rule
 unfolding judged_pair
 returns-then-keeps_pair_rule c =
-    let e1 = sym c.byte.ensures ∙ c.in-Byte.is in
-    let e2 = sym c.byte-2.ensures ∙ c.in-Byte-byte.is in
+    let e1 = sym c.byte.ensures ∙ c.in-Some.is in
+    let e2 = sym c.byte-2.ensures ∙ c.in-Some-byte.is in
     rw (pair_bytes_lem _ _ e1 e2, pair_end _ _ e1 e2) (simp (sym c.keeps_pair_rule.ensures ∙ c.if-keeps_pair_rule.true))
 
 pub returns-else-keeps_pair_rule : goal.returns-else-keeps_pair_rule
 unfolding judged_pair
 returns-else-keeps_pair_rule c =
-    let e1 = sym c.byte.ensures ∙ c.in-Byte.is in
-    let e2 = sym c.byte-2.ensures ∙ c.in-Byte-byte.is in
+    let e1 = sym c.byte.ensures ∙ c.in-Some.is in
+    let e2 = sym c.byte-2.ensures ∙ c.in-Some-byte.is in
     rw (pair_bytes_lem _ _ e1 e2) (simp (sym c.keeps_pair_rule.ensures ∙ c.if-keeps_pair_rule.false))

@@ -7,32 +7,32 @@ use Rattle.request.proofs.read_silent.Goals as goal
 pub returns-in_default : goal.returns-in_default
 returns-in_default c =
     let none = sym c.byte.ensures ∙ c.in_default.is in
-    c.no_silent.ensures ∙ silent_none _ (byte_missing 1 _ _ none).1
+    silent_none _ (byte_missing 1 _ _ none).1
 
 pub returns-then-count-gt1 : goal.returns-then-count-gt1
 returns-then-count-gt1 c =
-    let count = byte_taken 1 _ _ _ _ (sym c.byte.ensures ∙ c.in-Byte.is) in
-    c.no_silent-then-count-gt1.ensures ∙ silent_many _ _ _ count c.if-count-gt1.true
+    let count = byte_taken 1 _ _ _ _ (sym c.byte.ensures ∙ c.in-Some.is) in
+    silent_many _ _ _ count c.if-count-gt1.true
 
 pub returns-then-count-eq0 : goal.returns-then-count-eq0
 returns-then-count-eq0 c =
-    let count = byte_taken 1 _ _ _ _ (sym c.byte.ensures ∙ c.in-Byte.is) in
+    let count = byte_taken 1 _ _ _ _ (sym c.byte.ensures ∙ c.in-Some.is) in
     silent_no_byte _ _ _ count c.if-count-eq0.true
 
 pub returns-in_default-byte : goal.returns-in_default-byte
 returns-in_default-byte c =
-    let count = byte_taken 1 _ _ _ _ (sym c.byte.ensures ∙ c.in-Byte.is) in
+    let count = byte_taken 1 _ _ _ _ (sym c.byte.ensures ∙ c.in-Some.is) in
     let none = sym c.byte-2.ensures ∙ c.in_default-byte.is in
-    c.no_silent-in_default-byte.ensures ∙ silent_missing _ _ _ count c.if-count-gt1.false c.if-count-eq0.false (byte_missing 1 _ _ none).0
+    silent_missing _ _ _ count c.if-count-gt1.false c.if-count-eq0.false (byte_missing 1 _ _ none).0
 
 pub returns-then-g-gt15 : goal.returns-then-g-gt15
 returns-then-g-gt15 c =
-    let count = byte_taken 1 _ _ _ _ (sym c.byte.ensures ∙ c.in-Byte.is) in
-    let byte = byte_taken 1 _ _ _ _ (sym c.byte-2.ensures ∙ c.in-Byte-byte.is) in
-    c.no_silent-then-g-gt15.ensures ∙ silent_above _ _ _ count c.if-count-gt1.false c.if-count-eq0.false _ _ byte c.if-g-gt15.true
+    let count = byte_taken 1 _ _ _ _ (sym c.byte.ensures ∙ c.in-Some.is) in
+    let byte = byte_taken 1 _ _ _ _ (sym c.byte-2.ensures ∙ c.in-Some-byte.is) in
+    silent_above _ _ _ count c.if-count-gt1.false c.if-count-eq0.false _ _ byte c.if-g-gt15.true
 
 pub returns : goal.returns
 returns c =
-    let count = byte_taken 1 _ _ _ _ (sym c.byte.ensures ∙ c.in-Byte.is) in
-    let byte = byte_taken 1 _ _ _ _ (sym c.byte-2.ensures ∙ c.in-Byte-byte.is) in
+    let count = byte_taken 1 _ _ _ _ (sym c.byte.ensures ∙ c.in-Some.is) in
+    let byte = byte_taken 1 _ _ _ _ (sym c.byte-2.ensures ∙ c.in-Some-byte.is) in
     silent_given _ _ _ count c.if-count-gt1.false c.if-count-eq0.false _ _ byte c.if-g-gt15.false

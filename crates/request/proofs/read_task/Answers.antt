@@ -13,7 +13,7 @@ pub returns-in_default-word : goal.returns-in_default-word
 unfolding task_of
 returns-in_default-word c =
     simp (
-      (word_taken 1 _ _ _ _ (sym c.word.ensures ∙ c.in-Word.is)).field,
+      (word_taken 1 _ _ _ _ (sym c.word.ensures ∙ c.in-Some.is)).field,
       word_missing 1 _ _ (sym c.word-2.ensures ∙ c.in_default-word.is),
     )
 
@@ -21,8 +21,8 @@ pub returns-in_default-word-2 : goal.returns-in_default-word-2
 unfolding task_of
 returns-in_default-word-2 c =
     simp (
-      (word_taken 1 _ _ _ _ (sym c.word.ensures ∙ c.in-Word.is)).field,
-      (word_taken 1 _ _ _ _ (sym c.word-2.ensures ∙ c.in-Word-word.is)).field,
+      (word_taken 1 _ _ _ _ (sym c.word.ensures ∙ c.in-Some.is)).field,
+      (word_taken 1 _ _ _ _ (sym c.word-2.ensures ∙ c.in-Some-word.is)).field,
       word_missing 1 _ _ (sym c.word-3.ensures ∙ c.in_default-word-2.is),
     )
 
@@ -30,26 +30,26 @@ pub returns-in_default-word-3 : goal.returns-in_default-word-3
 unfolding task_of
 returns-in_default-word-3 c =
     simp (
-      (word_taken 1 _ _ _ _ (sym c.word.ensures ∙ c.in-Word.is)).field,
-      (word_taken 1 _ _ _ _ (sym c.word-2.ensures ∙ c.in-Word-word.is)).field,
-      (word_taken 1 _ _ _ _ (sym c.word-3.ensures ∙ c.in-Word-word-2.is)).field,
+      (word_taken 1 _ _ _ _ (sym c.word.ensures ∙ c.in-Some.is)).field,
+      (word_taken 1 _ _ _ _ (sym c.word-2.ensures ∙ c.in-Some-word.is)).field,
+      (word_taken 1 _ _ _ _ (sym c.word-3.ensures ∙ c.in-Some-word-2.is)).field,
       word_missing 1 _ _ (sym c.word-4.ensures ∙ c.in_default-word-3.is),
     )
 
 pub returns-then-keeps_task_rule : goal.returns-then-keeps_task_rule
 unfolding judged_task
 returns-then-keeps_task_rule c =
-    let e1 = sym c.word.ensures ∙ c.in-Word.is in
-    let e2 = sym c.word-2.ensures ∙ c.in-Word-word.is in
-    let e3 = sym c.word-3.ensures ∙ c.in-Word-word-2.is in
-    let e4 = sym c.word-4.ensures ∙ c.in-Word-word-3.is in
+    let e1 = sym c.word.ensures ∙ c.in-Some.is in
+    let e2 = sym c.word-2.ensures ∙ c.in-Some-word.is in
+    let e3 = sym c.word-3.ensures ∙ c.in-Some-word-2.is in
+    let e4 = sym c.word-4.ensures ∙ c.in-Some-word-3.is in
     rw (task_words _ _ e1 e2 e3 e4, task_end _ _ e1 e2 e3 e4) (simp (sym c.keeps_task_rule.ensures ∙ c.if-keeps_task_rule.true))
 
 pub returns-else-keeps_task_rule : goal.returns-else-keeps_task_rule
 unfolding judged_task
 returns-else-keeps_task_rule c =
-    let e1 = sym c.word.ensures ∙ c.in-Word.is in
-    let e2 = sym c.word-2.ensures ∙ c.in-Word-word.is in
-    let e3 = sym c.word-3.ensures ∙ c.in-Word-word-2.is in
-    let e4 = sym c.word-4.ensures ∙ c.in-Word-word-3.is in
+    let e1 = sym c.word.ensures ∙ c.in-Some.is in
+    let e2 = sym c.word-2.ensures ∙ c.in-Some-word.is in
+    let e3 = sym c.word-3.ensures ∙ c.in-Some-word-2.is in
+    let e4 = sym c.word-4.ensures ∙ c.in-Some-word-3.is in
     rw (task_words _ _ e1 e2 e3 e4) (simp (sym c.keeps_task_rule.ensures ∙ c.if-keeps_task_rule.false))

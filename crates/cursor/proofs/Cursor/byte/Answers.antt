@@ -1,13 +1,17 @@
--- Each way out is one case of the definition's test.
-use Rattle.std.proofs.Common.{lt-ltb, le-ltb}
+-- Each way out is one case of the definition's test, which is that of `get`.
+use Rattle.std.proofs.Common.{sym}
 use Rattle.cursor.specs.Fields.{byte_at}
 use Rattle.cursor.specs.FieldLaws.{byte_at_lem}
 use Rattle.cursor.proofs.Cursor.byte.Goals as goal
 
-pub returns-then-at-s : goal.returns-then-at-s
+pub returns-in_err-b : goal.returns-in_err-b
 unfolding byte_at
-returns-then-at-s c = rw (byte_at_lem _ _ 1, lt-ltb _ _ c.if-at-s.true)
+returns-in_err-b c =
+    let told = c.in_err-b.ensures.lookup in
+    rw (c.from_residual.ensures, byte_at_lem _ _ 1, sym told.0)
 
-pub returns-else-at-s : goal.returns-else-at-s
+pub returns : goal.returns
 unfolding byte_at
-returns-else-at-s c = rw (byte_at_lem _ _ 1, le-ltb _ _ c.if-at-s.false)
+returns c =
+    let told = c.in_ok-b.ensures.lookup in
+    rw (byte_at_lem _ _ 1, sym told.0, told.3.1 0)

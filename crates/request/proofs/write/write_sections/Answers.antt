@@ -2,17 +2,15 @@
 -- the buffer has room for the three sections
 use Rattle.std.proofs.Common.{◌+◌, ◌-◌, ◌≤◌, ◌++◌, arith, length, take, length-append}
 use borrow.Rule.Slice.PartMut.{put_mid}
-use Rattle.cursor.specs.Padded.{firsts}
 use Rattle.cursor.specs.Pieces.{Placed}
 use Rattle.cursor.specs.Parts.{rest_part, rest_put}
-use Rattle.request.specs.Request.{no_task, no_pair}
 use Rattle.request.specs.Encode.{task_bytes, pair_bytes, section_bytes, silent_bytes, request_bytes}
 use Rattle.request.specs.WriteLaws.{first_within, second_fits, second_within, third_fits, all_placed}
 use Rattle.request.proofs.write.write_sections.Goals as goal
 use Rattle.request.proofs.write.write_sections.Goals.{After-write_pairs-second, After-write_silent-third, After-write_tasks-first, Start}
 
 fits : (c : Start) → let a = c.args in
-    length (section_bytes task_bytes (firsts a.n no_task a.tasks) ++ section_bytes pair_bytes (firsts a.m no_pair a.pairs) ++ silent_bytes a.g)
+    length (section_bytes task_bytes a.tasks.now ++ section_bytes pair_bytes a.pairs.now ++ silent_bytes a.g)
     ≤ length a.out.now
 unfolding request_bytes
 fits c = c.requires.2
@@ -31,7 +29,7 @@ behind c =
 
 -- and the third
 placed : (c : After-write_silent-third) → let a = c.args in let at = c.write_tasks-first.result in let end = at + c.write_pairs-second.result in
-    Placed (request_bytes (firsts a.n no_task a.tasks) (firsts a.m no_pair a.pairs) a.g) a.out.now
+    Placed (request_bytes a.tasks.now a.pairs.now a.g) a.out.now
     (take end (take at c.write_tasks-first.new.out ++ c.write_pairs-second.new.out) ++ c.write_silent-third.new.out) (end + c.write_silent-third.result)
 unfolding request_bytes
 placed c =

@@ -1,16 +1,19 @@
 -- Each way out is one case of the definition's tests; a product of two u16 fits a u32.
-use Rattle.std.proofs.Common.{◌*◌, ◌≤◌, arith, mul-le-mul, le-leb}
-use borrow.Author.Tests.{lt-leb}
+use Rattle.std.specs.Prelude.{◌≡◌, Bool, true, false, ◌&&◌, leb}
+use Rattle.std.proofs.Common.{refl, ◌∙◌, ◌*◌, ◌≤◌, arith, mul-le-mul}
 use Rattle.table.specs.Table.{height_fits}
+use Rattle.table.proofs.Ranges.{closed}
 use Rattle.table.proofs.read.height_fits.Goals as goal
 
-pub returns-then-height-lt1 : goal.returns-then-height-lt1
-unfolding height_fits
-returns-then-height-lt1 c = rw (lt-leb _ _ c.if-height-lt1.true)
+last_test : (a b e : Bool) → (a && b) ≡ true → e ≡ (a && (b && e))
+last_test true true e h = refl
+last_test true false e h = cc
+last_test false b e h = cc
 
-pub returns-then-height-gt256 : goal.returns-then-height-gt256
-unfolding height_fits
-returns-then-height-gt256 c = rw (le-leb _ _ c.if-height-lt1.false, lt-leb _ _ c.if-height-gt256.true)
+no_test : (a b e : Bool) → (a && b) ≡ false → false ≡ (a && (b && e))
+no_test true true e h = cc
+no_test true false e h = refl
+no_test false b e h = refl
 
 pub overflow_mul-result : goal.overflow_mul-result
 overflow_mul-result c =
@@ -19,6 +22,15 @@ overflow_mul-result c =
     let h : c.args.height * c.args.f ≤ 65535 * 65535 = mul-le-mul a b in
     omega arith
 
-pub returns : goal.returns
+pub returns-then-contains : goal.returns-then-contains
 unfolding height_fits
-returns c = rw (le-leb _ _ c.if-height-lt1.false, le-leb _ _ c.if-height-gt256.false)
+returns-then-contains c =
+    let ends = c.new.ensures in
+    last_test _ _ _ (closed 1 256 c.args.height _ _ c.if-contains.true (rw (ends.start, ends.end, ends.exhausted) at c.contains.ensures.value))
+
+pub returns-else-contains : goal.returns-else-contains
+unfolding height_fits
+returns-else-contains c =
+    let ends = c.new.ensures in
+    let outside = closed 1 256 c.args.height _ _ c.if-contains.false (rw (ends.start, ends.end, ends.exhausted) at c.contains.ensures.value) in
+    c.if-contains.false ∙ no_test (leb 1 c.args.height) (leb c.args.height 256) _ outside

@@ -1,19 +1,16 @@
--- The two ways out are the two cases of the row that begins at the place.
-use Rattle.std.proofs.Common.{refl}
-use Rattle.table.specs.Answers.{row_at}
+-- The two answers are the two cases of the row that begins at the place.
+use Rattle.std.specs.Prelude.{ℕ, ◌≡◌, List, Option, Some, None}
+use Rattle.cursor.specs.declared.Cursor.{Cursor}
+use Rattle.table.specs.declared.Row as r
+use Rattle.table.specs.Answers.{row_at, taken_said}
+use Rattle.table.specs.Promises.{RowAt}
 use Rattle.table.specs.ReadLaws.{row_taken}
 use Rattle.table.proofs.read.next_row.Goals as goal
 
-pub read_row-requires : goal.read_row-requires
-read_row-requires c = (refl, refl)
-
-pub returns-in_default : goal.returns-in_default
+at_place : (s : List ℕ) (at : ℕ) (read : Option (r.Row × Cursor)) → RowAt s at read → taken_said at read ≡ row_at s at
 unfolding row_at
-returns-in_default c =
-    let none = rw c.in_default.is at c.read_row.ensures in
-    rw (c.refused_row-row.ensures, none)
+at_place s at (Some p) here = row_taken s at p.0 p.1 here
+at_place s at None none = rw none
 
 pub returns : goal.returns
-returns c =
-    let here = rw c.in-RowEntries.is at c.read_row.ensures in
-    row_taken _ _ _ _ _ _ here
+returns c = at_place _ _ _ c.read_row.ensures

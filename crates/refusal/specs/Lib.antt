@@ -1,0 +1,3 @@
+-- Refusals and their numbers
+pub mod Refusal
+pub mod RefusalLaws
