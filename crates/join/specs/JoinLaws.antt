@@ -1,13 +1,16 @@
 -- The ways out of joining: a refusal of either request, a misfit, and the joined request, whose tasks and pairs stand in arrays.
-use Rattle.std.specs.Prelude.{ℕ, zero, suc, ◌+◌, ◌≤◌, ◌<◌, min, Bool, cond, List, [], ◌∷◌, ◌++◌, map, length, get_or, set}
+use Rattle.std.specs.Prelude.{ℕ, zero, suc, ◌+◌, ◌≤◌, ◌<◌, min, Bool, cond, List, [], ◌∷◌, ◌++◌, map, length, get_or, set, take, drop, replicate, ◌-◌}
 use Rattle.std.proofs.Math.Path.{◌≡◌, refl}
-use Rattle.std.proofs.Common.{sym, ap, ◌∙◌, append_assoc, add-one, arith, length-append}
+use Rattle.std.proofs.Common.{sym, ap, ◌∙◌, append_assoc, add-one, arith, length-append, length-take-le, take-suc}
+use Rattle.std.proofs.lemmas.List.{drop-replicate}
+use Rattle.std.proofs.Math.Seq.{take-append_seam, drop-append_seam}
+use borrow.Rule.Slice.PartMut.{put_mid}
 use Rattle.std.proofs.Math.Bool.{true, false}
 use Rattle.std.proofs.lemmas.List.{map-append, length-map}
 use Rattle.std.proofs.Math.Dec.{ltb, eqb}
 use borrow.Author.Tests.{lt-ltb, le-ltb, eq-eqb, ne_eqb, ltb-false, eqb-true}
 use Rattle.cursor.specs.Padded.{padded, firsts}
-use Rattle.cursor.specs.PaddedLaws.{firsts_length, set_padded}
+use Rattle.cursor.specs.PaddedLaws.{set_padded, take_padded, get_or_padded_any}
 use Rattle.request.specs.Request.{Reading, readable, unreadable, reading, no_task, no_pair}
 use Rattle.request.specs.Encode.{request_bytes}
 use Rattle.request.specs.Answers.{request_answered}
@@ -18,7 +21,7 @@ use Rattle.request.specs.Numbered.{Request}
 use Rattle.cursor.specs.Written.{written, buffer}
 use Rattle.request.specs.Written.{request_answer, request_buffer}
 use Rattle.request.specs.FileLaws.{refusal_answered, request_answered_lem}
-use Rattle.request.specs.Places.{ReadAs, first_tasks, first_pairs, places_hold}
+use Rattle.request.specs.Places.{ReadAs, Few, pairs_few, places_hold}
 use Rattle.cursor.specs.Written.{Written}
 use Rattle.join.specs.Joined.{raised_by, joined_tasks, joined_pairs, misfit, unless, joined}
 
@@ -29,21 +32,28 @@ more_behind blank xs ys at x place room =
     let here : length (xs ++ ys) ≡ at = length-append xs ys ∙ place in
     rw (← here, ← append_assoc xs ys (x ∷ [])) (set_padded 16 blank (xs ++ ys) x (omega arith))
 
-pub task_behind : (xs ys : List Task) (n i : ℕ) → n + i < 16
-    → set (padded 16 no_task (firsts n no_task xs ++ firsts i no_task ys)) (n + i) (get_or ys i no_task) ≡ padded 16 no_task (firsts n no_task xs ++ firsts (i + 1) no_task ys)
-unfolding firsts
-task_behind xs ys n i room =
-    rw (add-one i) (more_behind no_task (firsts n no_task xs) (firsts i no_task ys) (n + i) (get_or ys i no_task) (omega (arith, firsts_length no_task xs n, firsts_length no_task ys i)) room)
+-- A list put to the front of an empty array, and a second one behind it.
+pub front_put : {A : Type 0} (blank : A) (xs put : List A) → put ≡ xs → put ++ drop (length xs) (replicate 16 blank) ≡ padded 16 blank xs
+unfolding padded
+front_put blank xs put is = rw (is, drop-replicate (length xs) 16 blank)
 
-pub pair_behind : (xs ys : List Pair) (m i n : ℕ) → m + i < 16
-    → set (padded 16 no_pair (firsts m no_pair xs ++ map (raised_by n) (firsts i no_pair ys))) (m + i) (raised_by n (get_or ys i no_pair))
-    ≡ padded 16 no_pair (firsts m no_pair xs ++ map (raised_by n) (firsts (i + 1) no_pair ys))
-unfolding firsts
-pair_behind xs ys m i n room =
-    let done = map (raised_by n) (firsts i no_pair ys) in
-    let count : length done ≡ i = length-map (firsts i no_pair ys) (raised_by n) ∙ firsts_length no_pair ys i in
-    rw (add-one i, map-append (raised_by n) (firsts i no_pair ys) (get_or ys i no_pair ∷ []))
-    (more_behind no_pair (firsts m no_pair xs) done (m + i) (raised_by n (get_or ys i no_pair)) (omega (arith, firsts_length no_pair xs m, count)) room)
+pub both_put : {A : Type 0} (blank : A) (xs ys put put' : List A) → put ≡ xs → put' ≡ ys → (k : ℕ) → k ≡ length ys
+    → put_mid (length xs) k (put ++ drop (length xs) (replicate 16 blank)) put' ≡ padded 16 blank (xs ++ ys)
+unfolding padded
+both_put blank xs ys put put' is is' k count =
+    let left : 16 - length xs - k ≡ 16 - length (xs ++ ys) = omega (arith, length-append xs ys) in
+    let blanks = replicate (16 - length xs) blank in
+    rw (is, is', drop-replicate (length xs) 16 blank, take-append_seam xs blanks, drop-append_seam xs blanks, drop-replicate k (16 - length xs) blank, left)
+    (sym (append_assoc xs ys (replicate (16 - length (xs ++ ys)) blank)))
+
+pub pair_behind : (xs ys : List Pair) (m i n : ℕ) → m ≡ length xs → i < length ys → m + i < 16
+    → set (padded 16 no_pair (xs ++ map (raised_by n) (take i ys))) (m + i) (raised_by n (get_or ys i no_pair))
+    ≡ padded 16 no_pair (xs ++ map (raised_by n) (take (i + 1) ys))
+pair_behind xs ys m i n first more room =
+    let done = map (raised_by n) (take i ys) in
+    let count : length done ≡ i = length-map (take i ys) (raised_by n) ∙ length-take-le i ys (omega arith) in
+    rw (add-one i, take-suc ys i no_pair more, map-append (raised_by n) (take i ys) (get_or ys i no_pair ∷ []))
+    (more_behind no_pair xs done (m + i) (raised_by n (get_or ys i no_pair)) (omega (arith, count)) room)
 
 pub pairs_counted : (n : ℕ) (pairs pairs' : List Pair) → length (joined_pairs n pairs pairs') ≡ length pairs + length pairs'
 pairs_counted n pairs pairs' = simp (length-append, length-map) (omega arith)
@@ -81,6 +91,20 @@ unless_refused : (number : ℕ) (r : Reading) → (number ≡ 0 → ⊥) → unl
 unless_refused zero r ne = absurd (ne refl)
 unless_refused (suc number) r ne = refl
 
+-- A request's tasks and pairs are the first in its arrays.
+module _ (bytes : List ℕ) (x : Request) (o : ReadAs bytes x) where
+  tasks_taken : take x.n x.tasks ≡ o.tasks
+  tasks_taken = rw (o.n_is, o.tasks_are) (take_padded 16 no_task o.tasks)
+
+  pairs_taken : take x.m x.pairs ≡ o.pairs
+  pairs_taken = rw (o.m_is, o.pairs_are) (take_padded 16 no_pair o.pairs)
+
+  pub few_taken : Few (take x.m x.pairs)
+  few_taken =
+      let all = pairs_few bytes x o in
+      let same : (i : ℕ) → get_or x.pairs i no_pair ≡ get_or o.pairs i no_pair = λ i. rw o.pairs_are (get_or_padded_any 16 no_pair o.pairs i) in
+      rw pairs_taken (record { first = λ i. rw same at (all.first i); second = λ i. rw same at (all.second i) })
+
 module _ (first second out : List ℕ) where
   -- what is answered, and left in the buffer, is what joining comes to
   abbrev pub Hands : Written → List ℕ → Type 0
@@ -114,8 +138,8 @@ module _ (first second out : List ℕ) where
           sums : (x.n + y.n ≤ 16) × (x.m + y.m ≤ 16)
           sums = let s = fit_all _ _ _ _ (sym fits ∙ is) in (s.0, s.1)
 
-          pub was_joined : (tasks : List Task) (pairs : List Pair) → tasks ≡ padded 16 no_task (firsts x.n no_task x.tasks ++ firsts y.n no_task y.tasks)
-              → pairs ≡ padded 16 no_pair (firsts x.m no_pair x.pairs ++ map (raised_by x.n) (firsts y.m no_pair y.pairs))
+          pub was_joined : (tasks : List Task) (pairs : List Pair) → tasks ≡ padded 16 no_task (take x.n x.tasks ++ take y.n y.tasks)
+              → pairs ≡ padded 16 no_pair (take x.m x.pairs ++ map (raised_by x.n) (take y.m y.pairs))
               → let bytes = request_bytes (firsts (min (x.n + y.n) 16) no_task tasks) (firsts (min (x.m + y.m) 16) no_pair pairs) x.g in
               Hands (written bytes out) (buffer bytes out)
           was_joined tasks pairs t p =
@@ -123,9 +147,9 @@ module _ (first second out : List ℕ) where
               let ps = joined_pairs (length one.tasks) one.pairs two.pairs in
               let m : x.m + y.m ≡ length ps = omega (arith, one.m_is, two.m_is, pairs_counted (length one.tasks) one.pairs two.pairs) in
               let t_are : firsts (min (x.n + y.n) 16) no_task tasks ≡ one.tasks ++ two.tasks
-              = rw (t, first_tasks first x one, first_tasks second y two) (places_hold no_task (one.tasks ++ two.tasks) _ n sums.0) in
+              = rw (t, tasks_taken first x one, tasks_taken second y two) (places_hold no_task (one.tasks ++ two.tasks) _ n sums.0) in
               let p_are : firsts (min (x.m + y.m) 16) no_pair pairs ≡ ps
-              = rw (p, first_pairs first x one, first_pairs second y two, one.n_is) (places_hold no_pair ps _ m sums.1) in
+              = rw (p, pairs_taken first x one, pairs_taken second y two, one.n_is) (places_hold no_pair ps _ m sums.1) in
               let done : joined (reading first) (reading second) ≡ whole = joined_is ∙ ap (λ (k : ℕ). unless k whole) fits in
               let w = request_answered_lem (joined_tasks one.tasks two.tasks) ps one.g out in
               rw (done, t_are, p_are, one.g_is) (sym w.0, sym w.1)

@@ -1,6 +1,6 @@
 -- Each way out is one of the definition's cases.
 use Rattle.join.specs.JoinLaws.{many_tasks, many_pairs, other_silence, all_fit}
-use Rattle.join.proofs.number_of_misfit.Goals as goal
+use Rattle.join.proofs.judge.Goals as goal
 
 pub returns-then-n-gt16 : goal.returns-then-n-gt16
 returns-then-n-gt16 c = many_tasks _ _ _ _ c.if-n-gt16.true
