@@ -152,9 +152,6 @@ pub over_here : {last c : ℕ → ℕ} {n rows room e need has : ℕ} → Compar
 over_here {e = e} v h = record { width = e; more = omega (arith, v.asks, v.holds) }
 
 -- the weights
-pub light_none : (weights : List ℕ) → Light weights 0
-light_none weights = record { each = λ i h. absurd (omega arith) }
-
 pub light_more : {weights : List ℕ} {j : ℕ} (v : ℕ) → length weights ≡ 128 → j < 128 → Light weights j → v ≤ 327675 → Light (set weights j v) (j + 1)
 light_more {weights} {j} v size h w le = record { each = λ i l. go i l (eqb i j) refl }
   where

@@ -8,10 +8,10 @@ use Prim.Native.Nat.{ℕ, zero, suc, ◌+◌, ◌-◌, ◌≤◌, ◌<◌}
 use native.Mathlib.Nat.{eq-or-lt_of_le}
 use native.Mathlib.Numerals.{add-one}
 use native.Mathlib.Omega.{arith}
-use lib.ListN.{length, get_or, set, drop, replicate, length-set, length-replicate, drop_of_length-le}
+use lib.ListN.{length, get_or, set, drop, replicate, length-set, drop_of_length-le}
 use lib.Seq.{get_or-take, drop-cons, get_or-set_same, get_or-set_other}
 use lib.Dec.{ltb, eqb}
-use borrow.Author.Tests.{le-leb, lt-leb, ltb-true, ltb-false, lt-ltb, le-ltb, eq-eqb, ne_eqb, eqb-true, eqb-false}
+use borrow.Author.Tests.{le-leb, lt-leb, ltb-true, ltb-false, le-ltb, eq-eqb, ne_eqb, eqb-true, eqb-false}
 use Rattle.search.specs.Placing.{Problem, links_at, links_of}
 use Rattle.searcher.specs.Arrays.{part_in, counts_in, rows_in, jobs_in, problem_in, LinksBack}
 use Rattle.searcher.proofs.Laws as place_laws
@@ -72,9 +72,6 @@ entry_in (y ∷ ys) zero h = Memᴰ.head refl
 entry_in (y ∷ ys) (suc j) h = Memᴰ.tail (entry_in ys j (omega arith))
 
 -- an array is filled
-pub filled_none : (f : ℕ → ℕ) → Filled f 0 (replicate 128 0)
-filled_none f = record { size = length-replicate {A = ℕ} 128 0; each = λ i h. absurd (omega arith) }
-
 pub filled_more : {f : ℕ → ℕ} {j : ℕ} {out : List ℕ} (v : ℕ) → Filled f j out → j < 128 → v ≡ f j → Filled f (j + 1) (set out j v)
 filled_more {f} {j} {out} v w h e = record { size = length-set out j v ∙ w.size; each = λ i t. go i t (eqb i j) refl }
   where
@@ -85,11 +82,6 @@ filled_more {f} {j} {out} v w h e = record { size = length-set out j v ∙ w.siz
 -- the frames of a job as rows, by its side
 abbrev pub sided_row : ℕ → List ℕ → List ℕ → List ℕ → ℕ → ℕ → ℕ
 sided_row rows low high frames away i = from_side (side_by rows low high i) (get_or frames i 0) away
-
-module _ (rows : ℕ) (low high frames : List ℕ) (away : ℕ) where
-  pub by_sides : {n : ℕ} {sides out : List ℕ} → Filled (side_by rows low high) n sides
-      → Filled (sided_row rows low high frames away) n out → Filled (row_by frames sides away) n out
-  by_sides s w = record { size = w.size; each = λ i h. rw (s.each i h) (w.each i h) }
 
 -- the side of a job
 module _ (rows l h : ℕ) where
@@ -127,12 +119,6 @@ still_one (y ∷ ys) (suc k) zero e = e
 still_one (y ∷ ys) (suc k) (suc j) e = still_one ys k j e
 
 module _ (out : List ℕ) (l : ℕ) where
-  pub not_marked : l < 128 → out ≡ marked_by out l
-  not_marked h = rw (lt-ltb l 128 h)
-
-  pub is_marked : 128 ≤ l → set out (l - 128) 1 ≡ marked_by out l
-  is_marked h = rw (le-ltb l 128 h)
-
   marked_size : length (marked_by out l) ≡ length out
   marked_size = go (ltb l 128)
     where
@@ -149,9 +135,6 @@ module _ (out : List ℕ) (l : ℕ) where
 
   this_marked : 128 ≤ l → l - 128 < length out → get_or (marked_by out l) (l - 128) 0 ≡ 1
   this_marked h t = rw (le-ltb l 128 h) (get_or-set_same out (l - 128) 1 0 t)
-
-pub marked_none : (counts links : List ℕ) → Marked counts links 0 (replicate 128 0)
-marked_none counts links = record { size = length-replicate {A = ℕ} 128 0; each = λ y l h m t. absurd (omega arith) }
 
 -- the loop over the links of job y: each is left, or its job is marked
 pub record Marking (counts links : List ℕ) (y at : ℕ) (out : List ℕ) : Type 0 where

@@ -7,6 +7,8 @@ ghost use Rattle.exact.specs.Arcs.{step_of, room_of, last_in};
 ghost use Rattle.prune.specs.Arrays.{Packed, domains, Filled};
 ghost use Rattle.prune.specs.Arcs.{step_by, last_by, weight_by, Light, Needed, Over, SomeOver};
 
+use super::tighten::Domains;
+
 // What cost c counts by step k, where a row holds f.
 fn weight(c: u16, f: u16, k: u16) -> u32
     requires { (0 < f) × (k ≤ 4) }
@@ -54,32 +56,25 @@ fn last_place(l: u16, h: u16, rows: u16, s: u16) -> usize
 }
 
 // At each place what the jobs count that have their last frame there.
-fn needs_of(weights: &[u32], low: &[u16; 128], high: &[u16; 128], rows: u16, s: u16) -> [u32; 256]
+fn needs_of(weights: &[u32], d: &Domains, rows: u16, s: u16) -> [u32; 256]
     requires n_bound { (length weights.now ≤ 128) × (0 < rows) × (rows ≤ 256) × (s ≤ rows) }
     requires light { Light weights.now (length weights.now) }
-    ensures { Needed (last_by rows s low.now high.now) (weight_by weights.now) (length weights.now) result }
+    ensures { Needed (last_by rows s d.now.low d.now.high) (weight_by weights.now) (length weights.now) result }
 {
     let mut need = [0u32; 256];
     for (i, w) in weights.iter().enumerate() {
-        need[last_place(low[i], high[i], rows, s)] += *w;
+        need[last_place(d.low[i], d.high[i], rows, s)] += *w;
     }
     need
 }
 
 // Whether the jobs that lie in some rows from row s on count more than these hold, each of them `room`.
-fn is_over(
-    weights: &[u32],
-    low: &[u16; 128],
-    high: &[u16; 128],
-    rows: u16,
-    s: u16,
-    room: u32,
-) -> bool
+fn is_over(weights: &[u32], d: &Domains, rows: u16, s: u16, room: u32) -> bool
     requires n_bound { (length weights.now ≤ 128) × (0 < rows) × (rows ≤ 256) × (s ≤ rows) }
     requires light { Light weights.now (length weights.now) }
-    ensures { result ≡ true → Over (last_by rows s low.now high.now) (weight_by weights.now) (length weights.now) room }
+    ensures { result ≡ true → Over (last_by rows s d.now.low d.now.high) (weight_by weights.now) (length weights.now) room }
 {
-    let need = needs_of(weights, low, high, rows, s);
+    let need = needs_of(weights, d, rows, s);
     let mut sum: u64 = 0;
     let mut has: u64 = 0;
     for asked in &need[..rows as usize] {
@@ -93,30 +88,19 @@ fn is_over(
 }
 
 // The same from any row on.
-fn some_over(weights: &[u32], low: &[u16; 128], high: &[u16; 128], rows: u16, room: u32) -> bool
+fn some_over(weights: &[u32], d: &Domains, rows: u16, room: u32) -> bool
     requires n_bound { (length weights.now ≤ 128) × (0 < rows) × (rows ≤ 256) }
     requires light { Light weights.now (length weights.now) }
-    ensures { result ≡ true → SomeOver rows low.now high.now (weight_by weights.now) (length weights.now) room }
+    ensures { result ≡ true → SomeOver rows d.now.low d.now.high (weight_by weights.now) (length weights.now) room }
 {
-    for s in 0..rows {
-        if is_over(weights, low, high, rows, s, room) {
-            return true;
-        }
-    }
-    false
+    (0..rows).any(|s| is_over(weights, d, rows, s, room))
 }
 
 // Whether some rows must hold too much by step k.
-fn is_full(
-    given: &[[u16; 128]; 5],
-    links: &[u8; 2048],
-    low: &[u16; 128],
-    high: &[u16; 128],
-    k: u16,
-) -> bool
+fn is_full(given: &[[u16; 128]; 5], links: &[u8; 2048], d: &Domains, k: u16) -> bool
     requires packed { Packed given.now links.now }
     requires k_bound { k ≤ 4 }
-    ensures { result ≡ true → None (problem_in given.now links.now) (domains low.now high.now) }
+    ensures { result ≡ true → None (problem_in given.now links.now) (domains d.now.low d.now.high) }
 {
     let n = given[4][2] as usize;
     let rows = given[4][0];
@@ -125,23 +109,13 @@ fn is_full(
         return false;
     }
     let weights = weights_of(given, n, f, k);
-    some_over(&weights[..n], low, high, rows, room_of(f, k))
+    some_over(&weights[..n], d, rows, room_of(f, k))
 }
 
 // The same by any step up to 4.
-pub(super) fn some_full(
-    given: &[[u16; 128]; 5],
-    links: &[u8; 2048],
-    low: &[u16; 128],
-    high: &[u16; 128],
-) -> bool
+pub(super) fn some_full(given: &[[u16; 128]; 5], links: &[u8; 2048], d: &Domains) -> bool
     requires { Packed given.now links.now }
-    ensures { result ≡ true → None (problem_in given.now links.now) (domains low.now high.now) }
+    ensures { result ≡ true → None (problem_in given.now links.now) (domains d.now.low d.now.high) }
 {
-    for k in 0..=4 {
-        if is_full(given, links, low, high, k) {
-            return true;
-        }
-    }
-    false
+    (0..=4).any(|k| is_full(given, links, d, k))
 }

@@ -12,6 +12,8 @@ ghost use Rattle.searcher.specs.Arrays.{counts_in, jobs_in, problem_in, LinksBac
 ghost use Rattle.exact.specs.None.{None};
 ghost use Rattle.prune.specs.Arrays.{Packed, domains, marked_by, Marked};
 
+use tighten::Domains;
+
 // Marks the job that link l names, if it must not be earlier.
 fn mark(out: &mut [u16; 128], l: u8)
     ensures { out.new ≡ marked_by out.old l }
@@ -64,10 +66,9 @@ pub fn is_crowded(
     requires { Packed given.now links.now }
     ensures { result ≡ true → None (problem_in given.now links.now) (domains low high) }
 {
-    let mut l = low;
-    let mut h = high;
-    tighten::tighten(given, links, &mut l, &mut h);
-    arcs::some_full(given, links, &l, &h)
+    let mut d = Domains { low, high };
+    d.tighten(given, links);
+    arcs::some_full(given, links, &d)
 }
 
 // Whether the domains may hold a placing. At most `depth` jobs are made sided. `words` is the sweep's, and `found` gets the rows of its last answer.
@@ -87,13 +88,12 @@ pub fn may(
 {
     let n = given[4][2] as usize;
     let rows = given[4][0];
-    let mut l = low;
-    let mut h = high;
-    tighten::tighten(given, links, &mut l, &mut h);
-    if tighten::is_empty(&l, &h, n) {
+    let mut d = Domains { low, high };
+    d.tighten(given, links);
+    if d.is_empty(n) {
         return false;
     }
-    let (sides, firsts, ends) = sides::rows_of(&l, &h, n, rows);
+    let (sides, firsts, ends) = sides::rows_of(&d, n, rows);
     let swept = [firsts, ends, sides, tied];
     if !sweep::sweep(given, links, &swept, found, words) {
         return false;
@@ -104,11 +104,11 @@ pub fn may(
     let Some(i) = sides[..n].iter().position(|side| *side == 1024) else {
         return true;
     };
-    let mut e = h;
+    let mut e = d.high;
     e[i] = rows;
-    if may(given, links, tied, found, words, l, e, depth - 1) {
+    if may(given, links, tied, found, words, d.low, e, depth - 1) {
         return true;
     }
-    l[i] = rows;
-    may(given, links, tied, found, words, l, h, depth - 1)
+    d.low[i] = rows;
+    may(given, links, tied, found, words, d.low, d.high, depth - 1)
 }

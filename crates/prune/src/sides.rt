@@ -3,7 +3,9 @@ ghost use Rattle.std.specs.Prelude.{◌≡◌, ◌≤◌};
 ghost use Rattle.exact.specs.Sided.{side_in, from_side};
 ghost use Rattle.prune.specs.Arrays.{Filled, side_by, row_by};
 
-// The side of a job with these frames: 0, the number of rows, or 1024 if it is not sided.
+use super::tighten::Domains;
+
+// The side of a job with these frames: 0, the number of rows, or 1024 if it is not sided, as the sweep reads it.
 fn side_of(rows: u16, l: u16, h: u16) -> u16
     requires { rows ≤ 256 }
     ensures { result ≡ side_in rows l h }
@@ -32,25 +34,20 @@ fn from_side(side: u16, v: u16, away: u16) -> u16
 }
 
 // The sides of n jobs, their first frames as rows, and the ends of their frames as rows.
-pub(super) fn rows_of(
-    low: &[u16; 128],
-    high: &[u16; 128],
-    n: usize,
-    rows: u16,
-) -> ([u16; 128], [u16; 128], [u16; 128])
+pub(super) fn rows_of(d: &Domains, n: usize, rows: u16) -> ([u16; 128], [u16; 128], [u16; 128])
     requires { (n ≤ 128) × (rows ≤ 256) }
-    ensures { Filled (side_by rows low.now high.now) n result.0
-        × Filled (row_by low.now result.0 1024) n result.1
-        × Filled (row_by high.now result.0 1025) n result.2 }
+    ensures { Filled (side_by rows d.now.low d.now.high) n result.0
+        × Filled (row_by d.now.low result.0 1024) n result.1
+        × Filled (row_by d.now.high result.0 1025) n result.2 }
 {
     let mut sides = [0u16; 128];
     let mut firsts = [0u16; 128];
     let mut ends = [0u16; 128];
     for i in 0..n {
-        let side = side_of(rows, low[i], high[i]);
+        let side = side_of(rows, d.low[i], d.high[i]);
         sides[i] = side;
-        firsts[i] = from_side(side, low[i], 1024);
-        ends[i] = from_side(side, high[i], 1025);
+        firsts[i] = from_side(side, d.low[i], 1024);
+        ends[i] = from_side(side, d.high[i], 1025);
     }
     (sides, firsts, ends)
 }

@@ -1,4 +1,4 @@
-// Domains tightened by the links: for each job the frames from `low` to before `high`. What they leave out is no placing.
+// Domains, tightened by the links: what they leave out is no placing.
 ghost use Rattle.std.specs.Prelude.{◌≡◌, true, ◌≤◌, ◌<◌, set};
 ghost use Rattle.searcher.specs.Arrays.{jobs_in, problem_in};
 ghost use Rattle.prune.specs.Arrays.{Packed, domains, Tied, Linked, Tightened, Empty};
@@ -13,91 +13,84 @@ fn moves(frames: &mut [u16; 128], i: usize, v: u16) -> bool
     moved
 }
 
-// Job a is not in a later frame than job b.
-fn tie(low: &mut [u16; 128], high: &mut [u16; 128], a: usize, b: usize) -> bool
-    requires { (a < 128) × (b < 128) }
-    ensures { Tied low.old high.old a b low.new high.new }
-{
-    let first = low[b].max(low[a]);
-    let end = high[a].min(high[b]);
-    moves(low, b, first) | moves(high, a, end)
+// For each job the frames from `low` to before `high`.
+#[derive(Clone, Copy)]
+pub(super) struct Domains {
+    pub(super) low: [u16; 128],
+    pub(super) high: [u16; 128],
 }
 
-// What link l of job i says: below 128 the partner is not later, from 128 on it is not earlier.
-fn tie_link(low: &mut [u16; 128], high: &mut [u16; 128], i: usize, l: u8) -> bool
-    requires { i < 128 }
-    ensures { Linked low.old high.old i l low.new high.new }
-{
-    if l < 128 {
-        return tie(low, high, l as usize, i);
+impl Domains {
+    // Job a is not in a later frame than job b.
+    fn tie(&mut self, a: usize, b: usize) -> bool
+        requires { (a < 128) × (b < 128) }
+        ensures { Tied self.old.low self.old.high a b self.new.low self.new.high }
+    {
+        let first = self.low[b].max(self.low[a]);
+        let end = self.high[a].min(self.high[b]);
+        moves(&mut self.low, b, first) | moves(&mut self.high, a, end)
     }
-    tie(low, high, i, (l - 128) as usize)
-}
 
-// What the links of job i say.
-fn tie_links(
-    given: &[[u16; 128]; 5],
-    links: &[u8; 2048],
-    low: &mut [u16; 128],
-    high: &mut [u16; 128],
-    i: usize,
-) -> bool
-    requires packed { Packed given.now links.now }
-    requires i_bound { i < jobs_in given.now }
-    ensures { Tightened (problem_in given.now links.now)
-        (domains low.old high.old) (domains low.new high.new) }
-{
-    let mut moved = false;
-    for l in super::links_of(given, links, i) {
-        moved |= tie_link(low, high, i, *l);
+    // What link l of job i says: below 128 the partner is not later, from 128 on it is not earlier.
+    fn tie_link(&mut self, i: usize, l: u8) -> bool
+        requires { i < 128 }
+        ensures { Linked self.old.low self.old.high i l self.new.low self.new.high }
+    {
+        if l < 128 {
+            return self.tie(l as usize, i);
+        }
+        self.tie(i, (l - 128) as usize)
     }
-    moved
-}
 
-// What the links of all jobs say, once.
-fn pass(
-    given: &[[u16; 128]; 5],
-    links: &[u8; 2048],
-    low: &mut [u16; 128],
-    high: &mut [u16; 128],
-) -> bool
-    requires { Packed given.now links.now }
-    ensures { Tightened (problem_in given.now links.now)
-        (domains low.old high.old) (domains low.new high.new) }
-{
-    let n = given[4][2] as usize;
-    let mut moved = false;
-    for i in 0..n {
-        moved |= tie_links(given, links, low, high, i);
+    // What the links of job i say.
+    fn tie_links(&mut self, given: &[[u16; 128]; 5], links: &[u8; 2048], i: usize) -> bool
+        requires packed { Packed given.now links.now }
+        requires i_bound { i < jobs_in given.now }
+        ensures { Tightened (problem_in given.now links.now)
+            (domains self.old.low self.old.high) (domains self.new.low self.new.high) }
+    {
+        let mut moved = false;
+        for l in super::links_of(given, links, i) {
+            moved |= self.tie_link(i, *l);
+        }
+        moved
     }
-    moved
-}
 
-// The same until nothing moves, at most 16 times.
-pub(super) fn tighten(
-    given: &[[u16; 128]; 5],
-    links: &[u8; 2048],
-    low: &mut [u16; 128],
-    high: &mut [u16; 128],
-)
-    requires { Packed given.now links.now }
-    ensures { Tightened (problem_in given.now links.now)
-        (domains low.old high.old) (domains low.new high.new) }
-{
-    for _ in 0..16 {
-        if !pass(given, links, low, high) {
-            return;
+    // What the links of all jobs say, once.
+    fn pass(&mut self, given: &[[u16; 128]; 5], links: &[u8; 2048]) -> bool
+        requires { Packed given.now links.now }
+        ensures { Tightened (problem_in given.now links.now)
+            (domains self.old.low self.old.high) (domains self.new.low self.new.high) }
+    {
+        let n = given[4][2] as usize;
+        let mut moved = false;
+        for i in 0..n {
+            moved |= self.tie_links(given, links, i);
+        }
+        moved
+    }
+
+    // The same until nothing moves, at most 16 times.
+    pub(super) fn tighten(&mut self, given: &[[u16; 128]; 5], links: &[u8; 2048])
+        requires { Packed given.now links.now }
+        ensures { Tightened (problem_in given.now links.now)
+            (domains self.old.low self.old.high) (domains self.new.low self.new.high) }
+    {
+        for _ in 0..16 {
+            if !self.pass(given, links) {
+                return;
+            }
         }
     }
-}
 
-// Whether a domain is empty.
-pub(super) fn is_empty(low: &[u16; 128], high: &[u16; 128], n: usize) -> bool
-    requires { n ≤ 128 }
-    ensures { result ≡ true → Empty low.now high.now n }
-{
-    low[..n]
-        .iter()
-        .zip(&high[..n])
-        .any(|(first, end)| end <= first)
+    // Whether a domain is empty.
+    pub(super) fn is_empty(&self, n: usize) -> bool
+        requires { n ≤ 128 }
+        ensures { result ≡ true → Empty self.now.low self.now.high n }
+    {
+        self.low[..n]
+            .iter()
+            .zip(&self.high[..n])
+            .any(|(first, end)| end <= first)
+    }
 }

@@ -5,4 +5,4 @@ use Rattle.prune.proofs.ArcLaws.{Comparing}
 use Rattle.prune.proofs.arcs.is_over.Given as goal
 
 abbrev pub invariant-loop-asked : goal.invariant-loop-asked
-invariant-loop-asked l = Comparing (last_by l.rows l.s l.low l.high) (weight_by l.weights) (length l.weights) l.rows l.room l.asked-index l.sum l.has
+invariant-loop-asked l = Comparing (last_by l.rows l.s l.d.low l.d.high) (weight_by l.weights) (length l.weights) l.rows l.room l.asked-index l.sum l.has

@@ -5,7 +5,7 @@ use Rattle.prune.proofs.ArcLaws.{needed_none, needed_more}
 use Rattle.prune.proofs.arcs.needs_of.Goals as goal
 
 pub loop-i-init : goal.loop-i-init
-loop-i-init c = needed_none (last_by c.args.rows c.args.s c.args.low.now c.args.high.now) (weight_by c.args.weights.now)
+loop-i-init c = needed_none (last_by c.args.rows c.args.s c.args.d.now.low c.args.d.now.high) (weight_by c.args.weights.now)
 
 pub loop-i-preserved : goal.loop-i-preserved
 loop-i-preserved c =

@@ -5,7 +5,7 @@ use Rattle.prune.proofs.sides.rows_of.Given as goal
 
 abbrev pub invariant-loop-i : goal.invariant-loop-i
 invariant-loop-i l = record {
-  sides : Filled (side_by l.rows l.low l.high) l.i l.sides;
-  firsts : Filled (sided_row l.rows l.low l.high l.low 1024) l.i l.firsts;
-  ends : Filled (sided_row l.rows l.low l.high l.high 1025) l.i l.ends;
+  sides : Filled (side_by l.rows l.d.low l.d.high) l.i l.sides;
+  firsts : Filled (sided_row l.rows l.d.low l.d.high l.d.low 1024) l.i l.firsts;
+  ends : Filled (sided_row l.rows l.d.low l.d.high l.d.high 1025) l.i l.ends;
 }

@@ -1,6 +1,6 @@
 -- One of the two ties, by the link.
 use Rattle.std.proofs.Common.{arith}
-use Rattle.prune.proofs.tighten.tie_link.Goals as goal
+use Rattle.prune.proofs.tighten.Domains.tie_link.Goals as goal
 
 pub returns-then-l-lt128 : goal.returns-then-l-lt128
 returns-then-l-lt128 c =

@@ -1,6 +1,6 @@
 -- The links of job i one after the other: no placing is left out.
 use Rattle.prune.proofs.Laws.{entry_in, links_back, tight_same, tight_more, link_tightens}
-use Rattle.prune.proofs.tighten.tie_links.Goals as goal
+use Rattle.prune.proofs.tighten.Domains.tie_links.Goals as goal
 
 pub links_of-l-items-requires : goal.links_of-l-items-requires
 links_of-l-items-requires c = links_back c.requires.packed c.args.i c.requires.i_bound

@@ -1,7 +1,7 @@
 -- The links of job i one after the other: no placing is left out.
 use Rattle.searcher.specs.Arrays.{problem_in}
 use Rattle.prune.specs.Arrays.{domains, Tightened}
-use Rattle.prune.proofs.tighten.tie_links.Given as goal
+use Rattle.prune.proofs.tighten.Domains.tie_links.Given as goal
 
 abbrev pub invariant-loop-l : goal.invariant-loop-l
-invariant-loop-l l = Tightened (problem_in l.given l.links) (domains l.initial.low l.initial.high) (domains l.low l.high)
+invariant-loop-l l = Tightened (problem_in l.given l.links) (domains l.initial.self.low l.initial.self.high) (domains l.self.low l.self.high)
