@@ -2,7 +2,7 @@
 // The jobs of a cycle as the search takes them: the cost of each, the frames of its window, and its links with the jobs before it.
 ghost use Rattle.std.specs.Prelude.{◌≡◌, map, ◌≤◌, ◌<◌, ◌==◌, ◌&&◌, min, get_or, length, position};
 ghost use Rattle.cursor.specs.Padded.{padded, firsts};
-ghost use Rattle.request.specs.Request.{no_task, no_pair};
+ghost use Rattle.request.specs.Request.{no_task};
 ghost use Rattle.cycle.specs.declared.Job.{Job};
 ghost use Rattle.model.specs.Plan.{slot, costs};
 ghost use Rattle.model.specs.Chosen.{first_frame_of, end_frame_of};

@@ -9,9 +9,9 @@
 // `pack` puts all that is given but the links into one array, so that `place_job`, the call that goes deeper, has six arguments. Its parts are the
 // jobs' costs, the first frames of their windows, the frames where these end, and the numbers of their links; the last part has the number of rows,
 // the length of a frame and the number of jobs.
-ghost use Rattle.std.specs.Prelude.{◌≡◌, [], ◌+◌, ◌≤◌, ◌<◌, ◌%◌, take, get_or};
+ghost use Rattle.std.specs.Prelude.{◌≡◌, [], ◌+◌, ◌<◌, ◌%◌, take, get_or};
 ghost use Rattle.cursor.specs.Padded.{padded};
-ghost use Rattle.search.specs.Placing.{partner, raise, lower, links_at, earliest, latest, has_room, fits, plan_walk};
+ghost use Rattle.search.specs.Placing.{raise, lower, links_at, earliest, latest, has_room, fits, plan_walk};
 ghost use Rattle.searcher.specs.Arrays.{Small, Placeable, problem_of, jobs_in, counts_in, problem_in, LinksBack, Placing, Testing, TriedJob, TriedFrame, placed_within};
 
 // What is given: for each of n jobs its cost, its window from `first` up to and without `end`, how many links it has, and 16 places for them; the number
