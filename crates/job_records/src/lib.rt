@@ -75,15 +75,13 @@ pub fn record_at(known: JobsKnown, y: usize) -> JobRecord
     requires { y < 128 }
     ensures { result ≡ record_here known y }
 {
-    let jobs = known.jobs;
-    let frames = known.frames;
-    let job = jobs[y];
+    let job = known.jobs[y];
     JobRecord {
         task: job.task,
         job: job.number,
         release: job.release,
         due: job.due,
-        frame: frames[y],
+        frame: known.frames[y],
     }
 }
 
@@ -93,10 +91,8 @@ pub fn fill(request: &[u8], table: &[u8], records: &mut [JobRecord]) -> RecordsF
         × (records.new ≡ filled_records (filling request.now table.now (length records.old)) records.old) }
 {
     let known = known(request, table, records.len());
-    let mut i: usize = 0;
-    while i < known.count {
+    for i in 0..known.count {
         records[i] = record_at(known, i);
-        i += 1;
     }
     RecordsFilled {
         refusal: known.refusal,

@@ -1,5 +1,5 @@
 -- The heater's bytes: when they are one, and what the stores come to.
-use Rattle.std.specs.Prelude.{ℕ, ◌≤◌, ◌<◌, ◌≡◌, Bool, ◌&&◌, List, [], ◌∷◌, ◌++◌, set, take, drop}
+use Rattle.std.specs.Prelude.{ℕ, ◌≤◌, ◌≡◌, Bool, ◌&&◌, List, [], ◌∷◌, ◌++◌, set, take, drop}
 use Rattle.std.proofs.Math.Path.{refl}
 use Rattle.std.proofs.Common.{sym, ap, ◌∙◌, append_assoc, arith, drop-drop}
 use Rattle.std.proofs.Math.Bool.{true, false, cond}
@@ -7,7 +7,7 @@ use Rattle.std.proofs.lemmas.Bool.{false≢true}
 use Rattle.std.proofs.Math.ListN.{length}
 use Rattle.std.proofs.lemmas.List.Edits.{sets-eq}
 use Rattle.std.proofs.Math.Dec.{ltb}
-use borrow.Author.Tests.{ltb-false, lt-ltb, le-ltb}
+use borrow.Author.Tests.{ltb-false}
 use mir.Val.{bool_byte}
 use Rattle.cursor.specs.Choice.{bit}
 use Rattle.dispatcher.specs.declared.State.{State}
@@ -17,23 +17,6 @@ use Rattle.lent.specs.StateBack.{state_behind}
 use Rattle.lent.specs.HeaterBytes.{is_bit, is_heater, heater_bytes}
 
 module _ (bytes : List ℕ) where
-  pub heater_short : length bytes < 72 → false ≡ is_heater bytes
-  unfolding is_heater
-  heater_short h = rw (lt-ltb (length bytes) 72 h)
-
-  module _ (h : 72 ≤ length bytes) where
-    pub heater_no_state : is_state bytes ≡ false → false ≡ is_heater bytes
-    unfolding is_heater
-    heater_no_state e = rw (le-ltb (length bytes) 72 h, e)
-
-    pub heater_no_bits : is_state bytes ≡ true → is_bit bytes 64 && is_bit bytes 65 ≡ false → false ≡ is_heater bytes
-    unfolding is_heater
-    heater_no_bits e q = rw (le-ltb (length bytes) 72 h, e, q)
-
-    pub heater_bits : is_state bytes ≡ true → is_bit bytes 64 && is_bit bytes 65 ≡ true → is_bit bytes 66 && is_bit bytes 67 ≡ is_heater bytes
-    unfolding is_heater
-    heater_bits e q = rw (le-ltb (length bytes) 72 h, e, q)
-
   pub heater_long : is_heater bytes ≡ true → 72 ≤ length bytes
   unfolding is_heater
   heater_long e = go (ltb (length bytes) 72) refl e

@@ -1,5 +1,5 @@
 -- The state's bytes: when 64 are there, and what stores one behind the other come to.
-use Rattle.std.specs.Prelude.{ℕ, ◌≤◌, ◌<◌, ◌≡◌, Bool, List, [], ◌∷◌, ◌++◌, get_or, set, take, drop}
+use Rattle.std.specs.Prelude.{ℕ, ◌≤◌, ◌≡◌, Bool, List, [], ◌∷◌, ◌++◌, get_or, set, take, drop}
 use Rattle.std.proofs.Math.Path.{refl}
 use Rattle.std.proofs.Common.{◌∙◌, arith, length-append}
 use Rattle.std.proofs.Math.Bool.{true, false, cond}
@@ -8,7 +8,7 @@ use Rattle.std.proofs.Math.ListN.{length}
 use Rattle.std.proofs.lemmas.List.Edits.{sets, sets-eq}
 use Rattle.std.proofs.Math.Seq.{append_snoc}
 use Rattle.std.proofs.Math.Dec.{ltb}
-use borrow.Author.Tests.{ltb-false, lt-ltb, le-ltb}
+use borrow.Author.Tests.{ltb-false, le-ltb}
 use mir.Val.{bool_byte}
 use Rattle.cursor.specs.Fields.{word_bytes}
 use Rattle.cursor.specs.WordBytesLaws.{word_long, stored_after}
@@ -18,10 +18,6 @@ use Rattle.lent.specs.WordLaws.{stored_behind}
 use Rattle.lent.specs.State.{is_state, mark_byte, state_bytes}
 
 module _ (bytes : List ℕ) where
-  pub short : length bytes < 64 → false ≡ is_state bytes
-  unfolding is_state
-  short h = rw (lt-ltb (length bytes) 64 h)
-
   pub long : 64 ≤ length bytes → ltb (get_or bytes 2 0) 2 ≡ is_state bytes
   unfolding is_state
   long h = rw (le-ltb (length bytes) 64 h)

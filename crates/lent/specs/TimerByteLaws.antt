@@ -12,10 +12,6 @@ module _ (bytes : List ℕ) where
   abbrev judged_long : Bool
   judged_long = ltb (get_or bytes 2 0) 2 && (ltb (get_or bytes 64 0) 4 && ltb (get_or bytes 65 0) 8)
 
-  pub timer_short : length bytes < 72 → false ≡ is_timer bytes
-  unfolding is_timer
-  timer_short h = rw (lt-ltb (length bytes) 72 h)
-
   pub timer_long : is_timer bytes ≡ true → 72 ≤ length bytes
   unfolding is_timer
   timer_long e = go (ltb (length bytes) 72) refl e
@@ -25,15 +21,7 @@ module _ (bytes : List ℕ) where
       go false w q = ltb-false (length bytes) 72 w
 
   module _ (long : 72 ≤ length bytes) where
-    pub bad_mark : 2 ≤ get_or bytes 2 0 → false ≡ is_timer bytes
-    unfolding is_timer
-    bad_mark h = rw (le-ltb (length bytes) 72 long, le-ltb (get_or bytes 2 0) 2 h)
-
     module _ (mark : get_or bytes 2 0 < 2) where
-      pub bad_control : 4 ≤ get_or bytes 64 0 → false ≡ is_timer bytes
-      unfolding is_timer
-      bad_control h = rw (le-ltb (length bytes) 72 long, lt-ltb (get_or bytes 2 0) 2 mark, le-ltb (get_or bytes 64 0) 4 h)
-
       pub status_decides : get_or bytes 64 0 < 4 → ltb (get_or bytes 65 0) 8 ≡ is_timer bytes
       unfolding is_timer
       status_decides h = rw (le-ltb (length bytes) 72 long, lt-ltb (get_or bytes 2 0) 2 mark, lt-ltb (get_or bytes 64 0) 4 h)

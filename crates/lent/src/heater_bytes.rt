@@ -12,19 +12,14 @@ fn two_bits(x: u8, y: u8) -> bool
 }
 
 // 72 bytes or more, a state in front, and bytes 64 to 67 each 0 or 1.
+#[tactic(auto, unfolding(crate::specs::HeaterBytes::is_heater))]
 pub fn is_heater(heater: &[u8]) -> bool
     ensures { result ≡ is_heater heater.now }
 {
-    if heater.len() < 72 {
-        return false;
-    }
-    if !is_state(heater) {
-        return false;
-    }
-    if !two_bits(heater[64], heater[65]) {
-        return false;
-    }
-    two_bits(heater[66], heater[67])
+    heater.len() >= 72
+        && is_state(heater)
+        && two_bits(heater[64], heater[65])
+        && two_bits(heater[66], heater[67])
 }
 
 pub fn read_link(heater: &[u8]) -> Link

@@ -6,13 +6,11 @@ use crate::words::{store_word, store_words, word, words};
 use dispatcher::State;
 
 // 64 bytes or more, with a mark of 0 or 1.
+#[tactic(auto, unfolding(crate::specs::State::is_state))]
 pub fn is_state(state: &[u8]) -> bool
     ensures { result ≡ is_state state.now }
 {
-    if state.len() < 64 {
-        return false;
-    }
-    state[2] < 2
+    state.len() >= 64 && state[2] < 2
 }
 
 // The count of task i stands in bytes 3 + 2i and 4 + 2i.

@@ -6,19 +6,11 @@ use crate::state::{read_state, write_state};
 use timer::Timer;
 
 // 72 bytes or more, with a mark of 0 or 1, control of at most 3 and status of at most 7.
+#[tactic(auto, unfolding(crate::specs::TimerBytes::is_timer))]
 pub fn is_timer(timer: &[u8]) -> bool
     ensures { result ≡ is_timer timer.now }
 {
-    if timer.len() < 72 {
-        return false;
-    }
-    if timer[2] > 1 {
-        return false;
-    }
-    if timer[64] > 3 {
-        return false;
-    }
-    timer[65] < 8
+    timer.len() >= 72 && timer[2] < 2 && timer[64] < 4 && timer[65] < 8
 }
 
 pub fn read_timer(timer: &[u8]) -> Timer

@@ -24,9 +24,8 @@ loop-i-preserved c =
     let tl = filling a.request.now a.table.now (length a.records.now) in
     let k = known_for a.request.now a.table.now (length a.records.now) c.known-known.result c.known-known.ensures in
     let few = filling_few a.request.now a.table.now (length a.records.now) in (
-      omega arith,
-      length-set l.records l.i c.record_at.result ∙ l.invariant.1,
-      rw (l.invariant.2, c.record_at.ensures) (fill_more tl a.records.now c.known-known.result k l.i few c.loop-i-test.true),
+      length-set l.records l.i c.record_at.result ∙ l.invariant.0,
+      rw (l.invariant.1, c.record_at.ensures) (fill_more tl a.records.now c.known-known.result k l.i few c.loop-i-test.true),
     )
 
 pub returns : goal.returns
@@ -36,5 +35,5 @@ returns c =
     let tl = filling a.request.now a.table.now (length a.records.now) in
     let k = known_for a.request.now a.table.now (length a.records.now) c.known-known.result c.known-known.ensures in (
       fill_answer tl a.records.now c.known-known.result k,
-      l.invariant.2 ∙ fill_end tl a.records.now c.known-known.result k l.i l.invariant.0 c.loop-i-test.false,
+      l.invariant.1 ∙ fill_end tl a.records.now c.known-known.result k l.i (omega arith) c.loop-i-test.false,
     )
