@@ -1,12 +1,11 @@
 -- Plausible is necessary for a plan. Each job of a task stands in its window, so all windows of the task hold a frame, which is the rule
 -- of the phase by `PhaseExact`; and a row holds a job of the task, so its C is at most f.
-use Rattle.std.specs.Prelude.{◌≡◌, Bool, true, ◌&&◌, length, get_or, drop, leb, ltb, eqb}
+use Rattle.std.specs.Prelude.{◌≡◌, Bool, true, length, get_or, leb, ltb, eqb}
 use Rattle.std.proofs.Math.Path.{refl}
 use mathlib.Core.List.{List, [], ◌∷◌}
-use Prim.Native.Nat.{ℕ, zero, suc, ◌+◌, ◌%◌, ◌≤◌, ◌<◌, ◌∣◌}
+use Prim.Native.Nat.{ℕ, zero, suc, ◌%◌, ◌≤◌, ◌<◌, ◌∣◌}
 use Rattle.std.proofs.Math.Nat.{mod-eq-zero_of_dvd, dvd_of_mod-eq-zero}
-use Rattle.std.proofs.Common.{add-one, arith, drop_of_length-le}
-use Rattle.std.proofs.Math.Seq.{drop-cons}
+use Rattle.std.proofs.Common.{arith}
 use borrow.Author.Tests.{lt-ltb, ltb-true, le-leb, leb-true, eq-eqb, eqb-true}
 use Rattle.cursor.specs.ParsedLaws.{both_true}
 use Rattle.request.specs.Request.{no_task}
@@ -51,17 +50,6 @@ module _ (rule : ℕ → Task → Bool) (g f : ℕ) where
   unfolding frame_rules
   say_rules [] v = refl
   say_rules (task ∷ tasks) v = rw (says_rule task (v 0 (omega arith))) (say_rules tasks (λ i h. v (suc i) (omega arith)))
-
--- the rules, a task at a time
-module _ (rule : ℕ → Task → Bool) (g f : ℕ) (tasks : List Task) (i : ℕ) where
-  pub rules_end : length tasks ≤ i → frame_rules rule g f (drop i tasks) ≡ true
-  unfolding frame_rules
-  rules_end h = rw (drop_of_length-le tasks h)
-
-  pub rules_next : i < length tasks
-      → frame_rules rule g f (drop i tasks) ≡ frame_rule rule g f (get_or tasks i no_task) && frame_rules rule g f (drop (i + 1) tasks)
-  unfolding frame_rules
-  rules_next h = rw (add-one i, drop-cons tasks i no_task h)
 
 module _ {rule : ℕ → Task → Bool} (x : Instance) (f : ℕ) where
   pub plausible_says : plausible_by rule x f ≡ true → PlausibleBy rule x f

@@ -140,7 +140,8 @@ fn read_pair(s: &[u8], from: Cursor, tasks: &[Task]) -> Result<(Pair, Cursor), R
     }
 }
 
-// The second section, from the front of s, for the tasks of the first.
+// The second section, from the front of s, for the tasks of the first. It is not one function with read_tasks: over a reader of records as a
+// closure, the contract would have to follow that closure's answers from call to call, and be longer than the loop.
 fn read_pairs(s: &[u8], tasks: &[Task]) -> Result<Section<Pair>, Refusal>
     ensures { pairs_said result ≡ pair_section (pairs_of tasks.now s.now) }
 {

@@ -33,7 +33,8 @@ fn write_tasks(out: &mut [u8], tasks: &[Task]) -> usize
     at
 }
 
-// The second section, at the front of `out`; answers the number of its bytes.
+// The second section, at the front of `out`; answers the number of its bytes. It is not one function with write_tasks: a trait of records, with
+// their bytes, their width and its law, and its two impls are longer than the two loops.
 fn write_pairs(out: &mut [u8], pairs: &[Pair]) -> usize
     requires { (length pairs.now ≤ 16) × (length (section_bytes pair_bytes pairs.now) ≤ length out.old) }
     ensures { Placed (section_bytes pair_bytes pairs.now) out.old out.new result }
