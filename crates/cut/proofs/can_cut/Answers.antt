@@ -1,12 +1,13 @@
--- Each way out is one of the test's cases.
-use Rattle.cut.specs.CutLaws.{no_task_lem, no_piece, piece_judged}
+-- The answer is the definition's test.
+use Rattle.std.proofs.Common.{arith}
+use Rattle.std.proofs.lemmas.Grind.{common_steps}
+use Rattle.cut.specs.Cut.{cuttable}
 use Rattle.cut.proofs.can_cut.Goals as goal
 
-pub returns-then-n-i : goal.returns-then-n-i
-returns-then-n-i c = no_task_lem _ _ _ _ c.if-n-i.true
+pub returns-then-u-ge1 : goal.returns-then-u-ge1
+unfolding cuttable
+returns-then-u-ge1 c = grind (arith, common_steps)
 
-pub returns-then-u-lt1 : goal.returns-then-u-lt1
-returns-then-u-lt1 c = no_piece _ _ _ _ c.if-n-i.false c.if-u-lt1.true
-
-pub returns : goal.returns
-returns c = piece_judged _ _ _ _ c.if-n-i.false c.if-u-lt1.false
+pub returns-else-u-ge1 : goal.returns-else-u-ge1
+unfolding cuttable
+returns-else-u-ge1 c = grind (arith, common_steps)

@@ -1,21 +1,12 @@
--- The loop keeps that the array holds the cut request's tasks before task k, and nothing behind.
-use Rattle.std.proofs.Common.{◌+◌, ◌≡◌, ap, sym, ◌∙◌, arith}
-use Rattle.cursor.specs.Padded.{padded}
-use Rattle.request.specs.Request.{no_task}
-use Rattle.cut.specs.CutLaws.{firsts_none, firsts_more, firsts_all, tasks_counted}
+-- The tasks before task i, those behind it, and the two pieces are put into the array.
+use Rattle.std.proofs.Common.{◌+◌, ◌-◌, ◌≡◌, length, take, drop, ◌∙◌, arith, length-drop, take_all}
+use Rattle.cut.specs.CutLaws.{tasks_put}
 use Rattle.cut.proofs.cut_tasks.Goals as goal
-
-pub loop-k-init : goal.loop-k-init
-loop-k-init c = (omega arith, c.requires.0, c.requires.1, c.requires.2, firsts_none no_task _)
-
-pub loop-k-preserved : goal.loop-k-preserved
-loop-k-preserved c =
-    let l = c.loop-k in
-    (omega arith, l.invariant.1, l.invariant.2, l.invariant.3, rw (l.invariant.4, c.task_at.ensures) (firsts_more no_task _ l.k (omega arith)))
 
 pub returns : goal.returns
 returns c =
-    let l = c.loop-k in
-    let a = c.args in
-    let all : l.k ≡ a.n + 1 = omega arith in
-    l.invariant.4 ∙ ap (padded 16 no_task) (firsts_all no_task _ l.k (tasks_counted a.tasks a.n a.i a.u l.invariant.2 l.invariant.3 ∙ sym all))
+    let known = c.requires.1 in
+    let tasks = c.args.tasks.now in
+    let after = drop (c.args.i + 1) tasks in
+    let all : take (length tasks - (c.args.i + 1)) after ≡ after = take_all _ after (simp length-drop (omega arith)) in
+    tasks_put c.args.tasks.now _ _ c.args.i c.args.u _ c.copy_from_slice.ensures.after (c.copy_from_slice-2.ensures.after ∙ all) known c.requires.0 (omega arith)
