@@ -3,8 +3,7 @@ use Rattle.std.specs.Prelude.{ℕ, ◌≤◌, ◌<◌, ◌≡◌, refl, Bool, tr
 use Rattle.std.proofs.Common.{sym, ◌∙◌, arith, lt-ltb, le-ltb, ltb-false}
 use Rattle.std.proofs.Math.Path.{ap}
 use Rattle.std.proofs.lemmas.Option.{same_Some}
-use Rattle.cursor.specs.Padded.{padded}
-use Rattle.cursor.specs.PaddedLaws.{padded_length, take_padded}
+use Rattle.cursor.specs.PaddedLaws.{take_padded}
 use Rattle.cursor.specs.ParsedLaws.{never}
 use Rattle.refusal.specs.declared.Refusal.{Refusal}
 use Rattle.request.specs.Request.{Reading, readable, unreadable, reading, no_task, no_pair}
@@ -88,14 +87,8 @@ module _ {r : Request} (as_read : AsRead r) where
   tasks = as_read.tasks
 
   -- the tasks in its places
-  pub named : take r.n r.tasks ≡ tasks
+  named : take r.n r.tasks ≡ tasks
   named = first_tasks tasks as_read.pairs as_read.g as_read.is
-
-  pub places : (r.n ≤ 16) × (length r.tasks ≡ 16)
-  places =
-      let size : r.n ≡ length tasks = ap (λ (y : read.Request). y.n) as_read.is in
-      let all : r.tasks ≡ padded 16 no_task tasks = ap (λ (y : read.Request). y.tasks) as_read.is in
-      (omega (arith, size, as_read.kept.few_tasks), ap length all ∙ padded_length 16 no_task tasks as_read.kept.few_tasks)
 
   pub sized : Sized (take r.n r.tasks)
   sized = let kept = as_read.kept in rw named (record { some = kept.some_task; few = kept.few_tasks; kept = kept.task })
