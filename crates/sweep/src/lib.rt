@@ -198,6 +198,8 @@ fn next_job(
 // was no way on; `None` says nothing. At most `left` jobs are put, each by one call more. The jobs put into row p so far may
 // stand only in rows before row `reach`. At the end of a row the jobs are in order again, so this is tested there, once for all that follows.
 // Each turn goes on to a job or to a row, so the loop counts neither.
+// What is given goes on argument by argument: lent as one struct of borrowed parts it took 1.05 times as long over five long searches (0.99 times
+// over those left open), where the bar is 1.03.
 #[cycle(put_run)]
 fn run(
     given: &[[u16; 128]; 5],
