@@ -2,7 +2,7 @@
 ghost use Rattle.std.specs.Prelude.{◌≡◌};
 ghost use Rattle.bus.specs.Dispatch.{fresh_reply, fresh_bytes, frame_reply, frame_state, frame_entries, report_reply, report_state};
 
-use crate::reply::{refusal, value};
+use crate::reply::{BAD_BYTES, refused, value};
 use lent::entries::write_pairs;
 use lent::state::{is_state, read_state, write_state};
 use lent::words::clear;
@@ -12,7 +12,7 @@ pub fn bus_fresh(state: &mut [u8]) -> i32
     ensures { (result ≡ fresh_reply state.old) × (state.new ≡ fresh_bytes state.old) }
 {
     if state.len() < 64 {
-        return refusal(99);
+        return BAD_BYTES;
     }
     clear(state, 64);
     write_state(state, dispatcher::fresh());
@@ -25,22 +25,18 @@ pub fn bus_next_frame(table: &[u8], state: &mut [u8], entries: &mut [u8]) -> i32
         × (state.new ≡ frame_state table.now state.old entries.old)
         × (entries.new ≡ frame_entries table.now state.old entries.old) }
 {
-    if !is_state(state) {
-        return refusal(99);
-    }
-    if entries.len() < 32 {
-        return refusal(99);
+    if !is_state(state) || entries.len() < 32 {
+        return BAD_BYTES;
     }
     let old = read_state(state);
-    let frame = dispatcher::next_frame(table, old);
-    if frame.refusal != 0 {
-        return refusal(frame.refusal);
+    match dispatcher::next_frame(table, old) {
+        Ok(frame) => {
+            write_pairs(entries, frame.tasks, frame.jobs);
+            write_state(state, frame.state);
+            value(frame.count)
+        }
+        Err(refusal) => refused(refusal),
     }
-    let tasks = frame.tasks;
-    let jobs = frame.jobs;
-    write_pairs(entries, tasks, jobs);
-    write_state(state, frame.state);
-    value(frame.count)
 }
 
 // The ticks that a task used, and the state after the report: 0, or 99, 1 to 6, 17 or 16 negated and nothing changed.
@@ -48,13 +44,14 @@ pub fn bus_report(request: &[u8], task: u8, ticks: u32, state: &mut [u8]) -> i32
     ensures { (result ≡ report_reply request.now task ticks state.old) × (state.new ≡ report_state request.now task ticks state.old) }
 {
     if !is_state(state) {
-        return refusal(99);
+        return BAD_BYTES;
     }
     let old = read_state(state);
-    let reported = dispatcher::report(request, task, ticks, old);
-    if reported.refusal != 0 {
-        return refusal(reported.refusal);
+    match dispatcher::report(request, task, ticks, old) {
+        Ok(reported) => {
+            write_state(state, reported.state);
+            0
+        }
+        Err(refusal) => refused(refusal),
     }
-    write_state(state, reported.state);
-    0
 }

@@ -2,7 +2,7 @@
 ghost use Rattle.std.specs.Prelude.{◌≡◌};
 ghost use Rattle.bus.specs.Heater.{heater_fresh_reply, heater_fresh_bytes, losses_in, heater_reply, heater_after, heater_entries};
 
-use crate::reply::{refusal, value};
+use crate::reply::{BAD_BYTES, refused, value};
 use heater_link::Losses;
 use lent::entries::write_pairs;
 use lent::heater_bytes::{is_heater, read_link, write_heater};
@@ -13,7 +13,7 @@ pub fn bus_heater_fresh(heater: &mut [u8]) -> i32
     ensures { (result ≡ heater_fresh_reply heater.old) × (heater.new ≡ heater_fresh_bytes heater.old) }
 {
     if heater.len() < 72 {
-        return refusal(99);
+        return BAD_BYTES;
     }
     clear(heater, 72);
     write_heater(heater, heater_link::fresh(), false, false);
@@ -45,20 +45,16 @@ pub fn bus_heater_serve(
         × (heater.new ≡ heater_after request.now table.now a b lost heater.old entries.old)
         × (entries.new ≡ heater_entries request.now table.now a b lost heater.old entries.old) }
 {
-    if !is_heater(heater) {
-        return refusal(99);
-    }
-    if entries.len() < 32 {
-        return refusal(99);
+    if !is_heater(heater) || entries.len() < 32 {
+        return BAD_BYTES;
     }
     let old = read_link(heater);
-    let served = heater_link::serve(request, table, a, b, told(lost), old);
-    if served.refusal != 0 {
-        return refusal(served.refusal);
+    match heater_link::serve(request, table, a, b, told(lost), old) {
+        Ok(served) => {
+            write_pairs(entries, served.tasks, served.jobs);
+            write_heater(heater, served.link, served.toggled, served.answered);
+            value(served.count)
+        }
+        Err(refusal) => refused(refusal),
     }
-    let tasks = served.tasks;
-    let jobs = served.jobs;
-    write_pairs(entries, tasks, jobs);
-    write_heater(heater, served.link, served.toggled, served.answered);
-    value(served.count)
 }

@@ -4,7 +4,7 @@ ghost use Rattle.bus.specs.Timer.{timer_fresh_reply, timer_fresh_bytes, timer_re
 ghost use Rattle.bus.specs.Timer.{timer_event_reply, timer_event_bytes, timer_serve_reply, timer_serve_bytes, timer_serve_entries};
 ghost use Rattle.bus.specs.Timer.{timer_report_reply, timer_report_bytes, timer_line_reply};
 
-use crate::reply::{refusal, value};
+use crate::reply::{BAD_BYTES, refused, value};
 use lent::entries::write_pairs;
 use lent::timer_bytes::{is_timer, read_timer, write_timer};
 use lent::words::clear;
@@ -14,7 +14,7 @@ pub fn bus_timer_fresh(timer: &mut [u8]) -> i32
     ensures { (result ≡ timer_fresh_reply timer.old) × (timer.new ≡ timer_fresh_bytes timer.old) }
 {
     if timer.len() < 72 {
-        return refusal(99);
+        return BAD_BYTES;
     }
     clear(timer, 72);
     write_timer(timer, timer::fresh());
@@ -26,14 +26,13 @@ pub fn bus_timer_read(address: u8, timer: &[u8]) -> i32
     ensures { result ≡ timer_read_reply address timer.now }
 {
     if !is_timer(timer) {
-        return refusal(99);
+        return BAD_BYTES;
     }
     let old = read_timer(timer);
-    let read = timer::read(address, old);
-    if read.refusal != 0 {
-        return refusal(read.refusal);
+    match timer::read(address, old) {
+        Ok(value) => i32::from(value),
+        Err(refusal) => refused(refusal),
     }
-    value(read.value as usize)
 }
 
 // A byte written to an address, and the timer after it: 0, or 99 or 29 negated and nothing changed.
@@ -41,15 +40,10 @@ pub fn bus_timer_write(address: u8, value: u8, timer: &mut [u8]) -> i32
     ensures { (result ≡ timer_write_reply address value timer.old) × (timer.new ≡ timer_write_bytes address value timer.old) }
 {
     if !is_timer(timer) {
-        return refusal(99);
+        return BAD_BYTES;
     }
     let old = read_timer(timer);
-    let changed = timer::write(address, value, old);
-    if changed.refusal != 0 {
-        return refusal(changed.refusal);
-    }
-    write_timer(timer, changed.timer);
-    0
+    hand_back(timer, timer::write(address, value, old))
 }
 
 // A timer event, and the timer after it: 0, or 99 negated and nothing changed.
@@ -57,7 +51,7 @@ pub fn bus_timer_event(timer: &mut [u8]) -> i32
     ensures { (result ≡ timer_event_reply timer.old) × (timer.new ≡ timer_event_bytes timer.old) }
 {
     if !is_timer(timer) {
-        return refusal(99);
+        return BAD_BYTES;
     }
     let old = read_timer(timer);
     let after = timer::event(old);
@@ -72,26 +66,21 @@ pub fn bus_timer_serve(table: &[u8], timer: &mut [u8], entries: &mut [u8]) -> i3
         × (timer.new ≡ timer_serve_bytes table.now timer.old entries.old)
         × (entries.new ≡ timer_serve_entries table.now timer.old entries.old) }
 {
-    if !is_timer(timer) {
-        return refusal(99);
-    }
-    if entries.len() < 32 {
-        return refusal(99);
+    if !is_timer(timer) || entries.len() < 32 {
+        return BAD_BYTES;
     }
     let old = read_timer(timer);
-    let status = old.status;
-    if !status.due {
+    if !old.status.due {
         return 0;
     }
-    let frame = timer::serve(table, old);
-    if frame.refusal != 0 {
-        return refusal(frame.refusal);
+    match timer::serve(table, old) {
+        Ok(frame) => {
+            write_pairs(entries, frame.tasks, frame.jobs);
+            write_timer(timer, frame.timer);
+            value(frame.count)
+        }
+        Err(refusal) => refused(refusal),
     }
-    let tasks = frame.tasks;
-    let jobs = frame.jobs;
-    write_pairs(entries, tasks, jobs);
-    write_timer(timer, frame.timer);
-    value(frame.count)
 }
 
 // The ticks that a task used, and the timer after the report: 0, or 99, 1 to 6, 17 or 16 negated and nothing changed.
@@ -100,15 +89,10 @@ pub fn bus_timer_report(request: &[u8], task: u8, ticks: u32, timer: &mut [u8]) 
         × (timer.new ≡ timer_report_bytes request.now task ticks timer.old) }
 {
     if !is_timer(timer) {
-        return refusal(99);
+        return BAD_BYTES;
     }
     let old = read_timer(timer);
-    let changed = timer::report(request, task, ticks, old);
-    if changed.refusal != 0 {
-        return refusal(changed.refusal);
-    }
-    write_timer(timer, changed.timer);
-    0
+    hand_back(timer, timer::report(request, task, ticks, old))
 }
 
 // The interrupt line: 1 where it is on, else 0; or 99 negated.
@@ -116,11 +100,7 @@ pub fn bus_timer_line(timer: &[u8]) -> i32
     ensures { result ≡ timer_line_reply timer.now }
 {
     if !is_timer(timer) {
-        return refusal(99);
+        return BAD_BYTES;
     }
-    let old = read_timer(timer);
-    if timer::line(old) {
-        return 1;
-    }
-    0
+    i32::from(timer::line(read_timer(timer)))
 }

@@ -4,7 +4,7 @@ ghost use Rattle.bus.specs.Join.{join_reply, join_buffer};
 ghost use Rattle.bus.specs.Cut.{cut_reply, cut_buffer};
 ghost use Rattle.bus.specs.Phases.{phases_reply, phases_counts};
 
-use crate::reply::{refusal, value};
+use crate::reply::{BAD_BYTES, length, refused};
 use lent::numbers::write_phases;
 
 // The request of the two joined, written into `out`: its length, or 1 to 6, 17 to 20 or 11 negated.
@@ -12,11 +12,7 @@ pub fn bus_join(first: &[u8], second: &[u8], out: &mut [u8]) -> i32
     ensures { (result ≡ join_reply first.now second.now out.old)
         × (out.new ≡ join_buffer first.now second.now out.old) }
 {
-    let written = join::join(first, second, out);
-    if written.refusal != 0 {
-        return refusal(written.refusal);
-    }
-    value(written.length)
+    length(join::join(first, second, out))
 }
 
 // The request with one task cut into two pieces, written into `out`: its length, or 1 to 6, 17, 24, 25, 19 or 11 negated.
@@ -24,11 +20,7 @@ pub fn bus_cut(request: &[u8], task: u8, first: u16, out: &mut [u8]) -> i32
     ensures { (result ≡ cut_reply request.now task first out.old)
         × (out.new ≡ cut_buffer request.now task first out.old) }
 {
-    let written = cut::cut(request, task, first, out);
-    if written.refusal != 0 {
-        return refusal(written.refusal);
-    }
-    value(written.length)
+    length(cut::cut(request, task, first, out))
 }
 
 // How many phases of a task lead to a table, to 9, to 10 and to 23, as four u16 in the first 8 bytes of `counts`: 0, or 99, 1 to 8, 17 or 16 negated and
@@ -38,12 +30,13 @@ pub fn bus_phases(request: &[u8], task: u8, allowance: u64, counts: &mut [u8]) -
         × (counts.new ≡ phases_counts allowance request.now task counts.old) }
 {
     if counts.len() < 8 {
-        return refusal(99);
+        return BAD_BYTES;
     }
-    let found = phases::phases(request, task, allowance);
-    if found.refusal != 0 {
-        return refusal(found.refusal);
+    match phases::phases(request, task, allowance) {
+        Ok(found) => {
+            write_phases(counts, found);
+            0
+        }
+        Err(refusal) => refused(refusal),
     }
-    write_phases(counts, found);
-    0
 }

@@ -6,7 +6,7 @@ ghost use Rattle.bus.specs.Rewrite.{rewrite_reply, rewrite_buffer};
 ghost use Rattle.bus.specs.OneOff.{one_off_reply};
 ghost use Rattle.bus.specs.Check.{check_reply};
 
-use crate::reply::{refusal, value};
+use crate::reply::{BAD_BYTES, length, refused, value};
 use lent::numbers::write_number;
 
 // The table of the request's chosen plan, written into `out`, if the search needs no more tries than allowed: its length, or 1 to 11, 17 or 23 negated. The
@@ -17,14 +17,11 @@ pub fn bus_plan(request: &[u8], allowance: u64, out: &mut [u8], tries: &mut [u8]
         × (tries.new ≡ plan_tries allowance request.now out.old tries.old) }
 {
     if tries.len() < 8 {
-        return refusal(99);
+        return BAD_BYTES;
     }
     let searched = planner::plan(request, allowance, out);
     write_number(tries, searched.tries);
-    if searched.refusal != 0 {
-        return refusal(searched.refusal);
-    }
-    value(searched.length)
+    length(searched.outcome)
 }
 
 // The table of the request's chosen plan, written into `out`, however long the search takes: its length, or 1 to 11 or 17 negated.
@@ -32,22 +29,17 @@ pub fn bus_decide(request: &[u8], out: &mut [u8]) -> i32
     ensures { (result ≡ decide_reply request.now out.old)
         × (out.new ≡ decide_buffer request.now out.old) }
 {
-    let written = decider::decide(request, out);
-    if written.refusal != 0 {
-        return refusal(written.refusal);
-    }
-    value(written.length)
+    length(decider::decide(request, out))
 }
 
 // Whether the table describes a plan of the request: 0, or 1 to 8, 17 or 12 to 14 negated.
 pub fn bus_check(request: &[u8], table: &[u8]) -> i32
     ensures { result ≡ check_reply request.now table.now }
 {
-    let number = checker::check(request, table);
-    if number != 0 {
-        return refusal(number);
+    match checker::check(request, table) {
+        Ok(()) => 0,
+        Err(refusal) => refused(refusal),
     }
-    0
 }
 
 // The table of the plan that is read from a table, written into `out`: its length, or 1 to 8, 17, 12 to 14 or 11 negated.
@@ -55,11 +47,7 @@ pub fn bus_rewrite(request: &[u8], table: &[u8], out: &mut [u8]) -> i32
     ensures { (result ≡ rewrite_reply request.now table.now out.old)
         × (out.new ≡ rewrite_buffer request.now table.now out.old) }
 {
-    let written = rewriter::rewrite(request, table, out);
-    if written.refusal != 0 {
-        return refusal(written.refusal);
-    }
-    value(written.length)
+    length(rewriter::rewrite(request, table, out))
 }
 
 // The earliest frame, counted from time 0, with time for a transfer of `length` ticks between the ticks `from` and `until`: its number, or 1 to 8, 17,
@@ -67,9 +55,8 @@ pub fn bus_rewrite(request: &[u8], table: &[u8], out: &mut [u8]) -> i32
 pub fn bus_one_off(request: &[u8], table: &[u8], length: u32, from: u32, until: u32) -> i32
     ensures { result ≡ one_off_reply length from until request.now table.now }
 {
-    let found = one_off::one_off(request, table, length, from, until);
-    if found.refusal != 0 {
-        return refusal(found.refusal);
+    match one_off::one_off(request, table, length, from, until) {
+        Ok(frame) => value(usize::from(frame)),
+        Err(refusal) => refused(refusal),
     }
-    value(found.frame as usize)
 }
