@@ -30,7 +30,7 @@ pub struct Drafted {
     pub draft: Draft,
 }
 
-// The placed jobs in planning order, with their frames.
+// The placed jobs in planning order, with their frames: in arrays with their count, since there is no heap.
 #[derive(Clone, Copy)]
 struct Placing {
     count: usize,

@@ -5,7 +5,7 @@ ghost use Rattle.cycle.specs.PhaseLaws.{request_with};
 ghost use Rattle.phases.specs.Phases.{phase_counts, uncounted, phases};
 ghost use Rattle.phases.specs.Counting.{Room, one_more, Countable, period_in, phase_number};
 
-use request::{Request, Task};
+use request::Request;
 
 // A refusal, or 0; and how many phases of the task lead to a table, to 9, to 10 and to 23.
 #[derive(Clone, Copy)]
@@ -35,23 +35,9 @@ fn with_phase(request: Request, i: usize, p: u16) -> Request
     requires { i < 16 }
     ensures { result ≡ request_with request i p }
 {
-    let mut tasks = request.tasks;
-    let x = tasks[i];
-    tasks[i] = Task {
-        c: x.c,
-        t: x.t,
-        d: x.d,
-        p,
-    };
-    let pairs = request.pairs;
-    Request {
-        refusal: request.refusal,
-        n: request.n,
-        tasks,
-        m: request.m,
-        pairs,
-        g: request.g,
-    }
+    let mut shifted = request;
+    shifted.tasks[i].p = p;
+    shifted
 }
 
 // What planning comes to with phase p for task i: 0 for a table, 9, 10 or 23. The jobs are listed anew, in the order of their new releases.
@@ -71,14 +57,12 @@ fn one_more(counts: PhaseCounts, number: u8) -> PhaseCounts
     ensures { result ≡ one_more counts number }
 {
     let mut more = counts;
-    if number == 0 {
-        more.tables += 1;
-    } else if number == 9 {
-        more.nines += 1;
-    } else if number == 10 {
-        more.tens += 1;
-    } else if number == 23 {
-        more.ended += 1;
+    match number {
+        0 => more.tables += 1,
+        9 => more.nines += 1,
+        10 => more.tens += 1,
+        23 => more.ended += 1,
+        _ => {}
     }
     more
 }
@@ -88,14 +72,10 @@ fn count(request: Request, i: usize, allowance: u64) -> PhaseCounts
     requires { Countable request i }
     ensures { result ≡ phase_counts (phase_number allowance request i) (period_in request i) }
 {
-    let tasks = request.tasks;
-    let x = tasks[i];
     let mut counts = none(0);
-    let mut p: u16 = 0;
-    while p < x.t {
+    for p in 0..request.tasks[i].t {
         let number = number_at(request, i, p, allowance);
         counts = one_more(counts, number);
-        p += 1;
     }
     counts
 }
@@ -105,7 +85,7 @@ fn count(request: Request, i: usize, allowance: u64) -> PhaseCounts
 pub fn phases(request: &[u8], task: u8, allowance: u64) -> PhaseCounts
     ensures { result ≡ phases allowance request.now task }
 {
-    let i = task as usize;
+    let i = usize::from(task);
     let read = request::read(request);
     let cycle = cycle::of(read);
     if cycle.refusal != 0 {

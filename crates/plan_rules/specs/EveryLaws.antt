@@ -84,23 +84,8 @@ module _ (test : ℕ → Bool) where
   pub says_some : (n y : ℕ) → y < n → test y ≡ true → some n test ≡ true
   says_some n y h e = say_some n 0 y (omega arith) (omega arith) e
 
-  -- i of n numbers have been tested, and those left decide
+  -- i of n numbers have been tested, and those left decide whether some one keeps the test
   module _ (n i : ℕ) where
-    abbrev pub AllLeft : Type 0
-    AllLeft = all_from test (n - i) i ≡ every n test
-
-    abbrev pub SomeLeft : Type 0
-    SomeLeft = some_from test (n - i) i ≡ some n test
-
-    pub all_next : i < n → test i ≡ true → all_from test (n - (i + 1)) (i + 1) ≡ all_from test (n - i) i
-    all_next h e = rw (less_one n i h, e)
-
-    pub all_fails : i < n → test i ≡ false → false ≡ all_from test (n - i) i
-    all_fails h e = rw (less_one n i h, e)
-
-    pub all_done : n ≤ i → true ≡ all_from test (n - i) i
-    all_done h = rw (none_left n i h)
-
     pub some_next : i < n → test i ≡ false → some_from test (n - (i + 1)) (i + 1) ≡ some_from test (n - i) i
     some_next h e = rw (less_one n i h, e)
 

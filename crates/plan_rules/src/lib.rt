@@ -55,6 +55,7 @@ fn capacity_kept(cost: &[u32], frames: &[u16], rows: u16, f: u16) -> bool
 }
 
 // The frame of job `number` of task b, for each number: the earliest, or 65,535 where there is none.
+// No Option: no frame exceeds 65,535, so the least of frames and what is compared with it need no case for none.
 fn earliest_frames(jobs: &[Job], frames: &[u16], b: u8) -> [u16; 256]
     requires { length frames.now ≡ length jobs.now }
     ensures { Earliest jobs.now frames.now b (length jobs.now) result }

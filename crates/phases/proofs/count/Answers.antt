@@ -5,35 +5,32 @@ use Rattle.phases.specs.HowMany.{none_counted, one_counted, counts_room}
 use Rattle.phases.specs.Ways.{task_few}
 use Rattle.phases.proofs.count.Goals as goal
 
-pub offset_bounds-tasks-i : goal.offset_bounds-tasks-i
-offset_bounds-tasks-i c = omega (arith, task_few c.requires)
-
-pub bounds-tasks-i : goal.bounds-tasks-i
-bounds-tasks-i c = task_few c.requires
+pub bounds-request-i : goal.bounds-request-i
+bounds-request-i c = task_few c.requires
 
 pub loop-p-init : goal.loop-p-init
-loop-p-init c = (c.none-counts.ensures ∙ none_counted _, omega arith, c.requires)
+loop-p-init c = c.none-counts.ensures ∙ none_counted _
 
 pub number_at-number-requires : goal.number_at-number-requires
 number_at-number-requires c =
     let a = c.args in
     let l = c.loop-p in
     let early : l.p < period_in a.request a.i = c.loop-p-test.true in
-    (l.invariant.2, early)
+    (c.requires, early)
 
 pub one_more-counts-requires : goal.one_more-counts-requires
 one_more-counts-requires c =
     let l = c.loop-p in
-    rw l.invariant.0 (counts_room _ l.p (omega (arith, c.loop-p-test.true)))
+    rw l.invariant (counts_room _ l.p (omega (arith, c.loop-p-test.true)))
 
 pub loop-p-preserved : goal.loop-p-preserved
 loop-p-preserved c =
     let l = c.loop-p in
-    (rw (c.one_more-counts.ensures, l.invariant.0, c.number_at-number.ensures) (one_counted _ l.p), omega arith, l.invariant.2)
+    rw (c.one_more-counts.ensures, l.invariant, c.number_at-number.ensures) (one_counted _ l.p)
 
 pub returns : goal.returns
 returns c =
     let a = c.args in
     let l = c.loop-p in
     let all : l.p ≡ period_in a.request a.i = omega arith in
-    rw all at l.invariant.0
+    rw all at l.invariant

@@ -1,11 +1,8 @@
 -- The loop keeps that the counts are those of the phases below p.
-use Rattle.std.proofs.Common.{◌≤◌, ◌-◌, ◌≡◌}
+use Rattle.std.proofs.Common.{◌≡◌}
 use Rattle.phases.specs.Phases.{phase_counts}
-use Rattle.phases.specs.Counting.{Countable, phase_number}
+use Rattle.phases.specs.Counting.{phase_number}
 use Rattle.phases.proofs.count.Given as goal
 
 abbrev pub invariant-loop-p : goal.invariant-loop-p
-invariant-loop-p l = (l.counts ≡ phase_counts (phase_number l.allowance l.request l.i) l.p) × (l.p ≤ l.x.t) × Countable l.request l.i
-
-abbrev pub decreases-loop-p : goal.decreases-loop-p
-decreases-loop-p l = l.x.t - l.p
+invariant-loop-p l = l.counts ≡ phase_counts (phase_number l.allowance l.request l.i) l.p

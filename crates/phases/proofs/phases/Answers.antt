@@ -14,7 +14,8 @@ returns-then-cycle-ne0 c =
 
 pub returns-then-read-i : goal.returns-then-read-i
 returns-then-read-i c =
-    c.none-then-read-i.ensures ∙ unknown_task _ _ c.read-read.ensures _ c.of-cycle.ensures _ c.if-cycle-ne0.false _ c.if-read-i.true
+    rw (← c.from-i.ensures)
+    (c.none-then-read-i.ensures ∙ unknown_task _ _ c.read-read.ensures _ c.of-cycle.ensures _ c.if-cycle-ne0.false _ c.if-read-i.true)
 
 pub count-requires : goal.count-requires
 count-requires c =
@@ -22,4 +23,5 @@ count-requires c =
 
 pub returns : goal.returns
 returns c =
-    c.count.ensures ∙ all_counted _ _ c.read-read.ensures _ c.of-cycle.ensures _ c.if-cycle-ne0.false _ c.if-read-i.false
+    rw (← c.from-i.ensures)
+    (c.count.ensures ∙ all_counted _ _ c.read-read.ensures _ c.of-cycle.ensures _ c.if-cycle-ne0.false _ c.if-read-i.false)
