@@ -1,22 +1,24 @@
 #![tactic(auto)]
 // The exact planner: every request within the limits is decided, with no allowance. A request becomes the table of its chosen plan, or the
-// number that says why there is none: what the full search comes to. The plain search goes first, for a few tries; where they do not suffice, the
+// refusal that says why there is none: what the full search comes to. The plain search goes first, for a few tries; where they do not suffice, the
 // exact search is made, of the same lengths.
 ghost use Rattle.std.specs.Prelude.{◌≡◌, []};
+ghost use Rattle.cursor.specs.Written.{written_said};
 ghost use Rattle.search.specs.Placing.{plan_walk};
 ghost use Rattle.model.specs.Answers.{instance_of};
 ghost use Rattle.model.specs.Within.{InLimits};
 ghost use Rattle.model.specs.Chosen.{problem_at};
 ghost use Rattle.model.specs.Chosen as chosen;
 ghost use Rattle.plan_writer.specs.Outcome.{outcome_answer, outcome_buffer};
+ghost use Rattle.planner.specs.Numbered.{plan_said};
 ghost use Rattle.planner.specs.Outcome.{outcome};
 ghost use Rattle.planner.specs.Choices.{Searchable, choice_answer};
 ghost use Rattle.exact_searcher.specs.Arrays.{found_answer};
 
-use cursor::Written;
 use cycle::Cycle;
-use planner::choose::ChosenPlan;
+use planner::choose::{ChosenPlan, MOST_ROWS};
 use problem::JobLinks;
+use refusal::Refusal;
 
 // The first plan with frames of length f.
 fn plan_with(cycle: Cycle, cost: [u32; 128], links: JobLinks, f: u16) -> Option<[u16; 128]>
@@ -27,69 +29,50 @@ fn plan_with(cycle: Cycle, cost: [u32; 128], links: JobLinks, f: u16) -> Option<
     exact_searcher::place_all(given)
 }
 
-// The chosen plan by the exact search: that of the first length with a plan. It counts no tries.
-fn choose_exactly(cycle: Cycle) -> ChosenPlan
+// The chosen plan by the exact search: that of the first length with a plan; or 9 or 10.
+fn choose_exactly(cycle: Cycle) -> Result<ChosenPlan, Refusal>
     requires { InLimits cycle }
-    ensures { result ≡ choice_answer (chosen.choose (instance_of cycle)) 0 }
+    ensures { plan_said 0 result ≡ choice_answer (chosen.choose (instance_of cycle)) 0 }
 {
     let cost = problem::costs(cycle);
     let links = problem::links(cycle);
-    let mut some = false;
-    let mut rows = planner::choose::next_tried(cycle, 0);
-    // No count: the next length is the one that `next_tried` gives.
-    while rows <= planner::choose::MOST_ROWS {
-        some = true;
+    let mut none = Refusal::NoPlausibleLength;
+    for rows in 1..=MOST_ROWS {
+        if !planner::choose::is_tried(cycle, rows) {
+            continue;
+        }
+        none = Refusal::NoPlan;
         let f = cycle.h / rows;
         if let Some(frames) = plan_with(cycle, cost, links, f) {
-            return ChosenPlan {
-                refusal: 0,
-                f,
-                frames,
-                tries: 0,
-            };
+            return Ok(ChosenPlan { f, frames });
         }
-        rows = planner::choose::next_tried(cycle, rows);
     }
-    planner::choose::none_left(some, 0)
+    Err(none)
 }
 
 // What the plain search is allowed before the exact one begins: so a request that is planned at once costs what `plan` costs.
 pub const EASY_TRIES: u64 = 10_000;
 
 // The chosen plan: as the plain search chooses, if a few tries suffice; else as the exact one does.
-fn choose(cycle: Cycle) -> ChosenPlan
+fn choose(cycle: Cycle) -> Result<ChosenPlan, Refusal>
     requires { InLimits cycle }
-    ensures { result ≡ choice_answer (chosen.choose (instance_of cycle)) result.tries }
+    ensures { plan_said 0 result ≡ choice_answer (chosen.choose (instance_of cycle)) 0 }
 {
-    let easy = planner::choose::choose(cycle, EASY_TRIES);
-    if easy.refusal != 23 {
-        return easy;
-    }
-    choose_exactly(cycle)
-}
-
-fn refused(number: u8) -> Written
-    ensures { result ≡ record { refusal = number; length = 0 } }
-{
-    Written {
-        refusal: number,
-        length: 0,
+    match planner::choose::choose(cycle, EASY_TRIES).outcome {
+        Ok(chosen) => Ok(chosen),
+        Err(refusal) => match refusal {
+            Refusal::AllowanceUsed => choose_exactly(cycle),
+            _ => Err(refusal),
+        },
     }
 }
 
-// The table of the request's chosen plan, written into `out`; or a refusal, from 1 to 11 or 17, which leaves `out` as it was.
-pub fn decide(request: &[u8], out: &mut [u8]) -> Written
-    ensures { (result ≡ outcome_answer (outcome request.now) out.old)
+// The length of the table of the request's chosen plan, written into `out`; or a refusal, from 1 to 11 or 17, which leaves `out` as it was.
+pub fn decide(request: &[u8], out: &mut [u8]) -> Result<usize, Refusal>
+    ensures { (written_said result ≡ outcome_answer (outcome request.now) out.old)
         × (out.new ≡ outcome_buffer (outcome request.now) out.old) }
 {
-    let cycle = cycle::read(request);
-    if cycle.refusal != 0 {
-        return refused(cycle.refusal);
-    }
-    let chosen = choose(cycle);
-    if chosen.refusal != 0 {
-        return refused(chosen.refusal);
-    }
-    let frames = chosen.frames;
-    plan_writer::write(cycle, chosen.f, frames, out)
+    let cycle = cycle::read(request)?;
+    let chosen = choose(cycle)?;
+    plan_writer::write(cycle, chosen.f, chosen.frames, out)
 }
