@@ -1,25 +1,19 @@
 -- The answers of the functions as values of their types, and the rows as they stand in a table's bytes.
-use Rattle.std.specs.Prelude.{ℕ, zero, suc, ◌+◌, ◌*◌, Bool, true, false, Option, Some, None, Result, Ok, Err, List, [], ◌∷◌, get_or, replicate}
+use Rattle.std.specs.Prelude.{ℕ, zero, suc, ◌+◌, ◌*◌, Bool, true, false, Option, Some, None, List, [], ◌∷◌, get_or}
 use Rattle.cursor.specs.Padded.{padded}
 use Rattle.cycle.specs.Cycle as read
 use Rattle.cycle.specs.declared.Cycle.{Cycle}
 use Rattle.table.specs.Table.{Entry, entry_of}
 use Rattle.model.specs.Answers.{instance_of}
 use Rattle.checker.specs.Checked.{Verdict, accepted, refusal}
-use Rattle.checker.specs.declared.Read.{Read}
-use Rattle.checker.specs.declared.Found.{Found}
+use Rattle.checker.specs.Numbered.{Read, unread}
 
 -- the cycle as it was read, the frame length and the frames, in 128 places; zeros for these on a refusal
 abbrev pub read_answer : Cycle → Verdict → Read
 read_answer c (accepted f frames) = record { refusal = 0; cycle = c; f = f; frames = padded 128 0 frames }
-read_answer c (refusal number) = record { refusal = number; cycle = c; f = 0; frames = replicate 128 0 }
+read_answer c (refusal number) = unread c number
 
--- the same without the cycle
-abbrev pub found_answer : Verdict → Result Found ℕ
-found_answer (accepted f frames) = Ok (record { f = f; frames = padded 128 0 frames })
-found_answer (refusal number) = Err number
-
--- the cycle that an answer without a refusal stands for
+-- the cycle that an answer stands for
 abbrev pub cycle_in : Cycle → read.Cycle
 cycle_in c = let x = instance_of c in read.cycle x.tasks x.pairs x.g x.h x.jobs
 

@@ -4,6 +4,7 @@ pub mod Checked
 pub mod Exactly
 pub mod Moved
 -- How answers stand in types:
+pub mod Numbered
 pub mod Answers
 -- Theorems:
 pub mod ExactlyLaws

@@ -1,9 +1,12 @@
 -- The check's steps on the answers of the readers: what they tell of the request and the table, and what is answered from there.
 use Rattle.std.specs.Prelude.{ℕ, ◌≤◌, min, ◌≡◌, Bool, true, false, cond, ◌&&◌, Option, Some, None, Ok, Err, List, length, eqb}
+use Rattle.refusal.specs.Refusal.{number_of}
+use Rattle.refusal.specs.declared.Refusal.{Refusal}
 use Rattle.std.proofs.Math.Path.{refl, ap}
 use Rattle.std.proofs.Common.{sym, ◌∙◌, arith, eq-eqb, ne_eqb}
 use Rattle.std.proofs.Math.ListN.{length-map}
 use Rattle.cursor.specs.Fields.{Bytes}
+use Rattle.request.specs.SectionLaws.{no_zero}
 use Rattle.cursor.specs.ParsedLaws.{never}
 use Rattle.cursor.specs.Padded.{padded, firsts}
 use Rattle.cursor.specs.PaddedLaws.{firsts_length, firsts_padded}
@@ -12,17 +15,18 @@ use Rattle.cycle.specs.Planned.{no_job}
 use Rattle.cycle.specs.declared.Job.{Job}
 use Rattle.cycle.specs.declared.Cycle.{Cycle}
 use Rattle.table.specs.Table.{Table, Decoded, table, malformed, decode}
-use Rattle.table.specs.Answers.{sizes_of}
+use Rattle.table.specs.Answers.{sizes_of, sizes_said}
 use Rattle.table.specs.Inverse.{decode_wellformed}
-use Rattle.table.specs.Answers.{Sizes}
+use Rattle.table.specs.Answers as answered
+use Rattle.table.specs.declared.Sizes.{Sizes}
 use Rattle.model.specs.Plausible.{plausible}
 use Rattle.model.specs.Answers.{instance_of}
 use Rattle.plan_rules.specs.Every.{every}
 use Rattle.plan_rules.specs.Rules.{rules_right}
 use Rattle.checker.specs.Checked.{frames_in, frame_in, is_placed, rows_kept, entries_right, Verdict, accepted, refusal, plan_of, judged_by, judged, checked_by, checked, verdict_number}
-use Rattle.checker.specs.Answers.{frames_answer, read_answer, found_answer, cycle_in, rows_of}
+use Rattle.checker.specs.Answers.{frames_answer, read_answer, cycle_in, rows_of}
 use Rattle.checker.specs.WalkLaws.{rows_count, rows_in_bytes}
-use Rattle.checker.specs.declared.Found.{Found}
+use Rattle.checker.specs.Numbered.{Read, found_said}
 
 -- what the reader of the frames answers
 none_read : (b : Bool) (frames : List ℕ) → None ≡ frames_answer b frames → b ≡ false
@@ -104,7 +108,7 @@ module _ (c : Cycle) (few_jobs : c.count ≤ 128) where
         rule_broken e q = plan_is ∙ rw (all, ← entries_lent_lem, e, rw frames_kept at q)
 
         pub plan_read_lem : entries_lent ≡ true → rules_right (instance_of c) height f (firsts (min c.count 128) 0 places) ≡ true
-            → Ok (record { f = f; frames = places }) ≡ found_answer (plan_of (instance_of c) f (rows_of s height))
+            → found_said c (Ok (f, places)) ≡ read_answer c (plan_of (instance_of c) f (rows_of s height))
         plan_read_lem e q =
             let p : plan_of (instance_of c) f (rows_of s height) ≡ accepted f frames_of
             = plan_is ∙ rw (all, ← entries_lent_lem, e, rw frames_kept at q) in
@@ -124,27 +128,30 @@ pub request_refused : (request : List ℕ) (number : ℕ) (d : Decoded) → cycl
 unfolding checked_by
 request_refused request number d e = rw e
 
-module _ (bytes : List ℕ) (z : Sizes) (read : z ≡ sizes_of (decode bytes)) where
-  pub table_formed : z.refusal ≡ 0 → Formed bytes z
+module _ (bytes : List ℕ) where
+  -- the sizes are read,
+  pub table_formed : {z : Sizes} → sizes_said (Ok z) ≡ sizes_of (decode bytes) → Formed bytes z
   unfolding sizes_of
-  table_formed ok = go (decode bytes) refl read
+  table_formed {z} read = go (decode bytes) refl read
     where
-      go : (d : Decoded) → decode bytes ≡ d → z ≡ sizes_of d → Formed bytes z
-      go (table t) is e = record { t = t; is = is; f_is = ap (λ r. r.f) e; h_is = ap (λ r. r.h) e; height_is = ap (λ r. r.height) e }
-      go malformed is e = absurd (let twelve : z.refusal ≡ 12 = ap (λ r. r.refusal) e in omega arith)
+      go : (d : Decoded) → decode bytes ≡ d → sizes_said (Ok z) ≡ sizes_of d → Formed bytes z
+      go (table t) is e = record {
+        t = t;
+        is = is;
+        f_is = ap (λ (r : answered.Sizes). r.f) e;
+        h_is = ap (λ (r : answered.Sizes). r.h) e;
+        height_is = ap (λ (r : answered.Sizes). r.height) e;
+      }
+      go malformed is e = absurd (let twelve : 0 ≡ 12 = ap (λ (r : answered.Sizes). r.refusal) e in omega arith)
 
-  pub table_malformed : (z.refusal ≡ 0 → ⊥) → decode bytes ≡ malformed
-  unfolding sizes_of
-  table_malformed ne = go (decode bytes) read
+  -- or the bytes are no table
+  pub table_unread : (c : Cycle) (e : Refusal) → sizes_said (Err e) ≡ sizes_of (decode bytes) → checked (cycle_in c) (decode bytes) ≡ refusal (number_of e)
+  unfolding sizes_of checked_by
+  table_unread c e read = go (decode bytes) read
     where
-      go : (d : Decoded) → z ≡ sizes_of d → d ≡ malformed
-      go (table t) e = absurd (ne (ap (λ r. r.refusal) e))
-      go malformed e = refl
-
--- the bytes are no table
-pub table_unread : (bytes : List ℕ) (c : Cycle) → decode bytes ≡ malformed → checked (cycle_in c) (decode bytes) ≡ refusal 12
-unfolding checked_by
-table_unread bytes c e = rw e
+      go : (d : Decoded) → sizes_said (Err e) ≡ sizes_of d → checked (cycle_in c) d ≡ refusal (number_of e)
+      go (table t) q = absurd (no_zero e (ap (λ (r : answered.Sizes). r.refusal) q))
+      go malformed q = ap refusal (sym (ap (λ (r : answered.Sizes). r.refusal) q))
 
 -- or they are one
 module _ (bytes : List ℕ) (c : Cycle) (z : Sizes) (o : Formed bytes z) where
@@ -172,24 +179,8 @@ module _ (bytes : List ℕ) (c : Cycle) (z : Sizes) (o : Formed bytes z) where
     unfolding judged_by
     rows_judged k e = judged_is ∙ rw (same_h, rw o.f_is at e, o.f_is, o.height_is, rows_in_bytes bytes o.t k o.is)
 
--- what is found tells the verdict
-pub err_found : (v : Verdict) (number : ℕ) → Err number ≡ found_answer v → v ≡ refusal number
-err_found (accepted f frames) number e = absurd (never (cc))
-err_found (refusal n) number e = let same : number ≡ n = cc in rw same
-
-pub ok_found : (v : Verdict) (found : Found) → Ok found ≡ found_answer v → verdict_number v ≡ 0
-ok_found (accepted f frames) found e = refl
-ok_found (refusal number) found e = absurd (never (cc))
-
+-- the answer for a verdict has its number, and the cycle
 module _ (c : Cycle) where
-  -- what was found, with the cycle beside it
-  pub found_beside : (v : Verdict) (found : Found) → Ok found ≡ found_answer v
-      → record { refusal = 0; cycle = c; f = found.f; frames = found.frames } ≡ read_answer c v
-  found_beside (accepted f frames) found e =
-      let same : found ≡ record { f = f; frames = padded 128 0 frames } = cc in
-      rw same
-  found_beside (refusal number) found e = absurd (never (cc))
-
   pub answer_number : (v : Verdict) → (read_answer c v).refusal ≡ verdict_number v
   answer_number (accepted f frames) = refl
   answer_number (refusal number) = refl
@@ -197,3 +188,7 @@ module _ (c : Cycle) where
   pub answer_cycle : (v : Verdict) → (read_answer c v).cycle ≡ c
   answer_cycle (accepted f frames) = refl
   answer_cycle (refusal number) = refl
+
+-- the number of a verdict, from the answer for it
+pub said_number : (c : Cycle) (v : Verdict) {r : Read} → r ≡ read_answer c v → r.refusal ≡ verdict_number v
+said_number c v e = ap (λ (y : Read). y.refusal) e ∙ answer_number c v

@@ -9,7 +9,7 @@ use Rattle.cursor.specs.Padded.{padded}
 use Rattle.cursor.specs.ParsedLaws.{never}
 use Rattle.cycle.specs.Cycle.{Cycle, cycle, no_cycle, cycle_of}
 use Rattle.cycle.specs.Answers.{cycle_answered}
-use Rattle.cycle.specs.declared.Cycle as answer
+use Rattle.cycle.specs.Numbered.{cycle_number}
 use Rattle.cycle.specs.LimitLaws.{no_cycle_number, request_number_pos, request_number_few}
 use Rattle.table.specs.Table.{Table, Decoded, table, malformed, decode}
 use Rattle.model.specs.Plan.{Instance, IsPlan}
@@ -22,7 +22,7 @@ use Rattle.plan_rules.specs.Rules.{rules_right}
 use Rattle.checker.specs.Checked.{frames_in, entries_right, Verdict, accepted, refusal, plan_of, judged_by, checked_by, checked}
 use Rattle.checker.specs.Accepts.{accepts_described}
 use Rattle.checker.specs.Answers.{read_answer}
-use Rattle.checker.specs.declared.Read.{Read}
+use Rattle.checker.specs.Numbered.{Read}
 
 pub record PlanRead (request bytes : List ℕ) (f : ℕ) (frames : List ℕ) : Type 0 where
   pub x : Instance
@@ -89,7 +89,7 @@ module _ (request bytes : List ℕ) (r : Read) (e : r ≡ read_answer (cycle_ans
       go (accepted f frames) is q =
           let p = plan_read_lem request bytes f frames is in
           let same : r.cycle ≡ cycle_answered (cycle_of request) = ap (λ (y : Read). y.cycle) q in
-          let taken = read_within request r.cycle same (ap (λ (y : answer.Cycle). y.refusal) (same ∙ ap cycle_answered p.within)) in
+          let taken = read_within request r.cycle same (ap cycle_number p.within) in
           let verdict : checked (cycle_of request) (decode bytes) ≡ accepted r.f frames = is ∙ ap (λ (n : ℕ). accepted n frames) (sym (ap (λ (y : Read). y.f) q)) in
           let right = (accepts_described request bytes (instance_of r.cycle) p.t taken.within p.read r.f frames).0 verdict in
           record {

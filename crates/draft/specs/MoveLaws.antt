@@ -32,7 +32,7 @@ use Rattle.plan_rules.specs.RulesSay.{RulesKept, rules_say}
 use Rattle.checker.specs.Checked as checker
 use Rattle.checker.specs.Answers.{read_answer}
 use Rattle.checker.specs.Verdicts.{HandedOn, handed_on}
-use Rattle.checker.specs.declared.Read.{Read}
+use Rattle.checker.specs.Numbered.{Read}
 use Rattle.cursor.specs.Written.{Written}
 use Rattle.model.specs.Described.{plan_table}
 use Rattle.plan_writer.specs.Outcome.{handed, refusal, outcome_answer, outcome_buffer}

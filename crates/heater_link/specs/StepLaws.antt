@@ -23,7 +23,7 @@ use Rattle.plan_rules.specs.EveryLaws.{some_from}
 use Rattle.checker.specs.Checked.{Verdict, accepted, refusal, verdict_number, checked, check_number}
 use Rattle.checker.specs.Answers.{read_answer}
 use Rattle.checker.specs.ReadLaws.{answer_number, answer_cycle}
-use Rattle.checker.specs.declared.Read.{Read}
+use Rattle.checker.specs.Numbered.{Read}
 use Rattle.checker.specs.Verdicts.{plan_read_lem, refusal_number}
 use Rattle.dispatcher.specs.Dispatch.{next_frame}
 use Rattle.dispatcher.specs.FrameLaws.{frame_few}

@@ -26,7 +26,7 @@ use Rattle.checker.specs.Checked as checker
 use Rattle.checker.specs.Checked.{Verdict, checked}
 use Rattle.checker.specs.Answers.{read_answer}
 use Rattle.checker.specs.Verdicts.{plan_read_lem, HandedOn, handed_on}
-use Rattle.checker.specs.declared.Read.{Read}
+use Rattle.checker.specs.Numbered.{Read}
 use Rattle.job_records.specs.Timeline.{record_of, no_record, records_of, Timeline, timeline, refusal, timeline_of, fitting, filling, records_in, filled_answer}
 use Rattle.job_records.specs.Known.{job_in, frame_in, known_answer, record_here, records_from, records_known}
 use Rattle.job_records.specs.declared.JobRecord.{JobRecord}

@@ -16,7 +16,7 @@ use Rattle.plan_writer.specs.OutcomeLaws.{refused_answer, refused_buffer, table_
 use Rattle.checker.specs.Checked as checker
 use Rattle.checker.specs.Answers.{read_answer}
 use Rattle.checker.specs.Verdicts.{plan_read_lem, HandedOn, handed_on}
-use Rattle.checker.specs.declared.Read.{Read}
+use Rattle.checker.specs.Numbered.{Read}
 use Rattle.rewriter.specs.Rewritten.{plan_read, rewritten}
 
 module _ (request bytes : List ℕ) where

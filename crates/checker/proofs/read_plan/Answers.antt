@@ -1,34 +1,48 @@
 -- What is found in the table, with the cycle beside it, is the answer.
+use Rattle.std.specs.Prelude.{◌≡◌}
 use Rattle.std.proofs.Common.{sym, ◌∙◌, ap, ap₂}
-use Rattle.cycle.specs.Cycle.{Cycle}
+use Rattle.std.proofs.lemmas.Result.{err_from_is_err_and}
+use Rattle.refusal.specs.Refusal.{number_of}
+use Rattle.cycle.specs.Cycle.{Cycle, cycle_of}
+use Rattle.cycle.specs.Answers.{cycle_answered}
+use Rattle.cycle.specs.Numbered.{cycle_said}
+use Rattle.cycle.specs.ReadLaws.{said_answered}
 use Rattle.table.specs.Table.{decode}
-use Rattle.model.specs.WithinLaws.{read_within, read_refused}
-use Rattle.checker.specs.Answers.{read_answer, cycle_in}
-use Rattle.checker.specs.ReadLaws.{request_refused, found_beside, err_found}
+use Rattle.model.specs.WithinLaws.{Taken, read_taken, read_refused}
 use Rattle.checker.specs.Checked.{checked}
+use Rattle.checker.specs.Answers.{read_answer, cycle_in}
+use Rattle.checker.specs.Numbered.{unread, found_said}
+use Rattle.checker.specs.ReadLaws.{request_refused}
 use Rattle.checker.proofs.read_plan.Goals as goal
+use Rattle.checker.proofs.read_plan.Goals.{In_ok-cycle}
 
-pub returns-then-cycle-ne0 : goal.returns-then-cycle-ne0
-returns-then-cycle-ne0 c =
+taken : (c : In_ok-cycle) → Taken c.args.request.now c.in_ok-cycle.cycle
+taken c = read_taken _ _ (ap cycle_said (sym c.in_ok-cycle.was) ∙ c.read.ensures)
+
+-- the cycle that was read is the request's, with what the table is for it
+same : (c : In_ok-cycle) → c.in_ok-cycle.cycle ≡ cycle_answered (cycle_of c.args.request.now)
+same c = said_answered (cycle_of c.args.request.now) (ap cycle_said (sym c.in_ok-cycle.was) ∙ c.read.ensures)
+
+whole : (c : In_ok-cycle) → let d = decode c.args.table.now in let y = c.in_ok-cycle.cycle in
+    read_answer y (checked (cycle_in y) d) ≡ read_answer (cycle_answered (cycle_of c.args.request.now)) (checked (cycle_of c.args.request.now) d)
+whole c = ap₂ read_answer (same c) (sym (ap (λ (x : Cycle). checked x (decode c.args.table.now)) (taken c).within))
+
+pub returns-in_err-cycle : goal.returns-in_err-cycle
+returns-in_err-cycle c =
     let a = c.args in
-    let is = read_refused a.request.now _ c.read-cycle.ensures c.if-cycle-ne0.true in
-    c.refused.ensures ∙ ap₂ read_answer c.read-cycle.ensures (sym (request_refused a.request.now _ (decode a.table.now) is))
+    let p = err_from_is_err_and c.from_residual.result c.from_residual.ensures.1 in
+    let is = read_refused _ _ (ap cycle_said (sym c.in_err-cycle.was) ∙ c.read.ensures) in
+    rw (p.1, p.2) (ap (read_answer (cycle_answered (cycle_of a.request.now))) (sym (request_refused a.request.now _ (decode a.table.now) is)))
 
 pub judge-requires : goal.judge-requires
-judge-requires c =
-    (read_within c.args.request.now _ c.read-cycle.ensures c.if-cycle-ne0.false).limits
+judge-requires c = (taken (goal.at.judge-requires c).In_ok-cycle).limits
 
-pub returns-in-Ok : goal.returns-in-Ok
-returns-in-Ok c =
-    let a = c.args in
-    let w = read_within a.request.now _ c.read-cycle.ensures c.if-cycle-ne0.false in
-    found_beside c.read-cycle.result (checked (cycle_in c.read-cycle.result) (decode a.table.now)) _ (sym c.in-Ok.is ∙ c.judge.ensures)
-    ∙ ap₂ read_answer c.read-cycle.ensures (sym (ap (λ (x : Cycle). checked x (decode a.table.now)) w.within))
+pub returns-in_err-f : goal.returns-in_err-f
+returns-in_err-f c =
+    let p = err_from_is_err_and c.from_residual-in_err-f.result c.from_residual-in_err-f.ensures.1 in
+    let read = (goal.at.returns-in_err-f c).In_ok-cycle in
+    rw (p.1, p.2)
+    (ap (λ y. unread y (number_of c.in_err-f.field-0.0)) (sym (same read)) ∙ ap (found_said c.in_ok-cycle.cycle) (sym c.in_err-f.was) ∙ c.judge.ensures ∙ whole read)
 
-pub returns-in-Err : goal.returns-in-Err
-returns-in-Err c =
-    let a = c.args in
-    let w = read_within a.request.now _ c.read-cycle.ensures c.if-cycle-ne0.false in
-    let v = err_found (checked (cycle_in c.read-cycle.result) (decode a.table.now)) _ (sym c.in-Err.is ∙ c.judge.ensures) in
-    c.refused-in-Err.ensures
-    ∙ ap₂ read_answer c.read-cycle.ensures (sym v ∙ sym (ap (λ (x : Cycle). checked x (decode a.table.now)) w.within))
+pub returns : goal.returns
+returns c = ap (found_said c.in_ok-cycle.cycle) (sym c.in_ok-f.was) ∙ c.judge.ensures ∙ whole (goal.at.returns c).In_ok-cycle
