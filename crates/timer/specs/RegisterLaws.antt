@@ -14,7 +14,7 @@ use Rattle.table.specs.Left.{less_one, none_left}
 use Rattle.table.specs.Table.{Decoded, decode}
 use Rattle.dispatcher.specs.Dispatch.{next_frame}
 use Rattle.dispatcher.specs.FrameLaws.{frame_few, frame_refused_still}
-use Rattle.dispatcher.specs.declared.Frame.{Frame}
+use Rattle.dispatcher.specs.Numbered.{Frame}
 use Rattle.timer.specs.Registers.{control_byte, status_byte, sum_of, sum_shown, registers, register_read, with_control, with_status, control_of, status_of, cleared_by, changed, after_write}
 use Rattle.timer.specs.Registers.{due_or_missed, after_event, served_once, due_served, none_served, serving}
 use Rattle.timer.specs.declared.Control.{Control}

@@ -8,8 +8,8 @@ use Rattle.request.specs.Request.{Reading}
 use Rattle.table.specs.Table.{Decoded}
 use Rattle.dispatcher.specs.Dispatch.{fresh_state, next_frame, reported}
 use Rattle.dispatcher.specs.declared.State.{State}
-use Rattle.dispatcher.specs.declared.Frame.{Frame}
-use Rattle.dispatcher.specs.declared.Reported.{Reported}
+use Rattle.dispatcher.specs.Numbered.{Frame}
+use Rattle.dispatcher.specs.Numbered.{Reported}
 use Rattle.timer.specs.declared.Control.{Control}
 use Rattle.timer.specs.declared.Status.{Status}
 use Rattle.timer.specs.declared.Timer.{Timer}
