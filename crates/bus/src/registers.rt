@@ -43,7 +43,13 @@ pub fn bus_timer_write(address: u8, value: u8, timer: &mut [u8]) -> i32
         return BAD_BYTES;
     }
     let old = read_timer(timer);
-    hand_back(timer, timer::write(address, value, old))
+    match timer::write(address, value, old) {
+        Ok(after) => {
+            write_timer(timer, after);
+            0
+        }
+        Err(refusal) => refused(refusal),
+    }
 }
 
 // A timer event, and the timer after it: 0, or 99 negated and nothing changed.
@@ -92,7 +98,13 @@ pub fn bus_timer_report(request: &[u8], task: u8, ticks: u32, timer: &mut [u8]) 
         return BAD_BYTES;
     }
     let old = read_timer(timer);
-    hand_back(timer, timer::report(request, task, ticks, old))
+    match timer::report(request, task, ticks, old) {
+        Ok(after) => {
+            write_timer(timer, after);
+            0
+        }
+        Err(refusal) => refused(refusal),
+    }
 }
 
 // The interrupt line: 1 where it is on, else 0; or 99 negated.
