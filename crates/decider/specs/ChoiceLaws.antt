@@ -1,5 +1,5 @@
 -- The loop over the lengths with the exact search: what it answers at each of them, and what the loop comes to.
-use Rattle.std.specs.Prelude.{ℕ, ◌+◌, ◌/◌, ◌≤◌, ◌<◌, ◌≡◌, refl, true, false, List, [], Some, None, Err}
+use Rattle.std.specs.Prelude.{ℕ, ◌+◌, ◌/◌, ◌≤◌, ◌<◌, min, ◌≡◌, refl, true, false, List, [], Some, None, Err}
 use Rattle.refusal.specs.declared.Refusal.{Refusal}
 use Rattle.refusal.specs.declared.Refusal.TheVariants.{NoPlausibleLength, NoPlan}
 use Rattle.cursor.specs.Padded.{padded}
@@ -52,5 +52,5 @@ module _ {x : Instance} {rows : ℕ} {why : Refusal} (v : Deciding x rows why) w
           rw (tried.one_with v.so_far few is_one found_is).0 (λ i. record { refusal = 0; f = x.h / rows; frames = frames_are i; tries = 0 })
 
   -- all lengths are passed
-  pub passed : 256 < rows → plan_said 0 (Err why) ≡ choice_answer (choose x) 0
-  passed all = why_passed v.so_far all 0
+  pub passed : min x.h 256 < rows → rows ≤ 257 → plan_said 0 (Err why) ≡ choice_answer (choose x) 0
+  passed all most = why_passed v.so_far all most 0

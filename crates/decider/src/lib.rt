@@ -37,7 +37,9 @@ fn choose_exactly(cycle: Cycle) -> Result<ChosenPlan, Refusal>
     let cost = problem::costs(cycle);
     let links = problem::links(cycle);
     let mut none = Refusal::NoPlausibleLength;
-    for rows in 1..=MOST_ROWS {
+    // No length has more rows than the cycle has ticks.
+    let most = cycle.h.min(MOST_ROWS);
+    for rows in 1..most + 1 {
         if !planner::choose::is_tried(cycle, rows) {
             continue;
         }

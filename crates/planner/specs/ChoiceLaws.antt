@@ -1,5 +1,5 @@
 -- The loop over the lengths within an allowance of tries: what the search answers at each of them, and what the loop comes to.
-use Rattle.std.specs.Prelude.{ℕ, ◌+◌, ◌-◌, ◌/◌, ◌≤◌, ◌<◌, ◌≡◌, Bool, cond, List, [], Err}
+use Rattle.std.specs.Prelude.{ℕ, ◌+◌, ◌-◌, ◌/◌, ◌≤◌, ◌<◌, min, ◌≡◌, Bool, cond, List, [], Err}
 use Rattle.std.proofs.Math.Path.{refl}
 use Rattle.std.proofs.Common.{arith}
 use Rattle.std.proofs.Math.Bool.{true, false}
@@ -88,9 +88,9 @@ module _ {x : Instance} {allowed left rows : ℕ} {why : Refusal} (v : Searching
           rw (lt-ltb allowed (full_tries x) more)
 
   -- all lengths are passed
-  pub passed : 256 < rows → plan_said (allowed - left) (Err why) ≡ choice_within allowed (choose_walk x)
+  pub passed : min x.h 256 < rows → rows ≤ 257 → plan_said (allowed - left) (Err why) ≡ choice_within allowed (choose_walk x)
   unfolding choice_within
-  passed all =
-      let tries = all_passed v.so_far all in
+  passed all most =
+      let tries = all_passed v.so_far all most in
       let tries_are : allowed - left ≡ full_tries x = omega (arith, v.sum) in
-      rw (le-ltb allowed (full_tries x) (omega arith), tries_are) (why_passed v.so_far all (full_tries x))
+      rw (le-ltb allowed (full_tries x) (omega arith), tries_are) (why_passed v.so_far all most (full_tries x))

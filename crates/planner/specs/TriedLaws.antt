@@ -1,8 +1,8 @@
 -- The loop over the lengths that are tried, from the largest down: what is left of them comes to the definition's choice, and to its tries. The loop
 -- of the plain search and that of the exact one both rest on these laws.
-use Rattle.std.specs.Prelude.{ℕ, suc, ◌+◌, ◌-◌, ◌/◌, ◌%◌, ◌≤◌, ◌<◌, ◌≡◌, refl, Bool, true, false, cond, ◌&&◌, List, eqb, Err}
+use Rattle.std.specs.Prelude.{ℕ, zero, suc, ◌+◌, ◌-◌, ◌/◌, ◌%◌, ◌≤◌, ◌<◌, min, ◌≡◌, refl, Bool, true, false, cond, ◌&&◌, List, eqb, Err}
 use Rattle.std.proofs.Common.{ap, ◌∙◌, arith}
-use Rattle.std.proofs.Math.Nat.{div-zero}
+use Rattle.std.proofs.Math.Nat.{div-zero, div-eq_of_lt}
 use Rattle.refusal.specs.declared.Refusal.{Refusal}
 use Rattle.refusal.specs.declared.Refusal.TheVariants.{NoPlausibleLength, NoPlan}
 use Rattle.cursor.specs.ParsedLaws.{both_true}
@@ -29,6 +29,11 @@ both_false false = refl
 pub no_rows : (x : Instance) → is_tried x 0 ≡ false
 unfolding is_tried_by plausible_by
 no_rows x = rw (div-zero x.h) (both_false (eqb (x.h % 0) 0))
+
+-- no length has more rows than the cycle has ticks
+too_many_rows : (x : Instance) (rows : ℕ) → x.h < rows → is_tried x rows ≡ false
+unfolding is_tried_by plausible_by
+too_many_rows x rows h = let short : x.h / rows ≡ 0 = div-eq_of_lt h in rw short (both_false (eqb (x.h % rows) 0))
 
 tried_plausible : (x : Instance) (rows : ℕ) → is_tried x rows ≡ true → plausible x (x.h / rows) ≡ true
 unfolding is_tried_by
@@ -116,10 +121,20 @@ module _ {x : Instance} {spent rows : ℕ} {why : Refusal} (v : Choosing x spent
         let t : w.tries ≤ (lengths_from x rows v.some).tries = rw turn (lengths_more (x.h / rows) w.found w.tries after) in
         omega (arith, v.tries)
 
+-- no length behind is tried
+none_behind : (x : Instance) (some : Bool) (k rows : ℕ) → rows + k ≡ 257 → min x.h 256 < rows
+    → lengths_from x rows some ≡ record { choice = cond some no_plan no_plausible; tries = 0 }
+none_behind x some zero rows e all = let none_left : 257 - rows ≡ 0 = omega arith in rw none_left (lengths_end phase_rule x rows some)
+none_behind x some (suc k) rows e all =
+    let count : 257 - rows ≡ suc (257 - (rows + 1)) = omega arith in
+    let d : lengths_from x rows some ≡ lengths_from x (rows + 1) some
+    = rw count (lengths_skipped phase_rule x (257 - (rows + 1)) rows some (too_many_rows x rows (omega arith))) in
+    d ∙ none_behind x some k (rows + 1) (omega arith) (omega arith)
+
 -- all lengths are passed
-module _ {x : Instance} {spent rows : ℕ} {why : Refusal} (v : Choosing x spent rows why) (all : 256 < rows) where
+module _ {x : Instance} {spent rows : ℕ} {why : Refusal} (v : Choosing x spent rows why) (all : min x.h 256 < rows) (most : rows ≤ 257) where
   passed_all : lengths_from x rows v.some ≡ record { choice = cond v.some no_plan no_plausible; tries = 0 }
-  passed_all = let none_left : 257 - rows ≡ 0 = omega arith in rw none_left (lengths_end phase_rule x rows v.some)
+  passed_all = none_behind x v.some (257 - rows) rows (omega arith) all
 
   pub all_passed : full_tries x ≡ spent
   all_passed =

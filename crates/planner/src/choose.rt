@@ -72,7 +72,9 @@ pub fn choose(cycle: Cycle, allowed: u64) -> Searched<ChosenPlan>
     let links = problem::links(cycle);
     let mut none = Refusal::NoPlausibleLength;
     let mut left = allowed;
-    for rows in 1..=MOST_ROWS {
+    // No length has more rows than the cycle has ticks.
+    let most = cycle.h.min(MOST_ROWS);
+    for rows in 1..most + 1 {
         if !is_tried(cycle, rows) {
             continue;
         }

@@ -10,7 +10,7 @@ loop-rows-init c = deciding_start (instance_of c.args.cycle)
 
 pub loop-rows-preserved-then-not-is_tried : goal.loop-rows-preserved-then-not-is_tried
 loop-rows-preserved-then-not-is_tried c =
-    let few : c.loop-rows.rows ≤ 256 = omega (arith, c.loop-rows-test.true) in
+    let few : c.loop-rows.rows ≤ 256 = omega (arith, c.loop-rows-test.true, c.min-most.ensures) in
     skipped c.loop-rows.invariant few (sym c.is_tried.ensures ∙ c.if-not-is_tried.true)
 
 pub plan_with-requires : goal.plan_with-requires
@@ -20,13 +20,13 @@ plan_with-requires c =
 
 pub returns-in-Some : goal.returns-in-Some
 returns-in-Some c =
-    let few : c.loop-rows.rows ≤ 256 = omega (arith, c.loop-rows-test.true) in
+    let few : c.loop-rows.rows ≤ 256 = omega (arith, c.loop-rows-test.true, c.min-most.ensures) in
     one_with c.loop-rows.invariant few (sym c.is_tried.ensures ∙ c.if-not-is_tried.false) (sym c.in-Some.is ∙ c.plan_with.ensures)
 
 pub loop-rows-preserved : goal.loop-rows-preserved
 loop-rows-preserved c =
-    let few : c.loop-rows.rows ≤ 256 = omega (arith, c.loop-rows-test.true) in
+    let few : c.loop-rows.rows ≤ 256 = omega (arith, c.loop-rows-test.true, c.min-most.ensures) in
     none_with c.loop-rows.invariant few (sym c.is_tried.ensures ∙ c.if-not-is_tried.false) (sym c.in_default.is ∙ c.plan_with.ensures)
 
 pub returns : goal.returns
-returns c = passed c.loop-rows.invariant (omega (arith, c.loop-rows-test.false))
+returns c = passed c.loop-rows.invariant (omega (arith, c.loop-rows-test.false, c.min-most.ensures)) (omega (arith, c.loop-rows.auto, c.min-most.ensures))

@@ -10,7 +10,7 @@ loop-rows-init c = searching_start (instance_of c.args.cycle) c.args.allowed
 
 pub loop-rows-preserved-then-not-is_tried : goal.loop-rows-preserved-then-not-is_tried
 loop-rows-preserved-then-not-is_tried c =
-    let few : c.loop-rows.rows ≤ 256 = omega (arith, c.loop-rows-test.true) in
+    let few : c.loop-rows.rows ≤ 256 = omega (arith, c.loop-rows-test.true, c.min-most.ensures) in
     skipped c.loop-rows.invariant few (sym c.is_tried.ensures ∙ c.if-not-is_tried.true)
 
 pub plan_with-requires : goal.plan_with-requires
@@ -20,23 +20,23 @@ plan_with-requires c =
 
 pub overflow_sub-result : goal.overflow_sub-result
 overflow_sub-result c =
-    let few : c.loop-rows.rows ≤ 256 = omega (arith, c.loop-rows-test.true) in
+    let few : c.loop-rows.rows ≤ 256 = omega (arith, c.loop-rows-test.true, c.min-most.ensures) in
     left_less c.loop-rows.invariant few (sym c.is_tried.ensures ∙ c.if-not-is_tried.false) c.in-At.ensures
 
 pub returns-in-At : goal.returns-in-At
 returns-in-At c =
-    let few : c.loop-rows.rows ≤ 256 = omega (arith, c.loop-rows-test.true) in
+    let few : c.loop-rows.rows ≤ 256 = omega (arith, c.loop-rows-test.true, c.min-most.ensures) in
     one_with c.loop-rows.invariant few (sym c.is_tried.ensures ∙ c.if-not-is_tried.false) c.in-At.ensures
 
 pub returns-in-OutOfTries : goal.returns-in-OutOfTries
 returns-in-OutOfTries c =
-    let few : c.loop-rows.rows ≤ 256 = omega (arith, c.loop-rows-test.true) in
+    let few : c.loop-rows.rows ≤ 256 = omega (arith, c.loop-rows-test.true, c.min-most.ensures) in
     out_with c.loop-rows.invariant few (sym c.is_tried.ensures ∙ c.if-not-is_tried.false) c.in-OutOfTries.ensures
 
 pub loop-rows-preserved : goal.loop-rows-preserved
 loop-rows-preserved c =
-    let few : c.loop-rows.rows ≤ 256 = omega (arith, c.loop-rows-test.true) in
+    let few : c.loop-rows.rows ≤ 256 = omega (arith, c.loop-rows-test.true, c.min-most.ensures) in
     none_with c.loop-rows.invariant few (sym c.is_tried.ensures ∙ c.if-not-is_tried.false) c.in-Nowhere.ensures
 
 pub returns : goal.returns
-returns c = passed c.loop-rows.invariant (omega (arith, c.loop-rows-test.false))
+returns c = passed c.loop-rows.invariant (omega (arith, c.loop-rows-test.false, c.min-most.ensures)) (omega (arith, c.loop-rows.auto, c.min-most.ensures))
