@@ -10,7 +10,7 @@ use Rattle.plan_writer.specs.Outcome.{Outcome, handed, refusal, outcome_answer, 
 use Rattle.plan_writer.specs.OutcomeLaws.{refused_answer, table_answer}
 use Rattle.planner.specs.Outcome.{outcome_within, searched_answer}
 use Rattle.planner.specs.TableLaws.{GoodOutcome, outcome_within_good}
-use Rattle.planner.specs.declared.Searched.{Searched}
+use Rattle.planner.specs.Numbered.{Searched}
 use Rattle.lent.specs.Numbers.{low_first}
 use Rattle.bus.specs.Reply.{refused_reply, reply}
 use Rattle.bus.specs.ReplyLaws.{reply_refused, reply_value}

@@ -8,7 +8,7 @@ use Rattle.table.specs.Inverse.{decode_encode}
 use Rattle.plan_writer.specs.Outcome.{handed, refusal, outcome_buffer}
 use Rattle.planner.specs.Outcome.{program_tries, program_outcome, searched_answer}
 use Rattle.planner.specs.TableLaws.{outcome_within_good, ReadBack, read_back, not_handed, written_of, searched_written}
-use Rattle.planner.specs.declared.Searched.{Searched}
+use Rattle.planner.specs.Numbered.{Searched}
 use Rattle.plan_listing.specs.Listing.{refused_line, table_lines, tasks_in, printed, listing}
 use Rattle.plan_listing.specs.Answers.{table_in}
 

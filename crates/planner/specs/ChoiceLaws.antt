@@ -1,23 +1,25 @@
 -- The loop over the lengths within an allowance of tries: what the search answers at each of them, and what the loop comes to.
-use Rattle.std.specs.Prelude.{ℕ, ◌+◌, ◌-◌, ◌/◌, ◌≤◌, ◌<◌, ◌≡◌, Bool, cond, List, []}
+use Rattle.std.specs.Prelude.{ℕ, ◌+◌, ◌-◌, ◌/◌, ◌≤◌, ◌<◌, ◌≡◌, Bool, cond, List, [], Err}
 use Rattle.std.proofs.Math.Path.{refl}
 use Rattle.std.proofs.Common.{arith}
 use Rattle.std.proofs.Math.Bool.{true, false}
 use Rattle.std.proofs.Math.Dec.{ltb}
 use borrow.Author.Tests.{le-ltb, lt-ltb, ltb-true, ltb-false}
+use Rattle.refusal.specs.declared.Refusal.{Refusal}
+use Rattle.refusal.specs.declared.Refusal.TheVariants.{NoPlausibleLength, NoPlan}
 use Rattle.cursor.specs.Padded.{padded}
 use Rattle.search.specs.Search.{Found, none, at, Walk}
 use Rattle.search.specs.Placing.{plan_walk}
 use Rattle.model.specs.Plan.{Instance}
-use Rattle.model.specs.Chosen.{no_plan, no_plausible, problem_at, choose_walk, full_tries}
+use Rattle.model.specs.Chosen.{problem_at, is_tried, choose_walk, full_tries}
 use Rattle.model.specs.ChosenTries.{walk_with}
 use Rattle.searcher.specs.Arrays.{placed_answer, placed_within}
 use Rattle.searcher.specs.declared.Placed.{Placed}
 use Rattle.searcher.specs.declared.Placed.TheVariants.{At, Nowhere, OutOfTries}
-use Rattle.planner.specs.Choices.{NextTried, none_chosen, choice_answer, choice_within}
+use Rattle.planner.specs.Numbered.{ChosenPlan, plan_said}
+use Rattle.planner.specs.Choices.{none_chosen, choice_answer, choice_within}
 use Rattle.planner.specs.TriedLaws as tried
-use Rattle.planner.specs.TriedLaws.{Choosing, all_passed}
-use Rattle.planner.specs.declared.choose.ChosenPlan.{ChosenPlan}
+use Rattle.planner.specs.TriedLaws.{Choosing, all_passed, why_passed}
 
 -- what an answer within an allowance says of the search
 module _ (a : ℕ) (w : Walk) where
@@ -36,54 +38,59 @@ module _ (a : ℕ) (w : Walk) where
       go false t (at frames) p = (frames, p, refl, ltb-false a w.tries t, refl)
 
 -- the loop, with what is left of the tries that were allowed
-pub record Searching (x : Instance) (allowed left rows : ℕ) (some : Bool) : Type 0 where
+pub record Searching (x : Instance) (allowed left rows : ℕ) (why : Refusal) : Type 0 where
   pub spent : ℕ
   pub sum : left + spent ≡ allowed
-  pub so_far : Choosing x spent rows some
+  pub so_far : Choosing x spent rows why
 
-pub searching_start : {x : Instance} {next : ℕ} (allowed : ℕ) → NextTried x 0 next → Searching x allowed allowed next false
-searching_start allowed n = record { spent = 0; sum = omega arith; so_far = tried.choosing_start n }
+pub searching_start : (x : Instance) (allowed : ℕ) → Searching x allowed allowed 1 NoPlausibleLength
+searching_start x allowed = record { spent = 0; sum = omega arith; so_far = tried.choosing_start x }
 
-module _ {x : Instance} {allowed left rows : ℕ} {some : Bool} (v : Searching x allowed left rows some) where
+module _ {x : Instance} {allowed left rows : ℕ} {why : Refusal} (v : Searching x allowed left rows why) where
   module _ (few : rows ≤ 256) where
-    abbrev w : Walk
-    w = walk_with x rows
+    -- a length that is not tried
+    pub skipped : is_tried x rows ≡ false → Searching x allowed left (rows + 1) why
+    skipped not = record { spent = v.spent; sum = v.sum; so_far = tried.skipped v.so_far few not }
 
-    abbrev answer : Placed
-    answer = placed_within left (plan_walk (problem_at x (x.h / rows)) [])
+    module _ (is_one : is_tried x rows ≡ true) where
+      abbrev w : Walk
+      w = walk_with x rows
 
-    -- a length without a plan
-    pub none_with : {left' next : ℕ} → Nowhere left' ≡ answer → NextTried x rows next → Searching x allowed left' next true
-    none_with is n =
-        let (found, reached, left_is) = says left w is in
-        record { spent = v.spent + w.tries; sum = omega (arith, v.sum); so_far = tried.none_with v.so_far few found n }
+      abbrev answer : Placed
+      answer = placed_within left (plan_walk (problem_at x (x.h / rows)) [])
 
-    module _ {placed : List ℕ} {left' : ℕ} (is : At placed left' ≡ answer) where
-      -- what is left after a length with one
-      pub left_less : left' ≤ allowed
-      left_less = let (frames, found, frames_are, reached, left_is) = says left w is in omega (arith, v.sum)
+      -- a length without a plan
+      pub none_with : {left' : ℕ} → Nowhere left' ≡ answer → Searching x allowed left' (rows + 1) NoPlan
+      none_with is =
+          let (found, reached, left_is) = says left w is in
+          record { spent = v.spent + w.tries; sum = omega (arith, v.sum); so_far = tried.none_with v.so_far few is_one found }
 
-      -- it is the plan that is chosen
-      pub one_with : ◌≡◌ {A = ChosenPlan} (record { refusal = 0; f = x.h / rows; frames = placed; tries = allowed - left' }) (choice_within allowed (choose_walk x))
-      unfolding choice_within choice_answer
-      one_with =
-          let (frames, found, frames_are, reached, left_is) = says left w is in
-          let (choice, tries) = tried.one_with v.so_far few found in
-          let whole : full_tries x ≤ allowed = omega (arith, v.sum) in
-          let tries_are : allowed - left' ≡ full_tries x = omega (arith, v.sum) in
-          rw (le-ltb allowed (full_tries x) whole, choice) (λ i. record { refusal = 0; f = x.h / rows; frames = frames_are i; tries = tries_are i })
+      module _ {placed : List ℕ} {left' : ℕ} (is : At placed left' ≡ answer) where
+        -- what is left after a length with one
+        pub left_less : left' ≤ allowed
+        left_less = let (frames, found, frames_are, reached, left_is) = says left w is in omega (arith, v.sum)
 
-    -- a length at which the tries end
-    pub out_with : OutOfTries ≡ answer → none_chosen 23 allowed ≡ choice_within allowed (choose_walk x)
-    unfolding choice_within
-    out_with is =
-        let more : allowed < full_tries x = omega (arith, v.sum, says left w is, tried.more_with v.so_far few) in
-        rw (lt-ltb allowed (full_tries x) more)
+        -- it is the plan that is chosen
+        pub one_with : ◌≡◌ {A = ChosenPlan} (record { refusal = 0; f = x.h / rows; frames = placed; tries = allowed - left' }) (choice_within allowed (choose_walk x))
+        unfolding choice_within choice_answer
+        one_with =
+            let (frames, found, frames_are, reached, left_is) = says left w is in
+            let (choice, tries) = tried.one_with v.so_far few is_one found in
+            let whole : full_tries x ≤ allowed = omega (arith, v.sum) in
+            let tries_are : allowed - left' ≡ full_tries x = omega (arith, v.sum) in
+            rw (le-ltb allowed (full_tries x) whole, choice) (λ i. record { refusal = 0; f = x.h / rows; frames = frames_are i; tries = tries_are i })
+
+      -- a length at which the tries end
+      pub out_with : OutOfTries ≡ answer → none_chosen 23 allowed ≡ choice_within allowed (choose_walk x)
+      unfolding choice_within
+      out_with is =
+          let more : allowed < full_tries x = omega (arith, v.sum, says left w is, tried.more_with v.so_far few is_one) in
+          rw (lt-ltb allowed (full_tries x) more)
 
   -- all lengths are passed
-  pub passed : 256 < rows → choice_answer (cond some no_plan no_plausible) (allowed - left) ≡ choice_within allowed (choose_walk x)
+  pub passed : 256 < rows → plan_said (allowed - left) (Err why) ≡ choice_within allowed (choose_walk x)
   unfolding choice_within
   passed all =
-      let (choice, tries) = all_passed v.so_far all in
+      let tries = all_passed v.so_far all in
       let tries_are : allowed - left ≡ full_tries x = omega (arith, v.sum) in
-      rw (le-ltb allowed (full_tries x) (omega arith), choice, tries_are)
+      rw (le-ltb allowed (full_tries x) (omega arith), tries_are) (why_passed v.so_far all (full_tries x))

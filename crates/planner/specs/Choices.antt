@@ -1,15 +1,15 @@
 -- The answers of the functions that choose, and what they ask of their arguments.
-use Rattle.std.specs.Prelude.{ℕ, ◌≤◌, ◌<◌, ◌≡◌, true, false, cond, List, replicate, ltb}
+use Rattle.std.specs.Prelude.{ℕ, ◌≡◌, true, cond, List, replicate, ltb}
 use Rattle.cursor.specs.Padded.{padded}
 use Rattle.cycle.specs.declared.Cycle.{Cycle}
-use Rattle.model.specs.Plan.{Instance, costs}
+use Rattle.model.specs.Plan.{costs}
 use Rattle.model.specs.Answers.{instance_of}
 use Rattle.model.specs.Within.{InLimits}
 use Rattle.model.specs.Plausible.{plausible}
-use Rattle.model.specs.Chosen.{Choice, chosen, no_plan, no_plausible, is_tried, ChoiceWalk}
+use Rattle.model.specs.Chosen.{Choice, chosen, no_plan, no_plausible, ChoiceWalk}
 use Rattle.problem.specs.Answers.{links_answer}
 use Rattle.problem.specs.declared.JobLinks.{JobLinks}
-use Rattle.planner.specs.declared.choose.ChosenPlan.{ChosenPlan}
+use Rattle.planner.specs.Numbered.{ChosenPlan}
 
 -- number after so many tries
 abbrev pub none_chosen : ℕ → ℕ → ChosenPlan
@@ -30,10 +30,3 @@ pub record Searchable (c : Cycle) (cost : List ℕ) (links : JobLinks) (f : ℕ)
   pub plausible_is : plausible (instance_of c) f ≡ true
   pub cost_is : cost ≡ padded 128 0 (costs (instance_of c))
   pub links_are : links ≡ links_answer (instance_of c)
-
--- the number of rows that is tried next after this one; 257 where none is left
-pub record NextTried (x : Instance) (rows next : ℕ) : Type 0 where
-  pub most : next ≤ 257
-  pub behind : rows ≤ 256 → rows < next
-  pub tried : next ≤ 256 → is_tried x next ≡ true
-  pub passed : (k : ℕ) → rows < k → k < next → is_tried x k ≡ false

@@ -12,7 +12,7 @@ use Rattle.plan_writer.specs.Outcome.{outcome_buffer}
 use Rattle.planner.specs.Outcome.{outcome_within, searched_answer}
 use Rattle.planner.specs.Handed.{HandedOut}
 use Rattle.planner.specs.HandedLaws.{table_handed, not_planned}
-use Rattle.planner.specs.declared.Searched.{Searched}
+use Rattle.planner.specs.Numbered.{Searched}
 use Rattle.planner.specs.HandedBytes.{handed_bytes, ChosenBytes}
 
 module _ (allowance : ℕ) (request out : List ℕ) where

@@ -3,6 +3,7 @@ pub mod Outcome
 pub mod Handed
 pub mod HandedBytes
 -- How answers stand in types:
+pub mod Numbered
 pub mod Choices
 -- Theorems:
 pub mod HandedLaws

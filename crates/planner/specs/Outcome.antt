@@ -9,7 +9,7 @@ use Rattle.model.specs.Plausible.{phase_rule}
 use Rattle.model.specs.Chosen.{Choice, chosen, no_plan, no_plausible, choose_by, full_tries}
 use Rattle.model.specs.Described.{plan_table}
 use Rattle.plan_writer.specs.Outcome.{Outcome, handed, refusal, outcome_answer}
-use Rattle.planner.specs.declared.Searched.{Searched}
+use Rattle.planner.specs.Numbered.{Searched}
 
 -- 9: "no plausible f"; 10: "some plausible f, no plan"
 abbrev pub by_choice : Instance → Choice → Outcome

@@ -21,8 +21,8 @@ use Rattle.plan_writer.specs.Outcome.{refusal, outcome_answer, outcome_buffer}
 use Rattle.plan_writer.specs.OutcomeLaws.{refused_answer, refused_buffer, table_answer, table_buffer}
 use Rattle.planner.specs.Outcome.{by_choice, in_cycle, outcome, tries_in, request_tries, outcome_within, searched_answer}
 use Rattle.planner.specs.Choices.{none_chosen, choice_answer, choice_within}
-use Rattle.planner.specs.declared.Searched.{Searched}
-use Rattle.planner.specs.declared.choose.ChosenPlan.{ChosenPlan}
+use Rattle.planner.specs.Numbered.{Searched}
+use Rattle.planner.specs.Numbered.{ChosenPlan}
 
 -- the allowance reaches the full search's tries, or it does not
 module _ (a : ℕ) (s : List ℕ) where

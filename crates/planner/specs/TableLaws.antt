@@ -22,7 +22,7 @@ use Rattle.model.specs.Within.{Within}
 use Rattle.plan_writer.specs.Outcome.{Outcome, handed, refusal, outcome_answer, outcome_buffer}
 use Rattle.plan_writer.specs.OutcomeLaws.{refused_answer, handed_answer, handed_buffer, answer_within}
 use Rattle.planner.specs.Outcome.{by_choice, in_cycle, outcome, request_tries, outcome_within, searched_answer}
-use Rattle.planner.specs.declared.Searched.{Searched}
+use Rattle.planner.specs.Numbered.{Searched}
 
 pub record GoodTable (t : Table) : Type 0 where
   pub form : WellFormed t

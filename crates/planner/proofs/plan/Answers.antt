@@ -1,24 +1,36 @@
 -- The request is read, a plan is chosen, and it is written; each way out is one of the definition's cases.
-use Rattle.model.specs.WithinLaws.{read_within, read_refused}
+use Rattle.std.specs.Prelude.{Ok, Err}
+use Rattle.std.proofs.Common.{refl, sym, ap, ◌∙◌}
+use Rattle.request.specs.SectionLaws.{no_zero}
+use Rattle.model.specs.WithinLaws.{Taken, read_taken, read_refused}
+use Rattle.planner.specs.Numbered.{plan_said}
 use Rattle.planner.specs.PlanLaws.{not_within, none_chosen_lem, plan_chosen}
 use Rattle.planner.proofs.plan.Goals as goal
+use Rattle.planner.proofs.plan.Goals.{In-Ok}
 
-pub returns-then-cycle-ne0 : goal.returns-then-cycle-ne0
-returns-then-cycle-ne0 c = not_within _ _ _ (read_refused _ _ c.read-cycle.ensures c.if-cycle-ne0.true) _ c.refused.ensures _
+taken : (c : In-Ok) → Taken c.args.request.now c.in-Ok.cycle
+taken c = read_taken _ _ c.in-Ok.ensures
 
-pub choose-chosen-requires : goal.choose-chosen-requires
-choose-chosen-requires c = (read_within _ _ c.read-cycle.ensures c.if-cycle-ne0.false).limits
+pub returns-in-Err : goal.returns-in-Err
+returns-in-Err c = not_within _ _ _ (read_refused _ _ c.in-Err.ensures) _ (refl, refl, refl) _
 
-pub returns-then-chosen-ne0 : goal.returns-then-chosen-ne0
-returns-then-chosen-ne0 c =
-    let t = read_within _ _ c.read-cycle.ensures c.if-cycle-ne0.false in
-    none_chosen_lem _ _ t _ _ c.choose-chosen.ensures c.if-chosen-ne0.true _ c.refused-then-chosen-ne0.ensures _
+pub choose-outcome-requires : goal.choose-outcome-requires
+choose-outcome-requires c = (taken (goal.at.choose-outcome-requires c).In-Ok).limits
 
-pub write-written-requires : goal.write-written-requires
-write-written-requires c =
-    (read_within _ _ c.read-cycle.ensures c.if-cycle-ne0.false).limits
+pub write-outcome-requires : goal.write-outcome-requires
+write-outcome-requires c = (taken (goal.at.write-outcome-requires c).In-Ok).limits
 
-pub returns : goal.returns
-returns c =
-    let t = read_within _ _ c.read-cycle.ensures c.if-cycle-ne0.false in
-    plan_chosen _ _ t _ _ c.choose-chosen.ensures c.if-chosen-ne0.false _ c.write-written.ensures.0 c.write-written.ensures.1
+pub returns-in-Ok-outcome : goal.returns-in-Ok-outcome
+returns-in-Ok-outcome c =
+    let t = taken (goal.at.returns-in-Ok-outcome c).In-Ok in
+    let tries = c.choose-outcome.result.tries in
+    let chosen = ap (plan_said tries) (sym c.in-Ok-outcome.is) ∙ c.choose-outcome.ensures in
+    plan_chosen _ _ t _ (plan_said tries (Ok c.in-Ok-outcome.chosen)) chosen refl _ c.write-outcome.ensures.0 c.write-outcome.ensures.1
+
+pub returns-in-Err-outcome : goal.returns-in-Err-outcome
+returns-in-Err-outcome c =
+    let t = taken (goal.at.returns-in-Err-outcome c).In-Ok in
+    let tries = c.choose-outcome.result.tries in
+    let refusal = c.in-Err-outcome.refusal in
+    let none = ap (plan_said tries) (sym c.in-Err-outcome.is) ∙ c.choose-outcome.ensures in
+    none_chosen_lem _ _ t _ (plan_said tries (Err refusal)) none (no_zero refusal) _ (refl, refl, refl) _

@@ -1,11 +1,7 @@
 -- The loop keeps that the choice among the lengths left, with whether one was tried, is the choice among all, and what is left of the tries.
-use Rattle.std.proofs.Common.{◌-◌}
 use Rattle.model.specs.Answers.{instance_of}
 use Rattle.planner.specs.ChoiceLaws.{Searching}
 use Rattle.planner.proofs.choose.choose.Given as goal
 
 abbrev pub invariant-loop-rows : goal.invariant-loop-rows
-invariant-loop-rows l = Searching (instance_of l.cycle) l.allowed l.left l.rows l.some
-
-abbrev pub decreases-loop-rows : goal.decreases-loop-rows
-decreases-loop-rows l = 257 - l.rows
+invariant-loop-rows l = Searching (instance_of l.cycle) l.allowed l.left l.rows l.none
