@@ -13,7 +13,7 @@ use Rattle.plan_writer.specs.Outcome.{Outcome, handed, refusal}
 use Rattle.planner.specs.Outcome.{request_tries, outcome_within, program_outcome, outcome_by}
 use Rattle.checker.specs.Checked as checker
 use Rattle.dispatcher.specs.declared.State.{State}
-use Rattle.dispatcher.specs.declared.Frame.{Frame}
+use Rattle.dispatcher.specs.Numbered.{Frame}
 use Rattle.dispatcher.specs.Dispatch.{fresh_state, next_frame, entries_of}
 
 -- Requests and tables, as 01 writes them.

@@ -3,8 +3,8 @@ use Rattle.std.specs.Prelude.{ℕ, Bool, not, cond, ◌&&◌, List, ◌++◌, �
 use Rattle.request.specs.Request.{reading}
 use Rattle.table.specs.Table.{decode}
 use Rattle.dispatcher.specs.Dispatch.{fresh_state, next_frame, reported}
-use Rattle.dispatcher.specs.declared.Frame.{Frame}
-use Rattle.dispatcher.specs.declared.Reported.{Reported}
+use Rattle.dispatcher.specs.Numbered.{Frame}
+use Rattle.dispatcher.specs.Numbered.{Reported}
 use Rattle.lent.specs.Words.{zeros}
 use Rattle.lent.specs.State.{is_state, state_of, state_bytes}
 use Rattle.lent.specs.Entries.{entry_bytes}

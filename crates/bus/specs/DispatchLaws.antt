@@ -2,8 +2,8 @@
 use Rattle.std.specs.Prelude.{ℕ, ◌≤◌, ◌<◌, ◌≡◌, true, false, List, ◌++◌, ℤ, pos, length, drop}
 use borrow.Author.Tests.{lt-ltb, le-ltb}
 use Rattle.dispatcher.specs.Dispatch.{fresh_state}
-use Rattle.dispatcher.specs.declared.Frame.{Frame}
-use Rattle.dispatcher.specs.declared.Reported.{Reported}
+use Rattle.dispatcher.specs.Numbered.{Frame}
+use Rattle.dispatcher.specs.Numbered.{Reported}
 use Rattle.lent.specs.Words.{zeros}
 use Rattle.lent.specs.State.{is_state, state_bytes}
 use Rattle.bus.specs.Reply.{refused_reply}

@@ -4,9 +4,9 @@ use Rattle.cursor.specs.Choice.{bit}
 use Rattle.request.specs.Request.{reading}
 use Rattle.table.specs.Table.{decode}
 use Rattle.timer.specs.Registers.{fresh_timer, register_read, after_write, after_event, serving, reporting, line_on}
-use Rattle.timer.specs.declared.Changed.{Changed}
-use Rattle.timer.specs.declared.RegisterRead.{RegisterRead}
-use Rattle.timer.specs.declared.FrameServed.{FrameServed}
+use Rattle.timer.specs.Numbered.{Changed}
+use Rattle.timer.specs.Numbered.{RegisterRead}
+use Rattle.timer.specs.Numbered.{FrameServed}
 use Rattle.lent.specs.Words.{zeros}
 use Rattle.lent.specs.Entries.{entry_bytes}
 use Rattle.lent.specs.TimerBytes.{is_timer, timer_of, timer_bytes}

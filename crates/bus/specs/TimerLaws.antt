@@ -4,9 +4,9 @@ use borrow.Author.Tests.{lt-ltb, le-ltb}
 use Rattle.table.specs.Table.{decode}
 use Rattle.timer.specs.Registers.{fresh_timer, after_event, register_read, line_on}
 use Rattle.timer.specs.RegisterLaws.{serve_none}
-use Rattle.timer.specs.declared.RegisterRead.{RegisterRead}
-use Rattle.timer.specs.declared.Changed.{Changed}
-use Rattle.timer.specs.declared.FrameServed.{FrameServed}
+use Rattle.timer.specs.Numbered.{RegisterRead}
+use Rattle.timer.specs.Numbered.{Changed}
+use Rattle.timer.specs.Numbered.{FrameServed}
 use Rattle.lent.specs.Words.{zeros}
 use Rattle.lent.specs.Entries.{entry_bytes}
 use Rattle.lent.specs.TimerBytes.{is_timer, timer_of, timer_bytes}

@@ -13,7 +13,7 @@ use Rattle.table.specs.Table.{decode}
 use Rattle.checker.specs.Checked.{check_number}
 use Rattle.dispatcher.specs.Dispatch.{next_frame}
 use Rattle.dispatcher.specs.FrameLaws.{frame_counts}
-use Rattle.dispatcher.specs.declared.Frame.{Frame}
+use Rattle.dispatcher.specs.Numbered.{Frame}
 use Rattle.heater_link.specs.Exchange.{fresh_link, refused_exchange, served_in, is_pair, pairs_in, exchange}
 use Rattle.heater_link.specs.Machine.{count_of}
 use Rattle.heater_link.specs.Calls.{Ask, exchange_of, exchanges_from, link_from}

@@ -7,8 +7,8 @@ use Rattle.table.specs.Table.{Entry, Decoded, table, malformed, row_of}
 use Rattle.table.specs.Answers.{row_given, row_refused, entries_said}
 use Rattle.table.specs.Answers.{Row}
 use Rattle.dispatcher.specs.declared.State.{State}
-use Rattle.dispatcher.specs.declared.Frame.{Frame}
-use Rattle.dispatcher.specs.declared.Reported.{Reported}
+use Rattle.dispatcher.specs.Numbered.{Frame}
+use Rattle.dispatcher.specs.Numbered.{Reported}
 
 -- "a count for each of 16 tasks" (02, R-2), each 0
 abbrev pub no_overruns : List ℕ

@@ -7,8 +7,8 @@ use Rattle.request.specs.declared.Pair.{Pair}
 use Rattle.table.specs.Table.{Entry, Table, job_byte, row_of}
 use Rattle.table.specs.TableBytes.{SaysTable}
 use Rattle.dispatcher.specs.declared.State.{State}
-use Rattle.dispatcher.specs.declared.Frame.{Frame}
-use Rattle.dispatcher.specs.declared.Reported.{Reported}
+use Rattle.dispatcher.specs.Numbered.{Frame}
+use Rattle.dispatcher.specs.Numbered.{Reported}
 
 -- an entry is left out: "leaving out carried ones while the mark is set"
 abbrev pub LeftOut : Bool → Entry → Type 0

@@ -30,7 +30,7 @@ use Rattle.dispatcher.specs.FrameLaws.{
 }
 use Rattle.dispatcher.specs.Exactly.{Serves, Shows, MovesOn, OfTable, NextExact}
 use Rattle.dispatcher.specs.declared.State.{State}
-use Rattle.dispatcher.specs.declared.Frame.{Frame}
+use Rattle.dispatcher.specs.Numbered.{Frame}
 
 -- What is served of a row
 

@@ -14,7 +14,7 @@ use Rattle.dispatcher.specs.Dispatch.{exceeds, raised, raised_at, counted, repor
 use Rattle.dispatcher.specs.ReportLaws.{report_counted, report_unknown, report_unreadable, report_over, report_refused_still}
 use Rattle.dispatcher.specs.Exactly.{Counts, Counted, OfTasks, ReportExact}
 use Rattle.dispatcher.specs.declared.State.{State}
-use Rattle.dispatcher.specs.declared.Reported.{Reported}
+use Rattle.dispatcher.specs.Numbered.{Reported}
 
 -- How the counts change
 

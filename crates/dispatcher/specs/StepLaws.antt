@@ -1,6 +1,6 @@
 -- One turn of the loop over a row's places, and each way out of next-frame and report, as the definitions have them.
 use Rattle.std.specs.Prelude.{ℕ, ◌+◌, ◌-◌, ◌≤◌, ◌<◌, ◌≡◌, true, false, min, cond, List, [], ◌∷◌, ◌++◌, length, get_or, set, replicate, ltb}
-use Rattle.std.proofs.Common.{sym, ap, ◌∙◌, append-nil, arith, leb-false, lt-ltb, le-ltb, ◌⊎◌, inl, inr}
+use Rattle.std.proofs.Common.{refl, sym, ap, ◌∙◌, append-nil, arith, leb-false, lt-ltb, le-ltb, ◌⊎◌, inl, inr}
 use Rattle.std.proofs.Math.Nat.{sub-zero}
 use Rattle.std.proofs.Math.Seq.{append_snoc}
 use Rattle.cursor.specs.ChoiceLaws.{lt_or_ge}
@@ -8,17 +8,17 @@ use Rattle.request.specs.Request.{reading, no_task}
 use Rattle.request.specs.Answers.{request_answered}
 use Rattle.request.specs.AnswerLaws.{WasRead, not_read}
 use Rattle.request.specs.Numbered.{Request}
-use Rattle.table.specs.Table.{Entry, carried_in, decode, entry_of, row_of}
+use Rattle.table.specs.Table.{Entry, Decoded, table, malformed, carried_in, decode, entry_of, row_of}
 use Rattle.table.specs.EntryLaws.{carried_of_byte}
 use Rattle.table.specs.RisingLaws.{row_rises, row_few}
 use Rattle.table.specs.Inverse.{decode_wellformed}
-use Rattle.table.specs.Answers.{sizes_of, row_given, row_answer, entries_said}
+use Rattle.table.specs.Answers.{sizes_of, row_given, row_refused, row_answer, entries_said}
 use Rattle.table.specs.AnswerLaws.{EntriesPlaced, none_placed, one_placed, placed_given}
 use Rattle.table.specs.AnswerLaws.{entries_at, entries_more, entries_none, entries_given, given_count, given_refusal, height_is}
 use Rattle.table.specs.AnswerLaws.{RowSought, found, behind, no_table, row_sought, RowFound}
 use Rattle.table.specs.Answers.{Row}
 use Rattle.table.specs.Answers.{Sizes}
-use Rattle.dispatcher.specs.Dispatch.{uncarried, framed, moved, next_frame, raised, raised_at, with_counts, report_taken, report_refused, reported}
+use Rattle.dispatcher.specs.Dispatch.{uncarried, framed, no_frame, moved, next_frame, raised, raised_at, with_counts, report_taken, report_refused, reported}
 use Rattle.dispatcher.specs.FrameLaws.{uncarried_none, uncarried_kept, uncarried_passed, frame_served_lem, frame_behind, frame_malformed}
 use Rattle.dispatcher.specs.ReportLaws.{report_counted, report_unknown, report_unreadable}
 use Rattle.dispatcher.specs.declared.State.{State}
@@ -65,15 +65,23 @@ module _ (tasks jobs : List ℕ) (n : ℕ) where
 
 -- Next-frame
 
--- 12 and 15 are the table reader's
-pub row_refused_lem : (bytes : List ℕ) (s : State) (r : Row) → r ≡ row_answer s.row (decode bytes) → (r.refusal ≡ 0 → ⊥)
-    → framed r s ≡ next_frame (decode bytes) s
-row_refused_lem bytes s r e ne = go (row_sought bytes s.row r e)
+-- 12 is the table reader's
+pub form_refused : (bytes : List ℕ) (s : State) (z : Sizes) → z ≡ sizes_of (decode bytes) → (z.refusal ≡ 0 → ⊥) → no_frame z.refusal s ≡ next_frame (decode bytes) s
+unfolding sizes_of
+form_refused bytes s z e ne = go (decode bytes) refl e
   where
-    go : RowSought bytes s.row r → framed r s ≡ next_frame (decode bytes) s
-    go (found w) = absurd (ne (rw w.row_is (given_refusal (row_of w.t s.row))))
-    go (behind t is l q) = rw q (sym (frame_behind bytes s t is l))
-    go (no_table is q) = rw q (sym (frame_malformed bytes s is))
+    go : (d : Decoded) → decode bytes ≡ d → z ≡ sizes_of d → no_frame z.refusal s ≡ next_frame (decode bytes) s
+    go (table t) is q = absurd (ne (ap (λ (y : Sizes). y.refusal) q))
+    go malformed is q = rw q (sym (frame_malformed bytes s is))
+
+-- the table has no such row
+pub row_missing : (bytes : List ℕ) (s : State) → row_refused 15 ≡ row_answer s.row (decode bytes) → no_frame 15 s ≡ next_frame (decode bytes) s
+row_missing bytes s e = go (row_sought bytes s.row (row_refused 15) e)
+  where
+    go : RowSought bytes s.row (row_refused 15) → no_frame 15 s ≡ next_frame (decode bytes) s
+    go (found w) = absurd (omega (arith, given_refusal (row_of w.t s.row), ap (λ (y : Row). y.refusal) w.row_is))
+    go (behind t is l q) = sym (frame_behind bytes s t is l)
+    go (no_table is q) = absurd (omega (arith, ap (λ (y : Row). y.refusal) q))
 
 module _ (bytes : List ℕ) (s : State) (r : Row) (w : RowFound bytes s.row r) where
   abbrev row : List Entry

@@ -3,9 +3,11 @@
 ghost use Rattle.std.specs.Prelude.{◌≡◌, ◌≤◌, ◌<◌};
 ghost use Rattle.request.specs.Request.{reading};
 ghost use Rattle.table.specs.Table.{decode};
-ghost use Rattle.table.specs.Answers.{row_given, entries_said};
+ghost use Rattle.table.specs.Answers.{row_ok, row_given, entries_said};
 ghost use Rattle.dispatcher.specs.Dispatch.{fresh_state, uncarried, framed, moved, next_frame, raised, reported};
+ghost use Rattle.dispatcher.specs.Numbered.{frame_ok, frame_said, reported_said};
 
+use refusal::Refusal;
 use table::Row;
 
 // The row that is served next, the mark of the first cycle and, for each of 16 tasks, the count of its overruns.
@@ -19,17 +21,15 @@ pub struct State {
 // The entries to serve in 16 places, filled from the first, as task bytes and job bytes; and the state for the next call.
 #[derive(Clone, Copy)]
 pub struct Frame {
-    pub refusal: u8,
     pub count: usize,
     pub tasks: [u8; 16],
     pub jobs: [u8; 16],
     pub state: State,
 }
 
-// Whether the report was above C, and the state for the next call; or the number of its refusal, and the state as it was.
+// Whether the report was above C, and the state for the next call.
 #[derive(Clone, Copy)]
 pub struct Reported {
-    pub refusal: u8,
     pub over: bool,
     pub state: State,
 }
@@ -45,16 +45,10 @@ pub fn fresh() -> State
 }
 
 fn frame_of(row: Row, state: State) -> Frame
-    ensures { result ≡ framed row state }
+    ensures { frame_ok result ≡ framed (row_ok row) state }
 {
-    let Row {
-        refusal,
-        count,
-        tasks,
-        jobs,
-    } = row;
+    let Row { count, tasks, jobs } = row;
     Frame {
-        refusal,
         count,
         tasks,
         jobs,
@@ -65,7 +59,7 @@ fn frame_of(row: Row, state: State) -> Frame
 // The row without its carried entries: those left close up.
 fn without_carried(row: Row) -> Row
     requires { row.count ≤ 16 }
-    ensures { result ≡ row_given (uncarried (entries_said row)) }
+    ensures { row_ok result ≡ row_given (uncarried (entries_said (row_ok row))) }
 {
     let mut tasks = [0u8; 16];
     let mut jobs = [0u8; 16];
@@ -78,12 +72,7 @@ fn without_carried(row: Row) -> Row
             count += 1;
         }
     }
-    Row {
-        refusal: 0,
-        count,
-        tasks,
-        jobs,
-    }
+    Row { count, tasks, jobs }
 }
 
 // The row moves on by one, and from the last row to 0 with the mark cleared.
@@ -105,21 +94,20 @@ fn move_on(height: u16, state: State) -> State
 }
 
 // The entries of the state's row, without the carried ones in the first cycle: 12 where the bytes are no table, 15 where the row is not below F.
-pub fn next_frame(table: &[u8], state: State) -> Frame
-    ensures { result ≡ next_frame (decode table.now) state }
+// On a refusal the caller keeps its state, here as in a report.
+pub fn next_frame(table: &[u8], state: State) -> Result<Frame, Refusal>
+    ensures { frame_said state result ≡ next_frame (decode table.now) state }
 {
-    let read = table::read::row_and_sizes(table, state.row);
-    let row = read.row;
-    if row.refusal != 0 {
-        return frame_of(row, state);
-    }
-    let sizes = read.sizes;
+    let (sizes, found) = table::read::row_and_sizes(table, state.row)?;
+    let Some(row) = found else {
+        return Err(Refusal::NoSuchRow);
+    };
     let after = move_on(sizes.height, state);
     if state.first {
         let kept = without_carried(row);
-        return frame_of(kept, after);
+        return Ok(frame_of(kept, after));
     }
-    frame_of(row, after)
+    Ok(frame_of(row, after))
 }
 
 // One overrun more, up to 65,535.
@@ -130,31 +118,19 @@ fn count_overrun(over: bool, count: u16) -> u16
 }
 
 // The ticks that a task used: more than C are an overrun, and its own count rises. 1 to 6 or 17 where the bytes are no request, 16 where it has no such task.
-pub fn report(request: &[u8], task: u8, ticks: u32, state: State) -> Reported
-    ensures { result ≡ reported (reading request.now) task ticks state }
+pub fn report(request: &[u8], task: u8, ticks: u32, state: State) -> Result<Reported, Refusal>
+    ensures { reported_said state result ≡ reported (reading request.now) task ticks state }
 {
-    let read = request::read(request);
-    if read.refusal != 0 {
-        return Reported {
-            refusal: read.refusal,
-            over: false,
-            state,
-        };
-    }
+    let read = request::read(request)?;
     let i = task as usize;
     if read.n <= i {
-        return Reported {
-            refusal: 16,
-            over: false,
-            state,
-        };
+        return Err(Refusal::NoSuchTask);
     }
     let over = (read.tasks[i].c as u32) < ticks;
     let mut counts = state.counts;
     counts[i] = count_overrun(over, counts[i]);
-    Reported {
-        refusal: 0,
+    Ok(Reported {
         over,
         state: State { counts, ..state },
-    }
+    })
 }

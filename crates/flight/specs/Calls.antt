@@ -6,8 +6,8 @@ use Rattle.table.specs.Answers.{row_given, entries_said}
 use Rattle.table.specs.Answers.{Row}
 use Rattle.dispatcher.specs.Dispatch.{no_overruns, served, next_frame, exceeds, raised_at, reported, row_shown}
 use Rattle.dispatcher.specs.declared.State.{State}
-use Rattle.dispatcher.specs.declared.Frame.{Frame}
-use Rattle.dispatcher.specs.declared.Reported.{Reported}
+use Rattle.dispatcher.specs.Numbered.{Frame}
+use Rattle.dispatcher.specs.Numbered.{Reported}
 
 -- "A report may get any bytes as its request, any task number and any ticks."
 pub data Call : Type 0 where

@@ -15,7 +15,7 @@ use Rattle.checker.specs.ExactlyLaws.{check_exact}
 use Rattle.dispatcher.specs.Dispatch.{no_overruns, state_at, next_frame}
 use Rattle.dispatcher.specs.FrameLaws.{frame_served_lem, fresh_at, moved_at}
 use Rattle.dispatcher.specs.declared.State.{State}
-use Rattle.dispatcher.specs.declared.Frame.{Frame}
+use Rattle.dispatcher.specs.Numbered.{Frame}
 use Rattle.flight.specs.Calls as flight
 use Rattle.flight.specs.Calls.{answers, final, dispatch}
 use Rattle.flight.specs.Theorem.{flight}

@@ -5,9 +5,9 @@ use Rattle.table.specs.Table.{decode}
 use Rattle.table.specs.Answers.{Row}
 use Rattle.flight.specs.Calls as flight
 use Rattle.timer.specs.declared.Timer.{Timer}
-use Rattle.timer.specs.declared.RegisterRead.{RegisterRead}
-use Rattle.timer.specs.declared.Changed.{Changed}
-use Rattle.timer.specs.declared.FrameServed.{FrameServed}
+use Rattle.timer.specs.Numbered.{RegisterRead}
+use Rattle.timer.specs.Numbered.{Changed}
+use Rattle.timer.specs.Numbered.{FrameServed}
 use Rattle.timer.specs.Registers.{fresh_timer, register_read, after_write, after_event, serving, reporting, line_on}
 
 -- an address to read; an address and a byte to write; a timer event; a serving, with any bytes as its table; a report, with any bytes as its request, any task

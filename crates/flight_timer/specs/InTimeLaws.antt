@@ -17,7 +17,7 @@ use Rattle.dispatcher.specs.Dispatch.{served, moved, next_frame, reported}
 use Rattle.dispatcher.specs.FrameLaws.{frame_served_lem, frame_malformed, moved_next, moved_last}
 use Rattle.dispatcher.specs.ReportLaws.{report_counted, report_unknown, report_unreadable}
 use Rattle.dispatcher.specs.declared.State.{State}
-use Rattle.dispatcher.specs.declared.Frame.{Frame}
+use Rattle.dispatcher.specs.Numbered.{Frame}
 use Rattle.flight.specs.Calls as flight
 use Rattle.flight.specs.Timing.{KeepToC, start_time}
 use Rattle.flight.specs.Flight as flown

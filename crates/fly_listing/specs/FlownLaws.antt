@@ -11,7 +11,7 @@ use Rattle.table.specs.Left.{less_one, none_left}
 use Rattle.dispatcher.specs.Dispatch.{no_overruns, state_at, shown, moved, next_frame, entries_of}
 use Rattle.dispatcher.specs.FrameLaws.{frame_served_lem, served_rises, moved_at}
 use Rattle.dispatcher.specs.declared.State.{State}
-use Rattle.dispatcher.specs.declared.Frame.{Frame}
+use Rattle.dispatcher.specs.Numbered.{Frame}
 use Rattle.plan_writer.specs.Outcome.{handed, refusal}
 use Rattle.planner.specs.Outcome.{program_outcome}
 use Rattle.flight.specs.Calls.{height, plain_frame}

@@ -20,7 +20,7 @@ use Rattle.checker.specs.Exactly.{SizesFit}
 use Rattle.checker.specs.ExactlyLaws.{check_exact}
 use Rattle.checker.specs.Verdicts.{refusal_number}
 use Rattle.dispatcher.specs.Dispatch.{served, next_frame}
-use Rattle.dispatcher.specs.declared.Frame.{Frame}
+use Rattle.dispatcher.specs.Numbered.{Frame}
 use Rattle.dispatcher.specs.FrameLaws.{frame_served_lem, frame_behind}
 use Rattle.heater_link.specs.Exchange.{refused_exchange, served_in, exchanged_in, is_pair, pairs_in}
 use Rattle.heater_link.specs.StepLaws.{check_refuses, pair_refused, pair_served, frame_exchanged}

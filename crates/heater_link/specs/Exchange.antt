@@ -7,7 +7,7 @@ use Rattle.plan_rules.specs.Every.{some}
 use Rattle.checker.specs.Checked.{check_number}
 use Rattle.dispatcher.specs.Dispatch.{fresh_state, next_frame}
 use Rattle.dispatcher.specs.declared.State.{State}
-use Rattle.dispatcher.specs.declared.Frame.{Frame}
+use Rattle.dispatcher.specs.Numbered.{Frame}
 use Rattle.heater_link.specs.Machine.{Ends, fresh_ends, Arrivals, toggles, answers, ends_now}
 use Rattle.heater_link.specs.declared.Link.{Link}
 use Rattle.heater_link.specs.declared.Losses.{Losses}

@@ -27,7 +27,7 @@ use Rattle.checker.specs.Numbered.{Read}
 use Rattle.checker.specs.Verdicts.{plan_read_lem, refusal_number}
 use Rattle.dispatcher.specs.Dispatch.{next_frame}
 use Rattle.dispatcher.specs.FrameLaws.{frame_few}
-use Rattle.dispatcher.specs.declared.Frame.{Frame}
+use Rattle.dispatcher.specs.Numbered.{Frame}
 use Rattle.heater_link.specs.Exchange.{serves, refused_exchange, served_in, exchanged_in, is_pair, pairs_in, exchange}
 use Rattle.heater_link.specs.declared.Link.{Link}
 use Rattle.heater_link.specs.declared.Losses.{Losses}

@@ -14,14 +14,14 @@ use Rattle.table.specs.Left.{less_one, none_left}
 use Rattle.table.specs.Table.{Decoded, decode}
 use Rattle.dispatcher.specs.Dispatch.{next_frame}
 use Rattle.dispatcher.specs.FrameLaws.{frame_few, frame_refused_still}
-use Rattle.dispatcher.specs.declared.Frame.{Frame}
+use Rattle.dispatcher.specs.Numbered.{Frame}
 use Rattle.timer.specs.Registers.{control_byte, status_byte, sum_of, sum_shown, registers, register_read, with_control, with_status, control_of, status_of, cleared_by, changed, after_write}
 use Rattle.timer.specs.Registers.{due_or_missed, after_event, served_once, due_served, none_served, serving}
 use Rattle.timer.specs.declared.Control.{Control}
 use Rattle.timer.specs.declared.Status.{Status}
 use Rattle.timer.specs.declared.Timer.{Timer}
-use Rattle.timer.specs.declared.RegisterRead.{RegisterRead}
-use Rattle.timer.specs.declared.FrameServed.{FrameServed}
+use Rattle.timer.specs.Numbered.{RegisterRead}
+use Rattle.timer.specs.Numbered.{FrameServed}
 
 -- a bit as a number
 pub bit_is : (b : Bool) → bool_byte b ≡ bit b
@@ -231,6 +231,14 @@ module _ (d : Decoded) (t : Timer) where
         → serving d t ≡ answered_with (next_frame d t.state) (served_once (next_frame d t.state).state t)
     unfolding serving
     serve_made e = rw (due, eq-eqb (next_frame d t.state).refusal 0 e)
+
+    -- and by the frame that next-frame answers
+    module _ (a : Frame) (is : a ≡ next_frame d t.state) where
+      pub frame_refused : (a.refusal ≡ 0 → ⊥) → answered_with a t ≡ serving d t
+      frame_refused ne = rw is (sym (serve_refused (rw is at ne)))
+
+      pub frame_made : a.refusal ≡ 0 → answered_with a (served_once a.state t) ≡ serving d t
+      frame_made z = rw is (sym (serve_made (rw is at z)))
 
 -- the status after a serving that was answered with this number
 abbrev pub served_status : ℕ → Status → Status

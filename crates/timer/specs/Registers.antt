@@ -8,14 +8,14 @@ use Rattle.request.specs.Request.{Reading}
 use Rattle.table.specs.Table.{Decoded}
 use Rattle.dispatcher.specs.Dispatch.{fresh_state, next_frame, reported}
 use Rattle.dispatcher.specs.declared.State.{State}
-use Rattle.dispatcher.specs.declared.Frame.{Frame}
-use Rattle.dispatcher.specs.declared.Reported.{Reported}
+use Rattle.dispatcher.specs.Numbered.{Frame}
+use Rattle.dispatcher.specs.Numbered.{Reported}
 use Rattle.timer.specs.declared.Control.{Control}
 use Rattle.timer.specs.declared.Status.{Status}
 use Rattle.timer.specs.declared.Timer.{Timer}
-use Rattle.timer.specs.declared.RegisterRead.{RegisterRead}
-use Rattle.timer.specs.declared.Changed.{Changed}
-use Rattle.timer.specs.declared.FrameServed.{FrameServed}
+use Rattle.timer.specs.Numbered.{RegisterRead}
+use Rattle.timer.specs.Numbered.{Changed}
+use Rattle.timer.specs.Numbered.{FrameServed}
 
 -- whether a bit of the byte is set: that of weight 1 is bit 0, of weight 2 bit 1, of weight 4 bit 2
 abbrev pub is_set : ℕ → ℕ → Bool

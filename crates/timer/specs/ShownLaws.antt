@@ -13,7 +13,7 @@ use Rattle.timer.specs.Registers.{is_set, control_byte, status_byte, sum_of, sum
 use Rattle.timer.specs.Registers.{line_on}
 use Rattle.timer.specs.RegisterLaws.{a_byte, eight_bytes, control_back, status_back, read_at}
 use Rattle.timer.specs.declared.Control.{Control}
-use Rattle.timer.specs.declared.RegisterRead.{RegisterRead}
+use Rattle.timer.specs.Numbered.{RegisterRead}
 use Rattle.timer.specs.declared.Status.{Status}
 use Rattle.timer.specs.declared.Timer.{Timer}
 

@@ -6,8 +6,10 @@ ghost use Rattle.table.specs.Table.{decode};
 ghost use Rattle.timer.specs.Registers.{is_set, fresh_timer, control_byte, status_byte, sum_of, sum_shown, register_read};
 ghost use Rattle.timer.specs.Registers.{control_of, status_of, cleared_by, after_write, due_or_missed, after_event};
 ghost use Rattle.timer.specs.Registers.{served_once, none_served, serving, marked, reporting, line_on};
+ghost use Rattle.timer.specs.Numbered.{read_said, changed_said, served_ok, served_said};
 
 use dispatcher::{Frame, State};
+use refusal::Refusal;
 
 // Register 0: bit 0 run, bit 1 interrupt enable.
 #[derive(Clone, Copy)]
@@ -31,24 +33,9 @@ pub struct Timer {
     pub status: Status,
 }
 
-// A register's byte; or 29, and 0.
-#[derive(Clone, Copy)]
-pub struct RegisterRead {
-    pub refusal: u8,
-    pub value: u8,
-}
-
-// The timer after a write or a report; or the number of its refusal, and the timer as it was.
-#[derive(Clone, Copy)]
-pub struct Changed {
-    pub refusal: u8,
-    pub timer: Timer,
-}
-
 // The entries to serve in 16 places, filled from the first, as task bytes and job bytes; and the timer for the next call.
 #[derive(Clone, Copy)]
 pub struct FrameServed {
-    pub refusal: u8,
     pub count: usize,
     pub tasks: [u8; 16],
     pub jobs: [u8; 16],
@@ -99,15 +86,9 @@ fn sum_shown(counts: [u16; 16]) -> u16
 }
 
 // The byte at an address: 29 where it is above 7.
-pub fn read(address: u8, timer: Timer) -> RegisterRead
-    ensures { result ≡ register_read address timer }
+pub fn read(address: u8, timer: Timer) -> Result<u8, Refusal>
+    ensures { read_said result ≡ register_read address timer }
 {
-    if 7 < address {
-        return RegisterRead {
-            refusal: 29,
-            value: 0,
-        };
-    }
     let state = timer.state;
     let value = match address {
         0 => control_byte(timer.control),
@@ -116,9 +97,10 @@ pub fn read(address: u8, timer: Timer) -> RegisterRead
         3 => (state.row / 256) as u8,
         4 => (sum_shown(state.counts) % 256) as u8,
         5 => (sum_shown(state.counts) / 256) as u8,
-        _ => 0,
+        6 | 7 => 0,
+        _ => return Err(Refusal::NoSuchRegister),
     };
-    RegisterRead { refusal: 0, value }
+    Ok(value)
 }
 
 // Whether a bit of a byte is set: weight 1 is bit 0, weight 2 bit 1, weight 4 bit 2.
@@ -162,27 +144,22 @@ fn cleared_by(value: u8, status: Status) -> Status
 }
 
 // Control takes its two bits, status is cleared where a 1 is written, and bytes 2 to 7 stay: 29 where the address is above 7.
-pub fn write(address: u8, value: u8, timer: Timer) -> Changed
-    ensures { result ≡ after_write address value timer }
+// On a refusal the caller keeps its timer, here as in a serving and a report.
+pub fn write(address: u8, value: u8, timer: Timer) -> Result<Timer, Refusal>
+    ensures { changed_said timer result ≡ after_write address value timer }
 {
-    if 7 < address {
-        return Changed { refusal: 29, timer };
+    match address {
+        0 => Ok(Timer {
+            control: control_of(value),
+            ..timer
+        }),
+        1 => Ok(Timer {
+            status: cleared_by(value, timer.status),
+            ..timer
+        }),
+        2..=7 => Ok(timer),
+        _ => Err(Refusal::NoSuchRegister),
     }
-    if address == 0 {
-        let control = control_of(value);
-        return Changed {
-            refusal: 0,
-            timer: Timer { control, ..timer },
-        };
-    }
-    if address == 1 {
-        let status = cleared_by(value, timer.status);
-        return Changed {
-            refusal: 0,
-            timer: Timer { status, ..timer },
-        };
-    }
-    Changed { refusal: 0, timer }
 }
 
 // A frame is due now; if one was due already, it is missed.
@@ -211,10 +188,9 @@ pub fn event(timer: Timer) -> Timer
 
 // No frame is due: no entries, and nothing changes.
 fn none_served(timer: Timer) -> FrameServed
-    ensures { result ≡ none_served timer }
+    ensures { served_ok result ≡ none_served timer }
 {
     FrameServed {
-        refusal: 0,
         count: 0,
         tasks: [0; 16],
         jobs: [0; 16],
@@ -224,17 +200,15 @@ fn none_served(timer: Timer) -> FrameServed
 
 // The dispatcher's answer, with the timer for the next call.
 fn frame_served(frame: Frame, timer: Timer) -> FrameServed
-    ensures { result ≡ record { refusal = frame.refusal; count = frame.count; tasks = frame.tasks; jobs = frame.jobs; timer = timer } }
+    ensures { result ≡ record { count = frame.count; tasks = frame.tasks; jobs = frame.jobs; timer = timer } }
 {
     let Frame {
-        refusal,
         count,
         tasks,
         jobs,
         ..
     } = frame;
     FrameServed {
-        refusal,
         count,
         tasks,
         jobs,
@@ -258,18 +232,15 @@ fn served_once(state: State, timer: Timer) -> Timer
 }
 
 // Serves the frame that is due, by one next-frame call: 12 or 15, and the frame stays due. With none due nothing is refused, whatever the table.
-pub fn serve(table: &[u8], timer: Timer) -> FrameServed
-    ensures { result ≡ serving (decode table.now) timer }
+pub fn serve(table: &[u8], timer: Timer) -> Result<FrameServed, Refusal>
+    ensures { served_said timer result ≡ serving (decode table.now) timer }
 {
     if !timer.status.due {
-        return none_served(timer);
+        return Ok(none_served(timer));
     }
-    let frame = dispatcher::next_frame(table, timer.state);
-    if frame.refusal != 0 {
-        return frame_served(frame, timer);
-    }
+    let frame = dispatcher::next_frame(table, timer.state)?;
     let after = served_once(frame.state, timer);
-    frame_served(frame, after)
+    Ok(frame_served(frame, after))
 }
 
 // The status after a report: bit 1 is set by one above C.
@@ -283,20 +254,15 @@ fn marked_if(over: bool, status: Status) -> Status
 }
 
 // The ticks that a task used: more than C set bit 1, and its count rises. 1 to 6 or 17 where the bytes are no request, 16 where it has no such task.
-pub fn report(request: &[u8], task: u8, ticks: u32, timer: Timer) -> Changed
-    ensures { result ≡ reporting (reading request.now) task ticks timer }
+pub fn report(request: &[u8], task: u8, ticks: u32, timer: Timer) -> Result<Timer, Refusal>
+    ensures { changed_said timer result ≡ reporting (reading request.now) task ticks timer }
 {
-    let reported = dispatcher::report(request, task, ticks, timer.state);
-    let state = reported.state;
-    let status = marked_if(reported.over, timer.status);
-    Changed {
-        refusal: reported.refusal,
-        timer: Timer {
-            state,
-            status,
-            ..timer
-        },
-    }
+    let reported = dispatcher::report(request, task, ticks, timer.state)?;
+    Ok(Timer {
+        state: reported.state,
+        status: marked_if(reported.over, timer.status),
+        ..timer
+    })
 }
 
 // The interrupt line is on exactly if it is enabled and a status bit is set.

@@ -1,10 +1,7 @@
--- Each arm is one byte of the eight; behind them 6 and 7 are left.
+-- Each arm is one byte of the eight; behind them no address is left.
 use Rattle.std.proofs.Common.{◌≤◌, ◌<◌, refl, arith}
 use Rattle.timer.specs.RegisterLaws.{read_no_more, read_at, read_free}
 use Rattle.timer.proofs.read.Goals as goal
-
-pub returns-then-address-gt7 : goal.returns-then-address-gt7
-returns-then-address-gt7 c = rw (read_no_more c.args.address c.args.timer (omega (arith, c.if-address-gt7.true)))
 
 pub returns-in-0 : goal.returns-in-0
 returns-in-0 c = read_at _ _ 0 _ c.in-0.is (omega arith) c.control_byte-value.ensures
@@ -24,9 +21,11 @@ returns-in-4 c = read_at _ _ 4 _ c.in-4.is (omega arith) (rw c.sum_shown.ensures
 pub returns-in-5 : goal.returns-in-5
 returns-in-5 c = read_at _ _ 5 _ c.in-5.is (omega arith) (rw c.sum_shown-in-5.ensures)
 
+pub returns-in-6 : goal.returns-in-6
+returns-in-6 c =
+    let behind : 6 ≤ c.args.address = omega (arith, c.in-6) in
+    let within : c.args.address < 8 = omega (arith, c.in-6) in
+    read_free _ c.args.timer behind within
+
 pub returns-in_default : goal.returns-in_default
-returns-in_default c =
-    let a = c.args in
-    let behind : 6 ≤ a.address = omega arith in
-    let within : a.address < 8 = omega (arith, c.if-address-gt7.false) in
-    read_free _ a.timer behind within
+returns-in_default c = rw (read_no_more c.args.address c.args.timer (omega (arith, c.in_default)))

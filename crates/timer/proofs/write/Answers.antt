@@ -1,21 +1,19 @@
--- Each way out is one case of the definition: above 7, control, status, and the bytes that ignore writes.
-use Rattle.std.proofs.Common.{◌≤◌, ◌<◌, sym, arith}
+-- Each arm is one case of the definition: control, status, the bytes that ignore writes, and above 7.
+use Rattle.std.proofs.Common.{◌<◌, sym, arith}
 use Rattle.timer.specs.RegisterLaws.{write_no_more, write_control, write_status, write_ignored}
 use Rattle.timer.proofs.write.Goals as goal
 
-pub returns-then-address-gt7 : goal.returns-then-address-gt7
-returns-then-address-gt7 c =
-    let above : 8 ≤ c.args.address = omega (arith, c.if-address-gt7.true) in
-    sym (write_no_more _ c.args.value _ above)
+pub returns-in-0 : goal.returns-in-0
+returns-in-0 c = rw c.control_of.ensures (sym (write_control _ _ _ c.in-0.is))
 
-pub returns-then-address-eq0 : goal.returns-then-address-eq0
-returns-then-address-eq0 c = rw c.control_of-control.ensures (sym (write_control _ _ _ c.if-address-eq0.true))
+pub returns-in-1 : goal.returns-in-1
+returns-in-1 c = rw c.cleared_by.ensures (sym (write_status _ _ _ c.in-1.is))
 
-pub returns-then-address-eq1 : goal.returns-then-address-eq1
-returns-then-address-eq1 c = rw c.cleared_by-status.ensures (sym (write_status _ _ _ c.if-address-eq1.true))
-
-pub returns : goal.returns
-returns c =
+pub returns-in-2-to-7 : goal.returns-in-2-to-7
+returns-in-2-to-7 c =
     let a = c.args in
-    let within : a.address < 8 = omega (arith, c.if-address-gt7.false) in
-    sym (write_ignored _ a.value _ c.if-address-eq0.false c.if-address-eq1.false within)
+    let within : a.address < 8 = omega (arith, c.in-2-to-7) in
+    sym (write_ignored _ a.value _ (λ e. absurd (omega (arith, c.in-2-to-7, e))) (λ e. absurd (omega (arith, c.in-2-to-7, e))) within)
+
+pub returns-in_default : goal.returns-in_default
+returns-in_default c = sym (write_no_more _ c.args.value _ (omega (arith, c.in_default)))

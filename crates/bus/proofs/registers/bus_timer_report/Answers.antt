@@ -2,7 +2,7 @@
 use Rattle.std.proofs.Common.{◌≡◌, ℕ, List, sym, ◌∙◌, true}
 use Rattle.request.specs.Request.{reading}
 use Rattle.timer.specs.Registers.{reporting}
-use Rattle.timer.specs.declared.Changed.{Changed}
+use Rattle.timer.specs.Numbered.{Changed}
 use Rattle.lent.specs.TimerBytes.{is_timer, timer_of}
 use Rattle.lent.specs.TimerByteLaws.{timer_long}
 use Rattle.bus.specs.ReplyLaws.{kept}

@@ -2,7 +2,7 @@
 -- what the timer answers
 use Rattle.std.proofs.Common.{◌≡◌, ℕ, List, sym, ◌∙◌, true}
 use Rattle.timer.specs.Registers.{after_write}
-use Rattle.timer.specs.declared.Changed.{Changed}
+use Rattle.timer.specs.Numbered.{Changed}
 use Rattle.lent.specs.TimerBytes.{is_timer, timer_of}
 use Rattle.lent.specs.TimerByteLaws.{timer_long}
 use Rattle.bus.specs.ReplyLaws.{kept}
