@@ -48,7 +48,7 @@ module _ (request : List ℕ) (r : Searched) (e : r ≡ searched_answer program_
     not_malformed bytes b is = let none : table back.t ≡ malformed = sym (table_there bytes b) ∙ is in never (cc)
 
     -- the request of a table that is handed out was read
-    request_there : (number : ℕ) → reading request ≡ unreadable number → ⊥
+    pub request_there : (number : ℕ) → reading request ≡ unreadable number → ⊥
     request_there number e =
         let (x, within) = handed_within_cycle program_tries request back.t back.is in
         let none : readable x.tasks x.pairs x.g ≡ unreadable number = sym (cycle_reading request x.tasks x.pairs x.g x.h x.jobs within) ∙ e in
