@@ -28,7 +28,7 @@ EDIT = re.compile(r"(\w+)/must-fail(?:/(\w+))?")
 
 # What stands in code quotes and is no name of the repository: words, and whole texts.
 OTHERS = {
-    "a word of the language": "requires ensures pub self statement met cond lem ac unfolding",
+    "a word of the language": "requires ensures pub self statement met cond lem ac unfolding Result Option Ok Err",
     "a name of its libraries, or of C": "libc memcpy memset PROGMEM",
     "another tool, or a word or a file of one": "rt gcc g++ cargo sha256sum pcfiledir",
     "what is built": "libbus.a target/python/libbus.so py3-none-manylinux_2_17_x86_64",

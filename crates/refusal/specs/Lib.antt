@@ -1,3 +1,4 @@
--- Refusals and their numbers
+-- To be believed:
 pub mod Refusal
+-- Laws:
 pub mod RefusalLaws
