@@ -1,6 +1,6 @@
 #![tactic(auto)]
-// Greatest common divisor, least common multiple, and the smaller of two.
-ghost use Rattle.std.specs.Prelude.{◌≡◌, min};
+// Greatest common divisor and least common multiple.
+ghost use Rattle.std.specs.Prelude.{◌≡◌};
 ghost use Rattle.arith.specs.Gcd.{gcd_of};
 ghost use Rattle.arith.specs.Lcm.{lcm_of};
 
@@ -20,11 +20,4 @@ pub fn lcm(a: u16, b: u16) -> u32
     }
     let parts = a / g;
     (parts as u32) * (b as u32)
-}
-
-// The smaller of the two.
-pub fn at_most(n: usize, limit: usize) -> usize
-    ensures { result ≡ min n limit }
-{
-    if n < limit { n } else { limit }
 }
