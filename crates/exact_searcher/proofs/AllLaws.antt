@@ -9,11 +9,11 @@ use lib.ListN.{length, replicate, length-replicate}
 use Rattle.cursor.specs.ArrayLaws.{blank_behind}
 use Rattle.search.specs.Search.{Found, none}
 use Rattle.search.specs.Placing.{plan_walk, Problem}
-use Rattle.searcher.specs.Arrays.{Placeable, problem_of, counts_in, jobs_in, problem_in}
+use Rattle.searcher.specs.Arrays.{Placeable, problem_of, jobs_in, problem_in}
 use Rattle.searcher.specs.declared.Given.{Given}
 use Rattle.searcher.specs.declared.Problem.{Problem as InArrays}
 use Rattle.searcher.proofs.AllLaws.{begins}
-use Rattle.prune.specs.Arrays.{Packed, Marked}
+use Rattle.prune.specs.Arrays.{Packed}
 use Rattle.exact_searcher.proofs.HopelessLaws.{is_packed, none_placed}
 use Rattle.exact_searcher.specs.Arrays.{Searching, Decided, DecidedJob, found_answer}
 
@@ -28,9 +28,8 @@ module _ {given : Given} (p : Placeable given) (packed : InArrays) (same : (prob
   pub packed_first : Packed packed
   packed_first = is_packed (begins p packed same).ready
 
-  pub searching_first : {tied : List ℕ} → Marked (counts_in packed) packed.links n tied
-      → Searching packed tied (replicate 128 0) (replicate 256 0) 0
-  searching_first m = record { placing = begins p packed same; marks = m; so_far = none_placed x }
+  pub searching_first : Searching packed (replicate 128 0) (replicate 256 0) 0
+  searching_first = record { placing = begins p packed same; so_far = none_placed x }
 
   abbrev o : Found
   o = (plan_walk (problem_of given) []).found

@@ -99,11 +99,11 @@ module _ {x : Problem} {n : ℕ} {place load : List ℕ} {i : ℕ} (more : i < n
       }
 
 -- the job is tested in the next frame: things are as they were before a frame was tried
-pub probe : {g : InArrays} {tied place load : List ℕ} {i : ℕ} → i < jobs_in g → Searching g tied place load i
+pub probe : {g : InArrays} {place load : List ℕ} {i : ℕ} → i < jobs_in g → Searching g place load i
     → {place' load' : List ℕ} {k row : ℕ} → Trying (problem_in g) (jobs_in g) place load i place' load' k row
     → {e : ℕ} → e ≡ get_or (problem_in g).end i 0 → k < e
-    → {low high : ℕ} → Bounds (problem_in g) (take i place') i low high → Probing g tied place' load' i k row low high
-probe {g} {tied} {place} {load} {i} more s v is h bounds = record {
+    → {low high : ℕ} → Bounds (problem_in g) (take i place') i low high → Probing g place' load' i k row low high
+probe {g} {place} {load} {i} more s v is h bounds = record {
   testing = record {
     more = more;
     ready = record {
@@ -119,7 +119,6 @@ probe {g} {tied} {place} {load} {i} more s v is h bounds = record {
     at_row = v.at_row;
     bounds = bounds;
   };
-  marks = s.marks;
   so_far = rw v.kept s.so_far;
   window = record { from = v.from; to = omega (arith, is) };
 }
@@ -128,7 +127,7 @@ probe {g} {tied} {place} {load} {i} more s v is h bounds = record {
     r = s.placing.ready
 
 -- job i is tested in frame k
-module _ {g : InArrays} {tied place load : List ℕ} {i k row low high : ℕ} (s : Probing g tied place load i k row low high) where
+module _ {g : InArrays} {place load : List ℕ} {i k row low high : ℕ} (s : Probing g place load i k row low high) where
   abbrev x : Problem
   x = problem_in g
 
@@ -186,8 +185,8 @@ module _ {g : InArrays} {tied place load : List ℕ} {i k row low high : ℕ} (s
 
     module _ {v : ℕ} (v_is : v ≡ get_or load row 0 + get_or x.cost i 0) where
       -- it is put there
-      pub put_searching : Searching g tied (set place i k) (set load row v) (i + 1)
-      put_searching = record { placing = put s.testing v_is; marks = s.marks; so_far = put_so_far }
+      pub put_searching : Searching g (set place i k) (set load row v) (i + 1)
+      put_searching = record { placing = put s.testing v_is; so_far = put_so_far }
 
       module _ {b : Bool} {place' load' : List ℕ} (d : DecidedJob x n (set place i k) (set load row v) (i + 1) b place' load') where
         of_sub : Decided sub n (set place i k) (set load row v) (i + 1) b place' load'

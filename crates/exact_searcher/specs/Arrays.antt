@@ -5,9 +5,8 @@ use Rattle.search.specs.Search.{Found, none, at}
 use Rattle.search.specs.Best as best
 use Rattle.search.specs.Placing.{Problem, fits, window_start, frame_count, plan_walk}
 use Rattle.search.specs.Counting.{attempt_walk}
-use Rattle.searcher.specs.Arrays.{counts_in, jobs_in, problem_in, Placing, Testing}
+use Rattle.searcher.specs.Arrays.{jobs_in, problem_in, Placing, Testing}
 use Rattle.searcher.specs.declared.Problem.{Problem as InArrays}
-use Rattle.prune.specs.Arrays.{Marked}
 
 -- the domain of job i where the first m jobs are placed: its own frame, or its window
 abbrev pub low_from : List ℕ → List ℕ → ℕ → ℕ → ℕ
@@ -27,10 +26,9 @@ high_by g place = high_from g.end place
 abbrev pub PlacedSoFar : Problem → List ℕ → ℕ → Type 0
 PlacedSoFar x p i = best.Placing (fits x) (window_start x) (frame_count x) i p
 
--- the first i jobs are placed, with the loads of the rows, and the others are to be; with the jobs that are tied
-pub record Searching (g : InArrays) (tied place load : List ℕ) (i : ℕ) : Type 0 where
+-- the first i jobs are placed, with the loads of the rows, and the others are to be
+pub record Searching (g : InArrays) (place load : List ℕ) (i : ℕ) : Type 0 where
   pub placing : Placing (problem_in g) (jobs_in g) place load i
-  pub marks : Marked (counts_in g) g.links (jobs_in g) tied
   pub so_far : PlacedSoFar (problem_in g) (take i place) i
 
 -- frame k lies in the window of job i
@@ -39,9 +37,8 @@ pub record InWindow (x : Problem) (i k : ℕ) : Type 0 where
   pub to : k < get_or x.end i 0
 
 -- what it takes to test job i in frame k of its window
-pub record Probing (g : InArrays) (tied place load : List ℕ) (i k row low high : ℕ) : Type 0 where
+pub record Probing (g : InArrays) (place load : List ℕ) (i k row low high : ℕ) : Type 0 where
   pub testing : Testing (problem_in g) (jobs_in g) place load i k row low high
-  pub marks : Marked (counts_in g) g.links (jobs_in g) tied
   pub so_far : PlacedSoFar (problem_in g) (take i place) i
   pub window : InWindow (problem_in g) i k
 

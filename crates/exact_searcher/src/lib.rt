@@ -30,17 +30,18 @@ fn domains(
     (low, high)
 }
 
-// What the search goes by: the problem as `pack` leaves it, and which of the jobs are tied.
+// What the search goes by: the problem as `pack` leaves it, with links to earlier jobs, and which of the jobs are tied.
 #[derive(Drop)]
 struct Jobs {
     problem: Problem,
     tied: [u16; 128],
+    ghost packed: { Packed problem },
+    ghost marked: { Marked (counts_in problem) problem.links (jobs_in problem) tied },
 }
 
 impl Jobs {
     // Whether some rows must hold too much whatever the placing; false says nothing.
     fn is_crowded(&self) -> bool
-        requires { Packed self.now.problem }
         ensures { result ≡ true → (plan_walk (problem_in self.now.problem) []).found ≡ none }
     {
         prune::is_crowded(&self.problem, self.problem.first, self.problem.end)
@@ -66,8 +67,6 @@ struct Sweeps {
 impl Sweeps {
     // Whether no placing begins with the first `at` jobs as they are placed; false says nothing.
     fn is_hopeless(&mut self, jobs: &Jobs, place: &[u16; 128], at: usize) -> bool
-        requires packed { Packed jobs.now.problem }
-        requires marked { Marked (counts_in jobs.now.problem) jobs.now.problem.links (jobs_in jobs.now.problem) jobs.now.tied }
         requires at_bound { at ≤ jobs_in jobs.now.problem }
         requires placed_so_far { PlacedSoFar (problem_in jobs.now.problem) (take at place.now) at }
         ensures { result ≡ true → (plan_walk (problem_in jobs.now.problem) (take at place.now)).found ≡ none }
@@ -90,8 +89,6 @@ impl Sweeps {
 
     // Whether job i, placed in this row, is to be passed over. It is not asked where the row is the hinted one.
     fn is_pruned(&mut self, jobs: &Jobs, place: &[u16; 128], i: usize, row: usize) -> bool
-        requires packed { Packed jobs.now.problem }
-        requires marked { Marked (counts_in jobs.now.problem) jobs.now.problem.links (jobs_in jobs.now.problem) jobs.now.tied }
         requires i_bound { i < jobs_in jobs.now.problem }
         requires placed_so_far { PlacedSoFar (problem_in jobs.now.problem) (take (i + 1) place.now) (i + 1) }
         ensures { result ≡ true → (plan_walk (problem_in jobs.now.problem) (take (i + 1) place.now)).found ≡ none }
@@ -110,7 +107,7 @@ impl Sweeps {
 // Places job i and those after it: tries the frames of its window, the earliest first. The jobs before i stay as they stand.
 #[cycle(place_job_try_frame)]
 fn place_job(jobs: &Jobs, sweeps: &mut Sweeps, board: &mut Board, i: usize) -> bool
-    requires { Searching jobs.now.problem jobs.now.tied board.old.place board.old.load i }
+    requires { Searching jobs.now.problem board.old.place board.old.load i }
     ensures { DecidedJob (problem_in jobs.now.problem) (jobs_in jobs.now.problem)
         board.old.place board.old.load i result board.new.place board.new.load }
 {
@@ -145,7 +142,7 @@ fn try_frame(
     low: u16,
     high: u16,
 ) -> bool
-    requires { Probing jobs.now.problem jobs.now.tied board.old.place board.old.load i k row low high }
+    requires { Probing jobs.now.problem board.old.place board.old.load i k row low high }
     ensures { DecidedFrame (problem_in jobs.now.problem) (jobs_in jobs.now.problem)
         board.old.place board.old.load i k result board.new.place board.new.load }
 {

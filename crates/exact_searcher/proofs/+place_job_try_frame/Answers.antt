@@ -6,7 +6,6 @@ use Rattle.searcher.specs.declared.Problem.{Problem as InArrays}
 use Rattle.searcher.proofs.Laws.{links_back, same_bounds, is_left, fits_in}
 use Rattle.exact_searcher.proofs.Laws.{all_placed, none_tried, none_left, pass_on, pass_yes, probe}
 use Rattle.exact_searcher.proofs.Laws.{refused, put_so_far, pruned_off, put_searching, went, back}
-use Rattle.exact_searcher.proofs.HopelessLaws.{is_packed}
 use Rattle.exact_searcher.proofs.+place_job_try_frame.Goals as goal
 
 -- the links of a job that is left
@@ -78,8 +77,6 @@ try_frame-returns-then-not-may_stand t c = refused c.requires (sym c.may_stand.e
 -- it may
 pub try_frame-is_pruned-requires : goal.try_frame-is_pruned-requires
 try_frame-is_pruned-requires t c = record {
-  packed = is_packed c.requires.testing.ready;
-  marked = c.requires.marks;
   i_bound = c.requires.testing.more;
   placed_so_far = put_so_far c.requires (sym c.may_stand.ensures ∙ c.if-not-may_stand.false);
 }

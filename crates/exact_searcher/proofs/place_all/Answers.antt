@@ -9,7 +9,7 @@ pub returns-then-is_hopeless : goal.returns-then-is_hopeless
 returns-then-is_hopeless c = none_answered c.requires c.pack-problem.result c.pack-problem.ensures (c.is_hopeless.ensures c.if-is_hopeless.true)
 
 pub place_job-requires : goal.place_job-requires
-place_job-requires c = searching_first c.requires c.pack-problem.result c.pack-problem.ensures c.tied_jobs-tied.ensures
+place_job-requires c = searching_first c.requires c.pack-problem.result c.pack-problem.ensures
 
 pub returns-then-place_job : goal.returns-then-place_job
 returns-then-place_job c = yes_answered c.requires c.pack-problem.result c.pack-problem.ensures c.place_job.ensures c.if-place_job.true

@@ -7,5 +7,5 @@ use Rattle.exact_searcher.proofs.Jobs.is_crowded.Goals as goal
 pub returns : goal.returns
 returns c =
     let g = c.args.self.now.problem in
-    λ e. hopeless c.requires [] (omega arith) (none_placed (problem_in g))
+    λ e. hopeless c.args.self.now.packed [] (omega arith) (none_placed (problem_in g))
     (λ i h. low_window g.first [] i) (λ i h. high_window g.end [] i) (c.is_crowded.ensures e)
