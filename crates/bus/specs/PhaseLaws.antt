@@ -2,7 +2,7 @@
 use Rattle.std.specs.Prelude.{ℕ, ◌≤◌, ◌<◌, ◌≡◌, List, ◌++◌, ℤ, pos, length, drop}
 use borrow.Author.Tests.{lt-ltb, le-ltb}
 use Rattle.phases.specs.Phases.{phases}
-use Rattle.phases.specs.declared.PhaseCounts.{PhaseCounts}
+use Rattle.phases.specs.Numbered.{PhaseCounts}
 use Rattle.lent.specs.Numbers.{counts_bytes}
 use Rattle.bus.specs.Reply.{refused_reply}
 use Rattle.bus.specs.ReplyLaws.{reply_refused, reply_value, after_refusal, after_value}

@@ -3,7 +3,7 @@ use Rattle.std.specs.Prelude.{ℕ, ◌≤◌, List, ◌++◌, length, drop}
 use Rattle.std.proofs.Common.{◌∙◌, ⊎_elim, arith, le-ltb}
 use Rattle.cursor.specs.ChoiceLaws.{lt_or_ge}
 use Rattle.phases.specs.Phases.{phases}
-use Rattle.phases.specs.declared.PhaseCounts.{PhaseCounts}
+use Rattle.phases.specs.Numbered.{PhaseCounts}
 use Rattle.lent.specs.Numbers.{counts_bytes}
 use Rattle.lent.specs.NumberLaws.{four_read}
 use Rattle.bus.specs.ReplyLaws.{after_value}

@@ -1,7 +1,7 @@
 -- The four counts of phases, read off the 8 bytes that bus_phases filled: where it answered 0, they are the counts of the call below it.
 use Rattle.std.specs.Prelude.{ℕ, ◌+◌, ◌≡◌, List, pos, get_or}
 use Rattle.phases.specs.Phases.{phases}
-use Rattle.phases.specs.declared.PhaseCounts.{PhaseCounts}
+use Rattle.phases.specs.Numbered.{PhaseCounts}
 use Rattle.lent.specs.Words.{u16_of}
 use Rattle.bus.specs.Phases.{phases_reply, phases_counts}
 

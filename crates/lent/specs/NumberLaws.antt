@@ -6,7 +6,7 @@ use mathlib.Core.List.{List, [], ◌∷◌, ◌++◌, append-nil, append_assoc}
 use Rattle.std.proofs.lemmas.List.Edits.{sets}
 use Rattle.cursor.specs.Fields.{word_bytes}
 use Rattle.cursor.specs.WordBytesLaws.{four_stored}
-use Rattle.phases.specs.declared.PhaseCounts.{PhaseCounts}
+use Rattle.phases.specs.Numbered.{PhaseCounts}
 use Rattle.lent.specs.Words.{word_in, words_bytes}
 use Rattle.lent.specs.WordsBack.{word_written}
 use Rattle.lent.specs.Numbers.{low_first, counts_bytes}

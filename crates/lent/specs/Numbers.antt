@@ -1,7 +1,7 @@
 -- The count of tries, and the four counts of a task's phases, each in 8 of the bytes that the caller lends.
 use Rattle.std.specs.Prelude.{ℕ, zero, suc, ◌%◌, ◌/◌, List, [], ◌∷◌, ◌++◌}
 use Rattle.cursor.specs.Fields.{word_bytes}
-use Rattle.phases.specs.declared.PhaseCounts.{PhaseCounts}
+use Rattle.phases.specs.Numbered.{PhaseCounts}
 
 -- a number in n bytes, low byte first
 unfoldable pub low_first : ℕ → ℕ → List ℕ

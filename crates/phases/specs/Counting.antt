@@ -4,11 +4,12 @@ use Rattle.cursor.specs.Choice.{bit}
 use Rattle.request.specs.Request.{period_of}
 use Rattle.request.specs.declared.Request.{Request}
 use Rattle.cycle.specs.Answers.{AsRead, cycle_for, cycle_answered}
+use Rattle.cycle.specs.Numbered.{cycle_number}
 use Rattle.cycle.specs.PhaseLaws.{request_with}
 use Rattle.model.specs.Answers.{instance_of}
 use Rattle.model.specs.Chosen.{choose_walk}
 use Rattle.planner.specs.Choices.{choice_within}
-use Rattle.phases.specs.declared.PhaseCounts.{PhaseCounts}
+use Rattle.phases.specs.Numbered.{PhaseCounts}
 
 -- no count is at its end
 pub record Room (counts : PhaseCounts) : Type 0 where
@@ -30,7 +31,7 @@ one_more counts number = record {
 -- a request that was read and is within the limits, and one of its tasks
 pub record Countable (r : Request) (i : ℕ) : Type 0 where
   pub as_read : AsRead r
-  pub within : (cycle_answered (cycle_for r)).refusal ≡ 0
+  pub within : cycle_number (cycle_for r) ≡ 0
   pub known : i < r.n
 
 abbrev pub period_in : Request → ℕ → ℕ

@@ -7,7 +7,7 @@ use Rattle.model.specs.Plan.{Instance, task_at}
 use Rattle.model.specs.Within.{Within}
 use Rattle.planner.specs.Outcome.{searched_answer}
 use Rattle.phases.specs.Phases.{with_phase, how_many, uncounted, phases}
-use Rattle.phases.specs.declared.PhaseCounts.{PhaseCounts}
+use Rattle.phases.specs.Numbered.{PhaseCounts}
 
 -- y is the task x with the phase p
 pub record WithPhase (x : Task) (p : ℕ) (y : Task) : Type 0 where

@@ -4,6 +4,7 @@ pub mod Exactly
 -- what is computed, which PhasesExact pins down, but for with_phase, which PhaseSet does, and how_many, which HowManyMeans does:
 pub mod Phases
 -- How answers stand in types:
+pub mod Numbered
 pub mod Counting
 -- Theorems:
 pub mod Theorem

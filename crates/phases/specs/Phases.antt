@@ -6,7 +6,7 @@ use Rattle.request.specs.Request.{period_of}
 use Rattle.cycle.specs.Cycle.{Cycle, cycle, no_cycle, cycle_of}
 use Rattle.plan_writer.specs.Outcome.{Outcome, handed, refusal}
 use Rattle.planner.specs.Outcome.{outcome_within}
-use Rattle.phases.specs.declared.PhaseCounts.{PhaseCounts}
+use Rattle.phases.specs.Numbered.{PhaseCounts}
 
 -- The request with the phase p for task i: "n records of four u16: C .., T .., D .., P .." stand behind the first byte, so that its P is the two bytes at 7 + 8·i.
 -- All other bytes are the request's own.

@@ -30,7 +30,7 @@ use Rattle.phases.specs.PhaseBytes.{phase_inside, own_with}
 use Rattle.phases.specs.PhasePlaces.{same_length, other_bytes, set_again}
 use Rattle.phases.specs.PhaseCycle.{jobs_with, phase_within, same_jobs}
 use Rattle.phases.specs.Exactly.{PhaseSet, planner_says, phases_with, Counts, PhasesExact, HowManyMeans, MoreTries, LargerTheorem, OwnPhaseTheorem}
-use Rattle.phases.specs.declared.PhaseCounts.{PhaseCounts}
+use Rattle.phases.specs.Numbered.{PhaseCounts}
 
 -- How many
 

@@ -1,33 +1,23 @@
 #![tactic(auto)]
 // Which phases of a task still fit: how many of them lead to a table, and how many to each refusal of the planner.
 ghost use Rattle.std.specs.Prelude.{◌≡◌, ◌<◌};
+ghost use Rattle.refusal.specs.Refusal.{refusal_in};
 ghost use Rattle.cycle.specs.PhaseLaws.{request_with};
-ghost use Rattle.phases.specs.Phases.{phase_counts, uncounted, phases};
+ghost use Rattle.phases.specs.Phases.{phase_counts, phases};
+ghost use Rattle.phases.specs.Numbered.{counts_ok, counts_said};
 ghost use Rattle.phases.specs.Counting.{Room, one_more, Countable, period_in, phase_number};
 
+use planner::choose::ChosenPlan;
+use refusal::Refusal;
 use request::Request;
 
-// A refusal, or 0; and how many phases of the task lead to a table, to 9, to 10 and to 23.
+// How many phases of the task lead to a table, to 9, to 10 and to 23.
 #[derive(Clone, Copy)]
 pub struct PhaseCounts {
-    pub refusal: u8,
     pub tables: u16,
     pub nines: u16,
     pub tens: u16,
     pub ended: u16,
-}
-
-// No phase is counted.
-fn none(refusal: u8) -> PhaseCounts
-    ensures { result ≡ uncounted refusal }
-{
-    PhaseCounts {
-        refusal,
-        tables: 0,
-        nines: 0,
-        tens: 0,
-        ended: 0,
-    }
 }
 
 // The request with phase p for task i.
@@ -40,29 +30,30 @@ fn with_phase(request: Request, i: usize, p: u16) -> Request
     shifted
 }
 
-// What planning comes to with phase p for task i: 0 for a table, 9, 10 or 23. The jobs are listed anew, in the order of their new releases.
-fn number_at(request: Request, i: usize, p: u16, allowance: u64) -> u8
+// What planning comes to with phase p for task i: a plan, or 9, 10 or 23. The jobs are listed anew, in the order of their new releases.
+fn outcome_at(request: Request, i: usize, p: u16, allowance: u64) -> Result<ChosenPlan, Refusal>
     requires { Countable request i × (p < period_in request i) }
-    ensures { result ≡ phase_number allowance request i p }
+    ensures { refusal_in result ≡ phase_number allowance request i p }
 {
     let shifted = with_phase(request, i, p);
-    let cycle = cycle::of(shifted);
-    let chosen = planner::choose::choose(cycle, allowance);
-    chosen.refusal
+    let cycle = cycle::of(shifted)?;
+    planner::choose::choose(cycle, allowance).outcome
 }
 
-// One phase more that leads to this number.
-fn one_more(counts: PhaseCounts, number: u8) -> PhaseCounts
-    requires { Room counts }
-    ensures { result ≡ one_more counts number }
+// One phase more that comes to this.
+fn one_more(counts: PhaseCounts, outcome: Result<ChosenPlan, Refusal>) -> PhaseCounts
+    requires { Room (counts_ok counts) }
+    ensures { counts_ok result ≡ one_more (counts_ok counts) (refusal_in outcome) }
 {
     let mut more = counts;
-    match number {
-        0 => more.tables += 1,
-        9 => more.nines += 1,
-        10 => more.tens += 1,
-        23 => more.ended += 1,
-        _ => {}
+    match outcome {
+        Ok(_) => more.tables += 1,
+        Err(refusal) => match refusal {
+            Refusal::NoPlausibleLength => more.nines += 1,
+            Refusal::NoPlan => more.tens += 1,
+            Refusal::AllowanceUsed => more.ended += 1,
+            _ => {}
+        },
     }
     more
 }
@@ -70,29 +61,32 @@ fn one_more(counts: PhaseCounts, number: u8) -> PhaseCounts
 // The phases of task i from 0 to T - 1, each planned with the whole allowance.
 fn count(request: Request, i: usize, allowance: u64) -> PhaseCounts
     requires { Countable request i }
-    ensures { result ≡ phase_counts (phase_number allowance request i) (period_in request i) }
+    ensures { counts_ok result ≡ phase_counts (phase_number allowance request i) (period_in request i) }
 {
-    let mut counts = none(0);
+    let mut counts = PhaseCounts {
+        tables: 0,
+        nines: 0,
+        tens: 0,
+        ended: 0,
+    };
     for p in 0..request.tasks[i].t {
-        let number = number_at(request, i, p, allowance);
-        counts = one_more(counts, number);
+        let outcome = outcome_at(request, i, p, allowance);
+        counts = one_more(counts, outcome);
     }
     counts
 }
 
 // How many phases of the task from 0 to T - 1 lead to a table, to 9, to 10 and to 23, all else as in the request, each planned with so many tries allowed; or
 // 1 to 8, 17 or 16, and nothing is counted.
-pub fn phases(request: &[u8], task: u8, allowance: u64) -> PhaseCounts
-    ensures { result ≡ phases allowance request.now task }
+pub fn phases(request: &[u8], task: u8, allowance: u64) -> Result<PhaseCounts, Refusal>
+    ensures { counts_said result ≡ phases allowance request.now task }
 {
     let i = usize::from(task);
-    let read = request::read(request);
-    let cycle = cycle::of(read);
-    if cycle.refusal != 0 {
-        return none(cycle.refusal);
-    }
+    let read = request::read(request)?;
+    // 7 and 8 come before 16.
+    cycle::of(read)?;
     if read.n <= i {
-        return none(16);
+        return Err(Refusal::NoSuchTask);
     }
-    count(read, i, allowance)
+    Ok(count(read, i, allowance))
 }

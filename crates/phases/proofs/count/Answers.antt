@@ -1,5 +1,5 @@
 -- The loop keeps that the counts are those of the phases below p.
-use Rattle.std.proofs.Common.{◌<◌, ◌≡◌, ◌∙◌, arith}
+use Rattle.std.proofs.Common.{◌<◌, ◌≡◌, arith}
 use Rattle.phases.specs.Counting.{period_in}
 use Rattle.phases.specs.HowMany.{none_counted, one_counted, counts_room}
 use Rattle.phases.specs.Ways.{task_few}
@@ -9,10 +9,10 @@ pub bounds-request-i : goal.bounds-request-i
 bounds-request-i c = task_few c.requires
 
 pub loop-p-init : goal.loop-p-init
-loop-p-init c = c.none-counts.ensures ∙ none_counted _
+loop-p-init c = none_counted _
 
-pub number_at-number-requires : goal.number_at-number-requires
-number_at-number-requires c =
+pub outcome_at-outcome-requires : goal.outcome_at-outcome-requires
+outcome_at-outcome-requires c =
     let a = c.args in
     let l = c.loop-p in
     let early : l.p < period_in a.request a.i = c.loop-p-test.true in
@@ -26,7 +26,7 @@ one_more-counts-requires c =
 pub loop-p-preserved : goal.loop-p-preserved
 loop-p-preserved c =
     let l = c.loop-p in
-    rw (c.one_more-counts.ensures, l.invariant, c.number_at-number.ensures) (one_counted _ l.p)
+    rw (c.one_more-counts.ensures, l.invariant, c.outcome_at-outcome.ensures) (one_counted _ l.p)
 
 pub returns : goal.returns
 returns c =
