@@ -13,7 +13,7 @@ use Rattle.plan_writer.specs.OutcomeLaws.{refused_answer, table_answer}
 use Rattle.draft.specs.Draft.{write, frames_held}
 use Rattle.draft.specs.WriteLaws.{WriteComes, write_comes_to}
 use Rattle.draft.specs.declared.Draft.{Draft}
-use Rattle.draft.specs.declared.Drafted.{Drafted}
+use Rattle.draft.specs.Numbered.{Drafted}
 use Rattle.lent.specs.DraftBytes.{draft_in, draft_bytes}
 use Rattle.bus.specs.Reply.{refused_reply}
 use Rattle.bus.specs.ReplyLaws.{reply_refused, reply_value, after_refusal, after_value, written_refused, written_length}

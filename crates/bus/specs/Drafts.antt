@@ -2,7 +2,7 @@
 use Rattle.std.specs.Prelude.{ℕ, List, cond, ℤ, length, ltb}
 use Rattle.plan_writer.specs.Outcome.{outcome_answer, outcome_buffer}
 use Rattle.draft.specs.Draft.{start, lift, put, write}
-use Rattle.draft.specs.declared.Drafted.{Drafted}
+use Rattle.draft.specs.Numbered.{Drafted}
 use Rattle.lent.specs.DraftBytes.{draft_in, draft_bytes}
 use Rattle.bus.specs.Reply.{refused_reply, reply, written_reply, after}
 

@@ -2,7 +2,7 @@
 use Rattle.std.specs.Prelude.{ℕ, List, ℤ}
 use Rattle.one_off.specs.OneOff.{one_off}
 use Rattle.one_off.specs.Answers.{offer_answer}
-use Rattle.one_off.specs.declared.FrameFound.{FrameFound}
+use Rattle.one_off.specs.Numbered.{FrameFound}
 use Rattle.bus.specs.Reply.{reply}
 
 -- the frame, or the number negated

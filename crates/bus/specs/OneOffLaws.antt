@@ -4,7 +4,7 @@ use Rattle.std.proofs.Math.Path.{ap}
 use Rattle.std.proofs.Common.{◌∙◌}
 use Rattle.one_off.specs.OneOff.{one_off}
 use Rattle.one_off.specs.Answers.{offer_answer}
-use Rattle.one_off.specs.declared.FrameFound.{FrameFound}
+use Rattle.one_off.specs.Numbered.{FrameFound}
 use Rattle.bus.specs.Reply.{refused_reply}
 use Rattle.bus.specs.ReplyLaws.{reply_refused, reply_value}
 use Rattle.bus.specs.OneOff.{found_reply, one_off_reply}

@@ -5,7 +5,7 @@ use Rattle.std.proofs.lemmas.Bool.{eqb-false}
 use Rattle.draft.specs.Draft.{start, lift, put}
 use Rattle.draft.specs.Kept.{Sized}
 use Rattle.draft.specs.SizeLaws.{CameTo, lift_came, put_came, came_sized, start_sized}
-use Rattle.draft.specs.declared.Drafted.{Drafted}
+use Rattle.draft.specs.Numbered.{Drafted}
 use Rattle.lent.specs.DraftBytes.{draft_in}
 use Rattle.lent.specs.DraftBytesBack.{draft_read, draft_sized, draft_back}
 use Rattle.bus.specs.Drafts.{drafted_bytes, start_bytes, lift_bytes, put_bytes}

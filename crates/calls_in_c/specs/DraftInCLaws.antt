@@ -15,7 +15,7 @@ use Rattle.cursor.specs.Fields.{word_bytes}
 use Rattle.cursor.specs.WordBytesLaws.{word_long}
 use Rattle.draft.specs.Draft.{start}
 use Rattle.draft.specs.declared.Draft.{Draft}
-use Rattle.draft.specs.declared.Drafted.{Drafted}
+use Rattle.draft.specs.Numbered.{Drafted}
 use Rattle.draft_moves.specs.Moves.{Move, lifts, puts, move_answer, draft_after}
 use Rattle.draft_moves.specs.MoveTheorem.{moves_theorem}
 use Rattle.lent.specs.Words.{words_from, words_bytes}

@@ -22,7 +22,6 @@ placing ks jobs = record {
 -- the cycle with the first `count` of these jobs
 abbrev pub with_jobs : answer.Cycle → List Job → ℕ → answer.Cycle
 with_jobs c jobs count = record {
-  refusal = c.refusal;
   n = c.n;
   tasks = c.tasks;
   m = c.m;

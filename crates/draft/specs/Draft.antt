@@ -15,7 +15,7 @@ use Rattle.plan_rules.specs.Rules.{in_window, rules_right}
 use Rattle.checker.specs.Checked as checker
 use Rattle.plan_writer.specs.Outcome.{Outcome, handed, refusal}
 use Rattle.draft.specs.declared.Draft.{Draft}
-use Rattle.draft.specs.declared.Drafted.{Drafted}
+use Rattle.draft.specs.Numbered.{Drafted}
 
 -- "its frame, or that it is lifted": no frame of a window is 65535, since (k+1)·f is at most r + D
 abbrev pub lifted : ℕ

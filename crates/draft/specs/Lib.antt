@@ -1,5 +1,6 @@
 -- Moving a job by hand.
 -- To be believed:
+pub mod Numbered
 pub mod Draft
 pub mod Kept
 -- How answers stand in types:

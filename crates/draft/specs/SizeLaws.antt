@@ -17,7 +17,7 @@ use Rattle.draft.specs.Draft.{is_lifted, frame_of, no_draft, draft_of, start_of,
 use Rattle.draft.specs.Kept.{Sized}
 use Rattle.draft.specs.MoveLaws.{loads_length}
 use Rattle.draft.specs.declared.Draft.{Draft}
-use Rattle.draft.specs.declared.Drafted.{Drafted}
+use Rattle.draft.specs.Numbered.{Drafted}
 
 abbrev pub CameTo : Draft → Drafted → Type 0
 CameTo d made =

@@ -5,12 +5,14 @@ ghost use Rattle.std.specs.Prelude.{◌≡◌, false, ◌≤◌, ◌<◌, ◌%�
 ghost use Rattle.search.specs.Placing.{has_room};
 ghost use Rattle.model.specs.Plan.{costs};
 ghost use Rattle.model.specs.Answers.{instance_of};
+ghost use Rattle.cursor.specs.Written.{written_said};
 ghost use Rattle.plan_writer.specs.Outcome.{outcome_answer, outcome_buffer};
-ghost use Rattle.draft.specs.Draft.{is_lifted, sound_draft, no_draft, kept, touched, after_lift, after_put, can_move, put_there, start, lift, put, write};
+ghost use Rattle.draft.specs.Draft.{is_lifted, sound_draft, no_draft, touched, after_lift, after_put, can_move, put_there, start, lift, put, write};
+ghost use Rattle.draft.specs.Numbered.{drafted_said};
 ghost use Rattle.draft.specs.Answers.{placing, with_jobs, RowsFit, LoadsAre, Movable};
 
-use cursor::Written;
 use cycle::{Cycle, Job};
+use refusal::Refusal;
 
 // The frame of a lifted job. It is a number, since the draft is lent to C as it stands.
 const LIFTED: u16 = 65535;
@@ -23,13 +25,6 @@ pub struct Draft {
     pub loads: [u16; 256],
 }
 
-// A refusal, or 0; and the draft after the call.
-#[derive(Clone, Copy)]
-pub struct Drafted {
-    pub refusal: u8,
-    pub draft: Draft,
-}
-
 // The placed jobs in planning order, with their frames: in arrays with their count, since there is no heap.
 #[derive(Clone, Copy)]
 struct Placing {
@@ -38,37 +33,13 @@ struct Placing {
     frames: [u16; 128],
 }
 
-fn no_draft() -> Draft
-    ensures { result ≡ no_draft }
-{
-    Draft {
-        f: 0,
-        frames: [0; 128],
-        loads: [0; 256],
-    }
-}
-
-fn kept(number: u8, draft: Draft) -> Drafted
-    ensures { result ≡ kept number draft }
-{
-    Drafted {
-        refusal: number,
-        draft,
-    }
-}
-
 // Those of the jobs that are not lifted.
 fn placed(jobs: &[Job], frames: &[u16]) -> Placing
     requires { (length frames.now ≡ length jobs.now) × (length jobs.now ≤ 128) }
     ensures placing { result ≡ placing frames.now jobs.now }
     ensures few { result.count ≤ 128 }
 {
-    let mut their_jobs = [Job {
-        task: 0,
-        number: 0,
-        release: 0,
-        due: 0,
-    }; 128];
+    let mut their_jobs = [Job::NONE; 128];
     let mut their_frames = [0u16; 128];
     let mut count: usize = 0;
     for (job, k) in jobs.iter().zip(frames) {
@@ -184,34 +155,31 @@ fn has_room(load: u16, f: u16, cost: u32) -> bool
 }
 
 // A lifted job is put into frame k; 27 where k lies outside its window, 28 where its row is over f or a pair is out of order.
-fn put_there(cycle: Cycle, draft: Draft, y: usize, k: u16) -> Drafted
+fn put_there(cycle: Cycle, draft: Draft, y: usize, k: u16) -> Result<Draft, Refusal>
     requires { Movable cycle draft y }
-    ensures { result ≡ put_there (instance_of cycle) draft y k }
+    ensures { drafted_said draft result ≡ put_there (instance_of cycle) draft y k }
 {
     if !plan_rules::in_window(cycle.jobs[y], k, draft.f) {
-        return kept(27, draft);
+        return Err(Refusal::OutsideWindow);
     }
     let row = row_of(cycle.h, draft.f, k);
     let load = draft.loads[row];
     let cost = cost_at(cycle, y);
     if !has_room(load, draft.f, cost) {
-        return kept(28, draft);
+        return Err(Refusal::RowOrOrder);
     }
     let after = touched(draft, y, k, row, load + (cost as u16));
     if !is_sound(cycle, after) {
-        return kept(28, draft);
+        return Err(Refusal::RowOrOrder);
     }
-    kept(0, after)
+    Ok(after)
 }
 
-// The draft of an accepted table; or the number of the check's refusal, and a draft of frame length 0 with unused places only.
-pub fn start(request: &[u8], table: &[u8]) -> Drafted
-    ensures { result ≡ start request.now table.now }
+// The draft of an accepted table; or the check's refusal.
+pub fn start(request: &[u8], table: &[u8]) -> Result<Draft, Refusal>
+    ensures { drafted_said no_draft result ≡ start request.now table.now }
 {
-    let read = checker::read_plan(request, table);
-    if read.refusal != 0 {
-        return kept(read.refusal, no_draft());
-    }
+    let read = checker::read_plan(request, table)?;
     let cycle = read.cycle;
     let frames = read.frames;
     let cost = problem::costs(cycle);
@@ -220,64 +188,46 @@ pub fn start(request: &[u8], table: &[u8]) -> Drafted
         &frames[..cycle.count],
         cycle.h / read.f,
     );
-    let draft = Draft {
+    Ok(Draft {
         f: read.f,
         frames,
         loads,
-    };
-    kept(0, draft)
+    })
 }
 
-// The draft with the job at place `job` lifted; or the request's number or 26, and the draft as it was.
-pub fn lift(request: &[u8], draft: Draft, job: u8) -> Drafted
-    ensures { result ≡ lift request.now draft job }
+// The draft with the job at place `job` lifted; or the request's refusal or 26, and the caller keeps the draft as it was.
+pub fn lift(request: &[u8], draft: Draft, job: u8) -> Result<Draft, Refusal>
+    ensures { drafted_said draft result ≡ lift request.now draft job }
 {
-    let cycle = cycle::read(request);
-    if cycle.refusal != 0 {
-        return kept(cycle.refusal, draft);
-    }
+    let cycle = cycle::read(request)?;
     let y = usize::from(job);
     if !can_move(cycle, draft, y) || draft.frames[y] == LIFTED {
-        return kept(26, draft);
+        return Err(Refusal::WrongDraft);
     }
-    let after = after_lift(cycle, draft, y);
-    kept(0, after)
+    Ok(after_lift(cycle, draft, y))
 }
 
-// The draft with the lifted job at place `job` put into the frame; or the request's number, 26, 27 or 28, and the draft as it was.
-pub fn put(request: &[u8], draft: Draft, job: u8, frame: u16) -> Drafted
-    ensures { result ≡ put request.now draft job frame }
+// The draft with the lifted job at place `job` put into the frame; or the request's refusal, 26, 27 or 28, and the caller keeps the draft as it was.
+pub fn put(request: &[u8], draft: Draft, job: u8, frame: u16) -> Result<Draft, Refusal>
+    ensures { drafted_said draft result ≡ put request.now draft job frame }
 {
-    let cycle = cycle::read(request);
-    if cycle.refusal != 0 {
-        return kept(cycle.refusal, draft);
-    }
+    let cycle = cycle::read(request)?;
     let y = usize::from(job);
     if !can_move(cycle, draft, y) || draft.frames[y] != LIFTED {
-        return kept(26, draft);
+        return Err(Refusal::WrongDraft);
     }
     put_there(cycle, draft, y, frame)
 }
 
-// The table of the draft's frame length and frames, written into `out`; the answer holds its length. A refusal, by the request's number, 26 or 11, leaves `out`
-// as it was.
-pub fn write(request: &[u8], draft: Draft, out: &mut [u8]) -> Written
-    ensures { (result ≡ outcome_answer (write request.now draft) out.old)
+// The table of the draft's frame length and frames, written into `out`: its length; or the request's refusal, 26 or 11, which leaves `out` as it was.
+pub fn write(request: &[u8], draft: Draft, out: &mut [u8]) -> Result<usize, Refusal>
+    ensures { (written_said result ≡ outcome_answer (write request.now draft) out.old)
         × (out.new ≡ outcome_buffer (write request.now draft) out.old) }
 {
-    let cycle = cycle::read(request);
-    if cycle.refusal != 0 {
-        return Written {
-            refusal: cycle.refusal,
-            length: 0,
-        };
-    }
+    let cycle = cycle::read(request)?;
     let frames = draft.frames;
     if frames[..cycle.count].contains(&LIFTED) || !is_sound(cycle, draft) {
-        return Written {
-            refusal: 26,
-            length: 0,
-        };
+        return Err(Refusal::WrongDraft);
     }
     plan_writer::write(cycle, draft.f, frames, out)
 }

@@ -11,7 +11,7 @@ use Rattle.model.specs.WithinLaws.{within_good, within_or_not}
 use Rattle.draft.specs.Draft.{lifted, after_put, lift, put}
 use Rattle.draft.specs.Kept.{Sized, IsLifted, IsPlaced, Sound}
 use Rattle.draft.specs.declared.Draft.{Draft}
-use Rattle.draft.specs.declared.Drafted.{Drafted}
+use Rattle.draft.specs.Numbered.{Drafted}
 use Rattle.draft_moves.specs.Exactly.{OfInstance, Unknown, InItsWindow, RowOver, OutOfOrder, Lifted, Put, LiftTheorem, PutTheorem}
 use Rattle.draft_moves.specs.StepLaws.{some_length, had_room, had_order, is_put, is_lifted_lem}
 use Rattle.draft_moves.specs.Ways.{LiftWay, unsound_lift, unknown_lift, lifted_lift, lifts, lift_way}

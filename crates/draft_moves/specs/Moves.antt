@@ -10,7 +10,7 @@ use Rattle.model.specs.Described.{Accepted}
 use Rattle.draft.specs.Draft.{frame_of, load_at, row_count, sum_of, start, lift, put}
 use Rattle.draft.specs.Kept.{Sized, IsLifted, IsPlaced, Sound}
 use Rattle.draft.specs.declared.Draft.{Draft}
-use Rattle.draft.specs.declared.Drafted.{Drafted}
+use Rattle.draft.specs.Numbered.{Drafted}
 use Rattle.draft_moves.specs.Exactly.{AllPlaced, Unknown, InItsWindow, RowOver, OutOfOrder, Touched, Lifted, Put}
 use Rattle.draft_moves.specs.Exactly.{write_answer, buffer_after, size_of, WrittenOut}
 

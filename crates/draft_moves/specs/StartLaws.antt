@@ -24,7 +24,7 @@ use Rattle.draft.specs.Draft.{frames_held, no_draft, loads_of, draft_of, start_o
 use Rattle.draft.specs.Kept.{Sound}
 use Rattle.draft.specs.MoveLaws.{load_there, load_behind, loads_length}
 use Rattle.draft.specs.declared.Draft.{Draft}
-use Rattle.draft.specs.declared.Drafted.{Drafted}
+use Rattle.draft.specs.Numbered.{Drafted}
 use Rattle.draft_moves.specs.Exactly.{AllPlaced, DraftOf, StartedFrom, StartTheorem, write_answer, buffer_after, size_of}
 use Rattle.draft_moves.specs.Moves.{SameBytesTheorem}
 use Rattle.draft_moves.specs.WrittenLaws.{held_plan, write_zero, write_out}

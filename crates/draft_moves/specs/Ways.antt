@@ -21,7 +21,7 @@ use Rattle.draft.specs.Draft.{kept, after_lift, after_put, lift_in, put_there, p
 use Rattle.draft.specs.Kept.{Sized, IsLifted, IsPlaced, Sound}
 use Rattle.draft.specs.SoundLaws.{sound_exactly}
 use Rattle.draft.specs.declared.Draft.{Draft}
-use Rattle.draft.specs.declared.Drafted.{Drafted}
+use Rattle.draft.specs.Numbered.{Drafted}
 use Rattle.draft_moves.specs.Exactly.{AllPlaced, Unknown, InItsWindow, RowOver, OutOfOrder}
 use Rattle.draft_moves.specs.Decided.{some_up, out_or_not}
 use Rattle.draft_moves.specs.StepLaws.{some_length, row_low, with_it}

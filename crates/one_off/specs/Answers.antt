@@ -4,7 +4,7 @@ use Rattle.table.specs.Table.{Table, table, decode, row_of}
 use Rattle.model.specs.Plan.{Instance}
 use Rattle.model.specs.Slots.{slots}
 use Rattle.one_off.specs.OneOff.{Offer, in_frame, refusal, frame_fits, earliest}
-use Rattle.one_off.specs.declared.FrameFound.{FrameFound}
+use Rattle.one_off.specs.Numbered.{FrameFound}
 
 -- "A refusal returns its number", and no frame
 abbrev pub offer_answer : Offer → FrameFound

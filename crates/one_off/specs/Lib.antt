@@ -3,6 +3,7 @@
 pub mod OneOff
 pub mod Exactly
 -- How answers stand in types:
+pub mod Numbered
 pub mod Answers
 -- Theorems:
 pub mod ExactlyLaws

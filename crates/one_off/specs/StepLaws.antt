@@ -1,5 +1,8 @@
 -- Each step of the code as the definitions have it: one entry more of a row, one frame tested, one frame more passed, and each way out.
-use Rattle.std.specs.Prelude.{ℕ, zero, suc, ◌+◌, ◌*◌, ◌-◌, ◌%◌, ◌≤◌, ◌<◌, min, ◌≡◌, refl, Bool, true, false, cond, get_or, set, leb}
+use Rattle.std.specs.Prelude.{ℕ, zero, suc, ◌+◌, ◌*◌, ◌-◌, ◌%◌, ◌≤◌, ◌<◌, min, ◌≡◌, refl, Bool, true, false, cond, get_or, set, leb, Option, Some, None, Err}
+use Rattle.std.specs.Option.{IsSome}
+use Rattle.refusal.specs.declared.Refusal.{Refusal}
+use Rattle.request.specs.SectionLaws.{no_zero}
 use Rattle.std.proofs.Math.Path.{sym, ap}
 use Rattle.std.proofs.Common.{◌∙◌, ⊎_elim, mod-lt, get_or-set_same, get_or-set_other}
 use mathlib.Core.List.{List, [], foldr}
@@ -14,28 +17,32 @@ use Rattle.request.specs.Request.{no_task}
 use Rattle.request.specs.declared.Task.{Task}
 use Rattle.cycle.specs.Cycle.{cycle_of}
 use Rattle.cycle.specs.Answers.{cycle_answered}
+use Rattle.cycle.specs.Numbered.{cycle_number}
 use Rattle.cycle.specs.declared.Cycle.{Cycle}
 use Rattle.table.specs.Table.{Table, table, decode, row_of}
 use Rattle.table.specs.EntryLaws.{task_of_byte}
 use Rattle.table.specs.RisingLaws.{row_rises, row_few}
 use Rattle.table.specs.Inverse.{decode_wellformed}
-use Rattle.table.specs.Answers.{sizes_of, row_given, row_at, entries_said}
+use Rattle.table.specs.Answers.{sizes_of, sizes_said, row_given, row_at, taken_said, entries_said}
 use Rattle.table.specs.AnswerLaws.{entries_at, entries_more, entries_none, entries_given, given_count, sizes_table, row_answered_lem}
 use Rattle.table.specs.RowsLeft.{RowsLeft, row_there, rows_go_on}
 use Rattle.table.specs.Answers.{Row}
 use Rattle.table.specs.Answers.{TakenRow}
-use Rattle.table.specs.Answers.{Sizes}
+use Rattle.table.specs.Answers as answered
+use Rattle.table.specs.declared.Row as code
+use Rattle.table.specs.declared.Sizes.{Sizes}
+use Rattle.cursor.specs.declared.Cursor.{Cursor}
 use Rattle.model.specs.Plan.{Instance, slot}
 use Rattle.model.specs.Slots.{slots}
 use Rattle.model.specs.Answers.{instance_of}
 use Rattle.model.specs.WithinLaws.{Taken, read_within}
 use Rattle.checker.specs.Checked.{Verdict, accepted, refusal, checked, verdict_number, check_number}
-use Rattle.checker.specs.ReadLaws.{Formed, table_formed}
+use Rattle.checker.specs.ReadLaws.{Formed}
 use Rattle.checker.specs.Verdicts.{PlanRead, plan_read_lem, refusal_number}
 use Rattle.one_off.specs.OneOff as spec
 use Rattle.one_off.specs.OneOff.{frame_fits, well_asked, earliest, offered, one_off}
 use Rattle.one_off.specs.Answers.{offer_answer, UsedTimes, fits_by, FitsIn, EarliestIn}
-use Rattle.one_off.specs.declared.FrameFound.{FrameFound}
+use Rattle.one_off.specs.Numbered.{FrameFound}
 
 -- The used time of a row
 
@@ -108,6 +115,15 @@ module _ (bytes : List ℕ) (z : Sizes) (o : Formed bytes z) where
       where
         here : get_or (set times k v) k 0 ≡ v
         here = get_or-set_same times k v 0 (omega (arith, few_rows))
+
+-- so there is a row
+module _ (bytes : List ℕ) (z : Sizes) (o : Formed bytes z) (at k : ℕ) (so : RowsLeft bytes at k) (are : Bytes bytes) (below : k < z.height) where
+  pub row_taken : (r : Option (code.Row × Cursor)) → taken_said at r ≡ row_at bytes at → IsSome r
+  unfolding row_given
+  row_taken (Some p) e = refl
+  row_taken None e =
+      let number : 12 ≡ 0 = ap (λ (y : Row). y.refusal) (row_is bytes z o at k so are below (taken_said at None) e) in
+      absurd (omega (arith, number))
 
 pub none_used : (x : Instance) (bytes times : List ℕ) → UsedTimes x bytes 0 times
 none_used x bytes times = record { of = λ t is i h. absurd (omega arith); few = λ i h. absurd (omega arith) }
@@ -206,14 +222,15 @@ module _ (L s e : ℕ) (request bytes : List ℕ) where
         go (accepted f frames) is q = record { f = f; frames = frames; read = plan_read_lem request bytes f frames is }
         go (refusal n) is q = absurd (omega (arith, (refusal_number request bytes n is).0))
 
-    pub sizes_formed : (z : Sizes) → z ≡ sizes_of (decode bytes) → Formed bytes z
-    sizes_formed z is =
+    -- and has its sizes
+    pub sizes_there : (e : Refusal) → sizes_said (Err e) ≡ sizes_of (decode bytes) → ⊥
+    sizes_there e is =
         let p = passed.read in
-        table_formed bytes z is (ap (λ (y : Sizes). y.refusal) (is ∙ ap sizes_of p.read ∙ sizes_table p.t))
+        no_zero e (ap (λ (y : answered.Sizes). y.refusal) (is ∙ ap sizes_of p.read ∙ sizes_table p.t))
 
     module _ (c : Cycle) (is : c ≡ cycle_answered (cycle_of request)) where
       taken : Taken request c
-      taken = read_within request c is (ap (λ (y : Cycle). y.refusal) (is ∙ ap cycle_answered passed.read.within))
+      taken = read_within request c is (ap cycle_number passed.read.within)
 
       offered_is : one_off L s e request bytes ≡ offered L s e (instance_of c) passed.read.t
       unfolding one_off

@@ -1,36 +1,22 @@
 #![tactic(auto)]
 // Time for a one-off transfer: the earliest frame whose row leaves enough of its length unused, with numbers 21 and 22.
 ghost use Rattle.std.specs.Prelude.{◌≡◌, ◌≤◌, ◌*◌};
-ghost use Rattle.table.specs.Answers.{entries_said};
+ghost use Rattle.table.specs.Answers.{row_ok, entries_said};
 ghost use Rattle.model.specs.Slots.{slots};
 ghost use Rattle.model.specs.Answers.{instance_of};
 ghost use Rattle.checker.specs.ReadLaws.{Formed};
-ghost use Rattle.one_off.specs.OneOff.{refusal, well_asked, one_off};
+ghost use Rattle.one_off.specs.OneOff.{well_asked, one_off};
+ghost use Rattle.one_off.specs.Numbered.{found_said};
 ghost use Rattle.one_off.specs.Answers.{offer_answer, UsedTimes, fits_by, EarliestIn};
 
 use cycle::Cycle;
+use refusal::Refusal;
 use table::{Row, Sizes};
-
-// The frame, counted from time 0; or the number of the refusal, and 0.
-#[derive(Clone, Copy)]
-pub struct FrameFound {
-    pub refusal: u8,
-    pub frame: u16,
-}
-
-fn refused(number: u8) -> FrameFound
-    ensures { result ≡ offer_answer (refusal number) }
-{
-    FrameFound {
-        refusal: number,
-        frame: 0,
-    }
-}
 
 // The used time of a row: the C + g of every entry, carried ones too. It is at most 16 numbers of 32 bits.
 fn used(cycle: Cycle, row: Row) -> u64
     requires { row.count ≤ 16 }
-    ensures { (result ≡ slots (instance_of cycle) (entries_said row)) × (result ≤ 16 * 4294967295) }
+    ensures { (result ≡ slots (instance_of cycle) (entries_said (row_ok row))) × (result ≤ 16 * 4294967295) }
 {
     let tasks = cycle.tasks;
     let mut sum: u64 = 0;
@@ -48,9 +34,10 @@ fn used_times(cycle: Cycle, table: &[u8], sizes: Sizes) -> [u64; 256]
     let mut times = [0u64; 256];
     let mut here = table::read::first_row();
     for k in 0..sizes.height {
-        let taken = table::read::next_row(table, here);
-        here = taken.next;
-        times[usize::from(k)] = used(cycle, taken.row);
+        // The table has the form, so there is a row.
+        let (row, next) = table::read::next_row(table, here).unwrap();
+        here = next;
+        times[usize::from(k)] = used(cycle, row);
     }
     times
 }
@@ -74,21 +61,18 @@ fn earliest(
     length: u32,
     from: u32,
     until: u32,
-) -> FrameFound
+) -> Result<u16, Refusal>
     requires { Formed table.now sizes }
-    ensures { EarliestIn length from until (instance_of cycle) table.now result }
+    ensures { EarliestIn length from until (instance_of cycle) table.now (found_said result) }
 {
     let times = used_times(cycle, table, sizes);
     for k in 0..2 * sizes.height {
         let row = usize::from(k % sizes.height);
         if fits(sizes.f, cycle.g, times[row], length, from, until, k) {
-            return FrameFound {
-                refusal: 0,
-                frame: k,
-            };
+            return Ok(k);
         }
     }
-    refused(22)
+    Err(Refusal::NoFrameFits)
 }
 
 // Not: L is 0, s > e or e > 2H.
@@ -98,18 +82,21 @@ fn well_asked(h: u16, length: u32, from: u32, until: u32) -> bool
     length >= 1 && from <= until && until <= 2 * u32::from(h)
 }
 
-// The earliest frame, counted from time 0, with time for a transfer of `length` ticks between the ticks `from` and `until`; or the check's number, 21 or 22.
-pub fn one_off(request: &[u8], table: &[u8], length: u32, from: u32, until: u32) -> FrameFound
-    ensures { result ≡ offer_answer (one_off length from until request.now table.now) }
+// The earliest frame, counted from time 0, with time for a transfer of `length` ticks between the ticks `from` and `until`; or the check's refusal, 21 or 22.
+pub fn one_off(
+    request: &[u8],
+    table: &[u8],
+    length: u32,
+    from: u32,
+    until: u32,
+) -> Result<u16, Refusal>
+    ensures { found_said result ≡ offer_answer (one_off length from until request.now table.now) }
 {
-    let read = checker::read_plan(request, table);
-    if read.refusal != 0 {
-        return refused(read.refusal);
-    }
+    let read = checker::read_plan(request, table)?;
     let cycle = read.cycle;
     if !well_asked(cycle.h, length, from, until) {
-        return refused(21);
+        return Err(Refusal::WrongSpan);
     }
-    let sizes = table::read::sizes(table);
+    let sizes = table::read::sizes(table)?;
     earliest(cycle, table, sizes, length, from, until)
 }

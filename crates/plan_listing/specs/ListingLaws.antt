@@ -17,7 +17,7 @@ use Rattle.table.specs.Inverse.{decode_wellformed}
 use Rattle.table.specs.EntryLaws.{task_of_byte, number_of_byte}
 use Rattle.table.specs.RisingLaws.{row_rises, row_few}
 use Rattle.table.specs.Answers.{sizes_of, row_given, row_answer, row_at, entries_said}
-use Rattle.table.specs.AnswerLaws.{entries_at, entries_more, entries_none, entries_given, given_count, row_answered_lem}
+use Rattle.table.specs.AnswerLaws.{entries_at, entries_more, entries_none, entries_given, given_count, given_refusal, row_answered_lem}
 use Rattle.table.specs.RowsLeft.{RowsLeft, row_there, rows_go_on}
 use Rattle.table.specs.Answers.{Sizes}
 use Rattle.table.specs.Answers.{TakenRow}
@@ -98,6 +98,15 @@ row_taken bytes at k so are r e h = go (decode bytes) refl h
     go (table t) is below = (row_read bytes k r.row (row_there bytes at k so are t is below r e) h, rows_go_on bytes at k so are t is below r e)
     go malformed is below = absurd (omega arith)
 
+-- and it is there
+pub row_here : (bytes : List ℕ) (at k : ℕ) → RowsLeft bytes at k → Bytes bytes → (r : TakenRow) → r ≡ row_at bytes at
+    → k < length (table_in (decode bytes)).rows → r.row.refusal ≡ 0
+row_here bytes at k so are r e h = go (decode bytes) refl h
+  where
+    go : (d : Decoded) → decode bytes ≡ d → k < length (table_in d).rows → r.row.refusal ≡ 0
+    go (table t) is below = rw (row_there bytes at k so are t is below r e ∙ row_answered_lem bytes t k is below) (given_refusal (row_of t k))
+    go malformed is below = absurd (omega arith)
+
 -- The request's tasks and the table's sizes
 
 -- what the reader says of the sizes
@@ -119,6 +128,15 @@ sizes_read bytes z e = go (decode bytes) refl e
       few = (decode_wellformed bytes t is).few_rows;
     }
     go malformed is q = record { f_is = ap (λ (y : Sizes). y.f) q; h_is = ap (λ (y : Sizes). y.h) q; height_is = ap (λ (y : Sizes). y.height) q; few = omega arith }
+
+-- where it refuses there is no table
+pub sizes_refused_lem : (bytes : List ℕ) (z : Sizes) → z ≡ sizes_of (decode bytes) → (z.refusal ≡ 0 → ⊥) → (z.refusal ≡ 12) × (decode bytes ≡ malformed)
+unfolding sizes_of
+sizes_refused_lem bytes z e ne = go (decode bytes) refl e
+  where
+    go : (d : Decoded) → decode bytes ≡ d → z ≡ sizes_of d → (z.refusal ≡ 12) × (decode bytes ≡ malformed)
+    go (table t) is q = absurd (ne (ap (λ (y : Sizes). y.refusal) q))
+    go malformed is q = (ap (λ (y : Sizes). y.refusal) q, is)
 
 -- an array that holds the tasks gives the same lines
 busy_padded : (size : ℕ) (tasks : List Task) (es : List Entry) → busy_ticks (padded size no_task tasks) es ≡ busy_ticks tasks es

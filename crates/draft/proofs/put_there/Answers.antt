@@ -11,7 +11,7 @@ bounds-cycle-y c = in_range _ _ _ c.requires
 
 pub returns-then-not-in_window : goal.returns-then-not-in_window
 returns-then-not-in_window c =
-    c.kept.ensures ∙ outside _ _ _ c.requires _ (sym c.in_window.ensures ∙ c.if-not-in_window.true)
+    outside _ _ _ c.requires _ (sym c.in_window.ensures ∙ c.if-not-in_window.true)
 
 pub row_of-row-requires : goal.row_of-row-requires
 row_of-row-requires c = rows_are _ _ _ c.requires
@@ -28,8 +28,7 @@ cost_at-cost-requires c = (c.requires.known, c.requires.limits.few_jobs)
 pub returns-then-not-has_room : goal.returns-then-not-has_room
 returns-then-not-has_room c =
     let inside = sym c.in_window.ensures ∙ c.if-not-in_window.false in
-    c.kept-then-not-has_room.ensures
-    ∙ full _ _ _ c.requires _ inside _ _ c.row_of-row.ensures.0 c.cost_at-cost.ensures
+    full _ _ _ c.requires _ inside _ _ c.row_of-row.ensures.0 c.cost_at-cost.ensures
     (sym c.has_room.ensures ∙ c.if-not-has_room.true)
 
 pub overflow_cast-cost : goal.overflow_cast-cost
@@ -54,14 +53,12 @@ pub returns-then-not-is_sound : goal.returns-then-not-is_sound
 returns-then-not-is_sound c =
     let inside = sym c.in_window.ensures ∙ c.if-not-in_window.false in
     let room = sym c.has_room.ensures ∙ c.if-not-has_room.false in
-    c.kept-then-not-is_sound.ensures
-    ∙ breaks _ _ _ c.requires _ inside _ _ c.row_of-row.ensures.0 c.cost_at-cost.ensures room _
+    breaks _ _ _ c.requires _ inside _ _ c.row_of-row.ensures.0 c.cost_at-cost.ensures room _
     c.touched-after.ensures (sym c.is_sound.ensures ∙ c.if-not-is_sound.true)
 
 pub returns : goal.returns
 returns c =
     let inside = sym c.in_window.ensures ∙ c.if-not-in_window.false in
     let room = sym c.has_room.ensures ∙ c.if-not-has_room.false in
-    c.kept-2.ensures
-    ∙ stands _ _ _ c.requires _ inside _ _ c.row_of-row.ensures.0 c.cost_at-cost.ensures room _
+    stands _ _ _ c.requires _ inside _ _ c.row_of-row.ensures.0 c.cost_at-cost.ensures room _
     c.touched-after.ensures (sym c.is_sound.ensures ∙ c.if-not-is_sound.false)

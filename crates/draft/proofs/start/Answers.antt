@@ -1,43 +1,59 @@
 -- The check reads the plan and its cycle, and the rows are added up; each way out is one case of the definition.
-use Rattle.std.proofs.Common.{◌≡◌, ap, ◌∙◌, arith, length, take}
+use Rattle.std.specs.Prelude.{Ok}
+use Rattle.std.proofs.Common.{◌≡◌, refl, sym, ap, ◌∙◌, arith, length, take}
 use Rattle.std.proofs.lemmas.List.{length-take}
-use Rattle.draft.specs.Draft.{kept}
+use Rattle.std.proofs.lemmas.Result.{err_from_is_err_and}
+use Rattle.cycle.specs.Cycle.{cycle_of}
+use Rattle.cycle.specs.Answers.{cycle_answered}
+use Rattle.table.specs.Table.{decode}
+use Rattle.request.specs.SectionLaws.{no_zero}
+use Rattle.checker.specs.Checked.{checked}
+use Rattle.checker.specs.Answers.{read_answer}
+use Rattle.checker.specs.Numbered.{read_said}
 use Rattle.draft.specs.MoveLaws.{start_refused, some_f, few, rows_fit_lent, start_done_lent}
 use Rattle.draft.proofs.start.Goals as goal
+use Rattle.draft.proofs.start.Goals.{In_ok-read}
 
-pub returns-then-read-ne0 : goal.returns-then-read-ne0
-returns-then-read-ne0 c =
-    c.kept.ensures ∙ ap (kept _) c.no_draft.ensures ∙ start_refused _ _ _ c.read_plan-read.ensures c.if-read-ne0.true
+-- what the check said of the plan that it read
+said : (c : In_ok-read) → let request = c.args.request.now in
+    read_said (cycle_answered (cycle_of request)) (Ok c.in_ok-read.read)
+    ≡ read_answer (cycle_answered (cycle_of request)) (checked (cycle_of request) (decode c.args.table.now))
+said c = ap (read_said (cycle_answered (cycle_of c.args.request.now))) (sym c.in_ok-read.was) ∙ c.read_plan.ensures
+
+pub returns-in_err-read : goal.returns-in_err-read
+returns-in_err-read c =
+    let p = err_from_is_err_and c.from_residual.result c.from_residual.ensures.1 in
+    let said = ap (read_said (cycle_answered (cycle_of c.args.request.now))) (sym c.in_err-read.was) ∙ c.read_plan.ensures in
+    rw (p.1, p.2) (start_refused _ _ _ said (no_zero c.in_err-read.field-0.0))
 
 pub nonzero_div-cycle : goal.nonzero_div-cycle
 nonzero_div-cycle c =
-    some_f _ _ _ c.read_plan-read.ensures c.if-read-ne0.false
+    some_f _ _ _ (said (goal.at.nonzero_div-cycle c).In_ok-read) refl
 
 pub slice_bounds-cost-end : goal.slice_bounds-cost-end
-slice_bounds-cost-end c = omega (arith, few _ _ _ c.read_plan-read.ensures c.if-read-ne0.false)
+slice_bounds-cost-end c = omega (arith, few _ _ _ (said (goal.at.slice_bounds-cost-end c).In_ok-read) refl)
 
 pub slice_bounds-row_loads-end : goal.slice_bounds-row_loads-end
-slice_bounds-row_loads-end c = omega (arith, few _ _ _ c.read_plan-read.ensures c.if-read-ne0.false, length-take c.read_plan-read.result.cycle.count c.costs-cost.result)
+slice_bounds-row_loads-end c = omega (arith, few _ _ _ (said (goal.at.slice_bounds-row_loads-end c).In_ok-read) refl, length-take c.in_ok-read.read.cycle.count c.costs-cost.result)
 
 pub slice_bounds-frames-end : goal.slice_bounds-frames-end
-slice_bounds-frames-end c = omega (arith, few _ _ _ c.read_plan-read.ensures c.if-read-ne0.false)
+slice_bounds-frames-end c = omega (arith, few _ _ _ (said (goal.at.slice_bounds-frames-end c).In_ok-read) refl)
 
 pub slice_bounds-row_loads-end-2 : goal.slice_bounds-row_loads-end-2
-slice_bounds-row_loads-end-2 c = omega (arith, few _ _ _ c.read_plan-read.ensures c.if-read-ne0.false, length-take c.read_plan-read.result.cycle.count c.read_plan-read.result.frames)
+slice_bounds-row_loads-end-2 c = omega (arith, few _ _ _ (said (goal.at.slice_bounds-row_loads-end-2 c).In_ok-read) refl, length-take c.in_ok-read.read.cycle.count c.in_ok-read.read.frames)
 
 pub row_loads-loads-requires : goal.row_loads-loads-requires
 row_loads-loads-requires c =
-    let read = c.read_plan-read.ensures in
-    let n = c.read_plan-read.result.cycle.count in
+    let read = said (goal.at.row_loads-loads-requires c).In_ok-read in
+    let n = c.in_ok-read.read.cycle.count in
     let cost_long : length c.costs-cost.result ≡ 128 = omega arith in
-    let frames_long : length c.read_plan-read.result.frames ≡ 128 = omega arith in
-    let same : length (take n c.read_plan-read.result.frames) ≡ length (take n c.costs-cost.result)
-    = omega (arith, length-take n c.read_plan-read.result.frames, length-take n c.costs-cost.result) in
-    (same, rows_fit_lent _ _ _ read c.if-read-ne0.false _ c.costs-cost.ensures cost_long frames_long (omega arith))
+    let frames_long : length c.in_ok-read.read.frames ≡ 128 = omega arith in
+    let same : length (take n c.in_ok-read.read.frames) ≡ length (take n c.costs-cost.result)
+    = omega (arith, length-take n c.in_ok-read.read.frames, length-take n c.costs-cost.result) in
+    (same, rows_fit_lent _ _ _ read refl _ c.costs-cost.ensures cost_long frames_long (omega arith))
 
 pub returns : goal.returns
 returns c =
     let cost_long : length c.costs-cost.result ≡ 128 = omega arith in
-    let frames_long : length c.read_plan-read.result.frames ≡ 128 = omega arith in
-    c.kept-2.ensures
-    ∙ start_done_lent _ _ _ c.read_plan-read.ensures c.if-read-ne0.false _ c.costs-cost.ensures cost_long frames_long _ c.row_loads-loads.ensures
+    let frames_long : length c.in_ok-read.read.frames ≡ 128 = omega arith in
+    start_done_lent _ _ _ (said (goal.at.returns c).In_ok-read) refl _ c.costs-cost.ensures cost_long frames_long _ c.row_loads-loads.ensures

@@ -52,4 +52,4 @@ pub returns : goal.returns
 returns c =
     let l = c.loop-k in
     let a = c.args in
-    rw c.refused.ensures (none_fits a.length a.from a.until (instance_of a.cycle) a.table.now a.sizes c.requires l.k l.invariant c.loop-k-test.false)
+    none_fits a.length a.from a.until (instance_of a.cycle) a.table.now a.sizes c.requires l.k l.invariant c.loop-k-test.false

@@ -1,6 +1,7 @@
 -- The sum so far and the entries left make up the whole.
 use Rattle.std.proofs.Common.{◌≡◌, ◌<◌, arith}
 use Rattle.std.proofs.lemmas.List.{length-take, get_or-take}
+use Rattle.table.specs.Answers.{row_ok}
 use Rattle.one_off.specs.StepLaws.{used_more, used_none, used_all}
 use Rattle.one_off.proofs.used.Goals as goal
 
@@ -24,4 +25,4 @@ returns c =
     let size = length-take a.row.count a.row.tasks in
     let all : l.task-index ≡ a.row.count = omega (arith, size, c.requires) in
     let none = used_none a.cycle.tasks a.cycle.n a.cycle.g a.row.tasks a.row.count l.task-index (omega arith) in
-    (omega (arith, l.invariant.left, used_all a.cycle a.row), omega (arith, l.invariant.small, all, c.requires))
+    (omega (arith, l.invariant.left, used_all a.cycle (row_ok a.row)), omega (arith, l.invariant.small, all, c.requires))
