@@ -11,24 +11,25 @@ use Rattle.search.specs.Search.{Found, none}
 use Rattle.search.specs.Placing.{plan_walk, Problem}
 use Rattle.searcher.specs.Arrays.{Placeable, problem_of, counts_in, jobs_in, problem_in}
 use Rattle.searcher.specs.declared.Given.{Given}
+use Rattle.searcher.specs.declared.Problem.{Problem as InArrays}
 use Rattle.searcher.proofs.AllLaws.{begins}
 use Rattle.prune.specs.Arrays.{Packed, Marked}
 use Rattle.exact_searcher.proofs.HopelessLaws.{is_packed, none_placed}
 use Rattle.exact_searcher.specs.Arrays.{Searching, Decided, DecidedJob, found_answer}
 
 -- what is given is packed, and the problem is the same
-module _ {given : Given} (p : Placeable given) (packed : List (List ℕ)) (same : (problem_in packed given.links ≡ problem_of given) × (jobs_in packed ≡ given.n)) where
+module _ {given : Given} (p : Placeable given) (packed : InArrays) (same : (problem_in packed ≡ problem_of given) × (jobs_in packed ≡ given.n)) where
   abbrev x : Problem
-  x = problem_in packed given.links
+  x = problem_in packed
 
   abbrev n : ℕ
   n = jobs_in packed
 
-  pub packed_first : Packed packed given.links
+  pub packed_first : Packed packed
   packed_first = is_packed (begins p packed same).ready
 
-  pub searching_first : {tied : List ℕ} → Marked (counts_in packed) given.links n tied
-      → Searching packed given.links tied (replicate 128 0) (replicate 256 0) 0
+  pub searching_first : {tied : List ℕ} → Marked (counts_in packed) packed.links n tied
+      → Searching packed tied (replicate 128 0) (replicate 256 0) 0
   searching_first m = record { placing = begins p packed same; marks = m; so_far = none_placed x }
 
   abbrev o : Found

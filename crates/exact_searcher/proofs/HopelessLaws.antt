@@ -11,12 +11,13 @@ use lib.Dec.{ltb, eqb}
 use borrow.Author.Tests.{lt-ltb, le-ltb, ltb-true, ltb-false, eqb-true, eqb-false}
 use Rattle.search.specs.Search.{none}
 use Rattle.search.specs.Placing.{plan_walk, Problem}
-use Rattle.searcher.specs.Arrays.{part_in, jobs_in, problem_in, Ready}
+use Rattle.searcher.specs.Arrays.{jobs_in, problem_in, Ready}
+use Rattle.searcher.specs.declared.Problem.{Problem as InArrays}
 use Rattle.exact.specs.None.{None, Placed, none_found}
 use Rattle.prune.specs.Arrays.{Packed, domains, Filled}
 use Rattle.exact_searcher.specs.Arrays.{low_from, high_from, low_by, high_by, PlacedSoFar}
 
-pub is_packed : {g : List (List ℕ)} {links place load : List ℕ} → Ready (problem_in g links) (jobs_in g) place load → Packed g links
+pub is_packed : {g : InArrays} {place load : List ℕ} → Ready (problem_in g) (jobs_in g) place load → Packed g
 is_packed r = record { few = r.few; few_rows = r.few_rows; jobs = r.jobs; proper = r.proper }
 
 -- no job is placed
@@ -61,8 +62,8 @@ module _ (window place : List ℕ) {j : ℕ} {out : List ℕ} {v : ℕ} where
       → Filled (high_from window place (j + 1)) 128 (set out j v)
   highs_more w h e = changed w h (e ∙ rw (lt-ltb j (j + 1) (omega arith))) (λ i ne. rw (more_placed i j ne))
 
-module _ {g : List (List ℕ)} {links : List ℕ} (c : Packed g links) (place : List ℕ) {m : ℕ} (le : m ≤ jobs_in g)
-    (so_far : PlacedSoFar (problem_in g links) (take m place) m) where
+module _ {g : InArrays} (c : Packed g) (place : List ℕ) {m : ℕ} (le : m ≤ jobs_in g)
+    (so_far : PlacedSoFar (problem_in g) (take m place) m) where
   abbrev n : ℕ
   n = jobs_in g
 
@@ -85,20 +86,20 @@ module _ {g : List (List ℕ)} {links : List ℕ} (c : Packed g links) (place : 
         low_here : (i : ℕ) → i < m → get_or low i 0 ≤ get_or (take m place) i 0
         low_here i h = let e : get_or low i 0 ≡ get_or place i 0 = lows i (omega arith) ∙ rw (lt-ltb i m h) in omega (arith, frame i h)
 
-        high_here : (i : ℕ) → i < m → get_or (take m place) i 0 < get_or (take n (part_in g 2)) i 0 → get_or (take m place) i 0 < get_or high i 0
+        high_here : (i : ℕ) → i < m → get_or (take m place) i 0 < get_or (take n g.end) i 0 → get_or (take m place) i 0 < get_or high i 0
         high_here i h w =
-            let e : get_or high i 0 ≡ min (get_or place i 0 + 1) (get_or (part_in g 2) i 0) = highs i (omega arith) ∙ rw (lt-ltb i m h) in
-            omega (arith, frame i h, get_or-take n (part_in g 2) i 0 (omega arith))
+            let e : get_or high i 0 ≡ min (get_or place i 0 + 1) (get_or g.end i 0) = highs i (omega arith) ∙ rw (lt-ltb i m h) in
+            omega (arith, frame i h, get_or-take n g.end i 0 (omega arith))
 
-        low_there : (i : ℕ) → m ≤ i → i < n → get_or low i 0 ≤ get_or (take n (part_in g 1)) i 0
+        low_there : (i : ℕ) → m ≤ i → i < n → get_or low i 0 ≤ get_or (take n g.first) i 0
         low_there i h l =
-            let e : get_or low i 0 ≡ get_or (part_in g 1) i 0 = lows i (omega arith) ∙ rw (le-ltb i m h) in
-            omega (arith, get_or-take n (part_in g 1) i 0 l)
+            let e : get_or low i 0 ≡ get_or g.first i 0 = lows i (omega arith) ∙ rw (le-ltb i m h) in
+            omega (arith, get_or-take n g.first i 0 l)
 
-        high_there : (i : ℕ) → m ≤ i → i < n → get_or (take n (part_in g 2)) i 0 ≤ get_or high i 0
+        high_there : (i : ℕ) → m ≤ i → i < n → get_or (take n g.end) i 0 ≤ get_or high i 0
         high_there i h l =
-            let e : get_or high i 0 ≡ get_or (part_in g 2) i 0 = highs i (omega arith) ∙ rw (le-ltb i m h) in
-            omega (arith, get_or-take n (part_in g 2) i 0 l)
+            let e : get_or high i 0 ≡ get_or g.end i 0 = highs i (omega arith) ∙ rw (le-ltb i m h) in
+            omega (arith, get_or-take n g.end i 0 l)
 
-    pub hopeless : None (problem_in g links) (domains low high) → (plan_walk (problem_in g links) (take m place)).found ≡ none
+    pub hopeless : None (problem_in g) (domains low high) → (plan_walk (problem_in g) (take m place)).found ≡ none
     hopeless d = none_found c.proper placed (rw size so_far) (omega (arith, size, c.jobs)) d

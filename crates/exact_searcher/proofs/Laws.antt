@@ -14,6 +14,7 @@ use Rattle.search.specs.Counting.{on_none, on_found, attempt_walk, from_walk, wa
 use Rattle.search.specs.Placing.{plan_walk, Problem, fits, window_start, frame_count, Bounds}
 use Rattle.search.specs.BestLaws.{placing_more}
 use Rattle.searcher.specs.Arrays.{jobs_in, problem_in, Ready}
+use Rattle.searcher.specs.declared.Problem.{Problem as InArrays}
 use Rattle.searcher.proofs.Laws.{put}
 use Rattle.exact_searcher.specs.Arrays.{PlacedSoFar, Searching, Probing, Decided, DecidedJob, DecidedFrame}
 
@@ -98,11 +99,11 @@ module _ {x : Problem} {n : ℕ} {place load : List ℕ} {i : ℕ} (more : i < n
       }
 
 -- the job is tested in the next frame: things are as they were before a frame was tried
-pub probe : {g : List (List ℕ)} {links tied place load : List ℕ} {i : ℕ} → i < jobs_in g → Searching g links tied place load i
-    → {place' load' : List ℕ} {k row : ℕ} → Trying (problem_in g links) (jobs_in g) place load i place' load' k row
-    → {e : ℕ} → e ≡ get_or (problem_in g links).end i 0 → k < e
-    → {low high : ℕ} → Bounds (problem_in g links) (take i place') i low high → Probing g links tied place' load' i k row low high
-probe {g} {links} {tied} {place} {load} {i} more s v is h bounds = record {
+pub probe : {g : InArrays} {tied place load : List ℕ} {i : ℕ} → i < jobs_in g → Searching g tied place load i
+    → {place' load' : List ℕ} {k row : ℕ} → Trying (problem_in g) (jobs_in g) place load i place' load' k row
+    → {e : ℕ} → e ≡ get_or (problem_in g).end i 0 → k < e
+    → {low high : ℕ} → Bounds (problem_in g) (take i place') i low high → Probing g tied place' load' i k row low high
+probe {g} {tied} {place} {load} {i} more s v is h bounds = record {
   testing = record {
     more = more;
     ready = record {
@@ -123,13 +124,13 @@ probe {g} {links} {tied} {place} {load} {i} more s v is h bounds = record {
   window = record { from = v.from; to = omega (arith, is) };
 }
   where
-    r : Ready (problem_in g links) (jobs_in g) place load
+    r : Ready (problem_in g) (jobs_in g) place load
     r = s.placing.ready
 
 -- job i is tested in frame k
-module _ {g : List (List ℕ)} {links tied place load : List ℕ} {i k row low high : ℕ} (s : Probing g links tied place load i k row low high) where
+module _ {g : InArrays} {tied place load : List ℕ} {i k row low high : ℕ} (s : Probing g tied place load i k row low high) where
   abbrev x : Problem
-  x = problem_in g links
+  x = problem_in g
 
   abbrev n : ℕ
   n = jobs_in g
@@ -185,7 +186,7 @@ module _ {g : List (List ℕ)} {links tied place load : List ℕ} {i k row low h
 
     module _ {v : ℕ} (v_is : v ≡ get_or load row 0 + get_or x.cost i 0) where
       -- it is put there
-      pub put_searching : Searching g links tied (set place i k) (set load row v) (i + 1)
+      pub put_searching : Searching g tied (set place i k) (set load row v) (i + 1)
       put_searching = record { placing = put s.testing v_is; marks = s.marks; so_far = put_so_far }
 
       module _ {b : Bool} {place' load' : List ℕ} (d : DecidedJob x n (set place i k) (set load row v) (i + 1) b place' load') where

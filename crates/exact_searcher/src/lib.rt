@@ -9,7 +9,7 @@ ghost use Rattle.searcher.specs.Arrays.{Placeable, problem_of, counts_in, jobs_i
 ghost use Rattle.prune.specs.Arrays.{Packed, Filled, Marked};
 ghost use Rattle.exact_searcher.specs.Arrays.{low_from, high_from, PlacedSoFar, Searching, Probing, DecidedJob, DecidedFrame, found_answer};
 
-use searcher::Given;
+use searcher::{Given, Problem};
 
 // The domains, from `low` to before `high`, where the first `at` jobs are placed: a placed job has its frame alone, the others their windows.
 fn domains(
@@ -30,21 +30,20 @@ fn domains(
     (low, high)
 }
 
-// What the search goes by: the jobs and their links as `pack` leaves them, and which of the jobs are tied.
+// What the search goes by: the problem as `pack` leaves it, and which of the jobs are tied.
 #[derive(Drop)]
 struct Jobs {
-    given: [[u16; 128]; 5],
-    links: [u8; 2048],
+    problem: Problem,
     tied: [u16; 128],
 }
 
 impl Jobs {
     // Whether some rows must hold too much whatever the placing; false says nothing.
     fn is_crowded(&self) -> bool
-        requires { Packed self.now.given self.now.links }
-        ensures { result ≡ true → (plan_walk (problem_in self.now.given self.now.links) []).found ≡ none }
+        requires { Packed self.now.problem }
+        ensures { result ≡ true → (plan_walk (problem_in self.now.problem) []).found ≡ none }
     {
-        prune::is_crowded(&self.given, &self.links, self.given[1], self.given[2])
+        prune::is_crowded(&self.problem, self.problem.first, self.problem.end)
     }
 }
 
@@ -67,16 +66,15 @@ struct Sweeps {
 impl Sweeps {
     // Whether no placing begins with the first `at` jobs as they are placed; false says nothing.
     fn is_hopeless(&mut self, jobs: &Jobs, place: &[u16; 128], at: usize) -> bool
-        requires packed { Packed jobs.now.given jobs.now.links }
-        requires marked { Marked (counts_in jobs.now.given) jobs.now.links (jobs_in jobs.now.given) jobs.now.tied }
-        requires at_bound { at ≤ jobs_in jobs.now.given }
-        requires placed_so_far { PlacedSoFar (problem_in jobs.now.given jobs.now.links) (take at place.now) at }
-        ensures { result ≡ true → (plan_walk (problem_in jobs.now.given jobs.now.links) (take at place.now)).found ≡ none }
+        requires packed { Packed jobs.now.problem }
+        requires marked { Marked (counts_in jobs.now.problem) jobs.now.problem.links (jobs_in jobs.now.problem) jobs.now.tied }
+        requires at_bound { at ≤ jobs_in jobs.now.problem }
+        requires placed_so_far { PlacedSoFar (problem_in jobs.now.problem) (take at place.now) at }
+        ensures { result ≡ true → (plan_walk (problem_in jobs.now.problem) (take at place.now)).found ≡ none }
     {
-        let (low, high) = domains(&jobs.given[1], &jobs.given[2], place, at);
+        let (low, high) = domains(&jobs.problem.first, &jobs.problem.end, place, at);
         let may = prune::may(
-            &jobs.given,
-            &jobs.links,
+            &jobs.problem,
             jobs.tied,
             &mut self.found,
             &mut self.words,
@@ -92,11 +90,11 @@ impl Sweeps {
 
     // Whether job i, placed in this row, is to be passed over. It is not asked where the row is the hinted one.
     fn is_pruned(&mut self, jobs: &Jobs, place: &[u16; 128], i: usize, row: usize) -> bool
-        requires packed { Packed jobs.now.given jobs.now.links }
-        requires marked { Marked (counts_in jobs.now.given) jobs.now.links (jobs_in jobs.now.given) jobs.now.tied }
-        requires i_bound { i < jobs_in jobs.now.given }
-        requires placed_so_far { PlacedSoFar (problem_in jobs.now.given jobs.now.links) (take (i + 1) place.now) (i + 1) }
-        ensures { result ≡ true → (plan_walk (problem_in jobs.now.given jobs.now.links) (take (i + 1) place.now)).found ≡ none }
+        requires packed { Packed jobs.now.problem }
+        requires marked { Marked (counts_in jobs.now.problem) jobs.now.problem.links (jobs_in jobs.now.problem) jobs.now.tied }
+        requires i_bound { i < jobs_in jobs.now.problem }
+        requires placed_so_far { PlacedSoFar (problem_in jobs.now.problem) (take (i + 1) place.now) (i + 1) }
+        ensures { result ≡ true → (plan_walk (problem_in jobs.now.problem) (take (i + 1) place.now)).found ≡ none }
     {
         if self
             .hint
@@ -112,19 +110,19 @@ impl Sweeps {
 // Places job i and those after it: tries the frames of its window, the earliest first. The jobs before i stay as they stand.
 #[cycle(place_job_try_frame)]
 fn place_job(jobs: &Jobs, sweeps: &mut Sweeps, board: &mut Board, i: usize) -> bool
-    requires { Searching jobs.now.given jobs.now.links jobs.now.tied board.old.place board.old.load i }
-    ensures { DecidedJob (problem_in jobs.now.given jobs.now.links) (jobs_in jobs.now.given)
+    requires { Searching jobs.now.problem jobs.now.tied board.old.place board.old.load i }
+    ensures { DecidedJob (problem_in jobs.now.problem) (jobs_in jobs.now.problem)
         board.old.place board.old.load i result board.new.place board.new.load }
 {
-    let n = jobs.given[4][2] as usize;
+    let n = jobs.problem.n;
     if i == n {
         return true;
     }
-    let low = searcher::lower_bound(&jobs.given, &jobs.links, &board.place, i);
-    let high = searcher::upper_bound(&jobs.given, &jobs.links, &board.place, i);
-    let rows = jobs.given[4][0];
-    let first = jobs.given[1][i];
-    let e = searcher::entry(&jobs.given, 2, i);
+    let low = searcher::lower_bound(&jobs.problem, &board.place, i);
+    let high = searcher::upper_bound(&jobs.problem, &board.place, i);
+    let rows = jobs.problem.rows;
+    let first = jobs.problem.first[i];
+    let e = jobs.problem.end[i];
     let mut row = (first % rows) as usize;
     for k in first..e {
         if try_frame(jobs, sweeps, board, i, k, row, low, high) {
@@ -147,13 +145,12 @@ fn try_frame(
     low: u16,
     high: u16,
 ) -> bool
-    requires { Probing jobs.now.given jobs.now.links jobs.now.tied board.old.place board.old.load i k row low high }
-    ensures { DecidedFrame (problem_in jobs.now.given jobs.now.links) (jobs_in jobs.now.given)
+    requires { Probing jobs.now.problem jobs.now.tied board.old.place board.old.load i k row low high }
+    ensures { DecidedFrame (problem_in jobs.now.problem) (jobs_in jobs.now.problem)
         board.old.place board.old.load i k result board.new.place board.new.load }
 {
     if !searcher::may_stand(
-        &jobs.given,
-        &jobs.links,
+        &jobs.problem,
         &board.place,
         &board.load,
         i,
@@ -169,7 +166,7 @@ fn try_frame(
         return false;
     }
     let l = board.load[row];
-    board.load[row] = l + jobs.given[0][i];
+    board.load[row] = l + jobs.problem.cost[i];
     if place_job(jobs, sweeps, board, i + 1) {
         return true;
     }
@@ -183,14 +180,9 @@ pub fn place_all(given: Given) -> Option<[u16; 128]>
     requires { Placeable given }
     ensures { result ≡ found_answer (plan_walk (problem_of given) []).found }
 {
-    let packed = searcher::pack(given);
-    let links = given.links;
-    let tied = prune::tied_jobs(&packed, &links);
-    let jobs = Jobs {
-        given: packed,
-        links,
-        tied,
-    };
+    let problem = searcher::pack(given);
+    let tied = prune::tied_jobs(&problem);
+    let jobs = Jobs { problem, tied };
     if jobs.is_crowded() {
         return None;
     }

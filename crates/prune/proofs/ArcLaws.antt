@@ -10,7 +10,8 @@ use lib.ListN.{length, get_or, set, replicate, take, length-set, length-replicat
 use lib.Seq.{get_or-set_same, get_or-set_other, get_or-take}
 use lib.Dec.{ltb, eqb}
 use borrow.Author.Tests.{ltb-true, lt-ltb, eq-eqb, ne_eqb, eqb-true, eqb-false}
-use Rattle.searcher.specs.Arrays.{part_in, rows_in, jobs_in, problem_in}
+use Rattle.searcher.specs.Arrays.{rows_in, jobs_in, problem_in}
+use Rattle.searcher.specs.declared.Problem.{Problem as InArrays}
 use Rattle.exact.specs.Sweep.{sum}
 use Rattle.exact.specs.Intervals.{sum_le, sum_add, sum_snoc}
 use Rattle.exact.specs.Arcs.{step_of, room_of, arc_need}
@@ -160,19 +161,19 @@ light_more {weights} {j} v size h w le = record { each = λ i l. go i l (eqb i j
     go i l false q = let z : i ≡ j → ⊥ = eqb-false i j q in omega (arith, get_or-set_other weights j i v 0 z, w.each i (omega arith))
 
 -- what is over is none
-pub none_of_over : {g : List (List ℕ)} {links : List ℕ} (v : Packed g links) {low high : List ℕ} (weights : List ℕ) (k : ℕ) {room : ℕ} → 0 < get_or (part_in g 4) 1 0
-    → length weights ≡ jobs_in g → ((i : ℕ) → i < jobs_in g → get_or weights i 0 ≡ step_by (get_or (part_in g 4) 1 0) k (part_in g 0) i)
-    → room ≡ room_of (get_or (part_in g 4) 1 0) k
-    → SomeOver (rows_in g) low high (weight_by weights) (length weights) room → None (problem_in g links) (domains low high)
+pub none_of_over : {g : InArrays} (v : Packed g) {low high : List ℕ} (weights : List ℕ) (k : ℕ) {room : ℕ} → 0 < g.f
+    → length weights ≡ jobs_in g → ((i : ℕ) → i < jobs_in g → get_or weights i 0 ≡ step_by g.f k g.cost i)
+    → room ≡ room_of g.f k
+    → SomeOver (rows_in g) low high (weight_by weights) (length weights) room → None (problem_in g) (domains low high)
 unfolding arc_need
-none_of_over {g} {links} v {low} {high} weights k {room} some n w r o =
+none_of_over {g} v {low} {high} weights k {room} some n w r o =
     none_arc v.proper some k o.start o.inside (domains low high) o.over.width (rw (← r) (rw v.jobs (omega (arith, rw n at o.over.more, asks))))
   where
     asks : sum (λ i. cond (ltb (last_by (rows_in g) o.start low high i) o.over.width) (weight_by weights i) 0) (jobs_in g) 0
-        ≤ sum (λ i. cond (ltb (last_by (rows_in g) o.start low high i) o.over.width) (step_of (get_or (part_in g 4) 1 0) k (get_or (take (jobs_in g) (part_in g 0)) i 0)) 0) (jobs_in g) 0
+        ≤ sum (λ i. cond (ltb (last_by (rows_in g) o.start low high i) o.over.width) (step_of g.f k (get_or (take (jobs_in g) g.cost) i 0)) 0) (jobs_in g) 0
     asks = sum_le (λ i. cond (ltb (last_by (rows_in g) o.start low high i) o.over.width) (weight_by weights i) 0)
-        (λ i. cond (ltb (last_by (rows_in g) o.start low high i) o.over.width) (step_of (get_or (part_in g 4) 1 0) k (get_or (take (jobs_in g) (part_in g 0)) i 0)) 0) (jobs_in g) 0
-        (λ i l. let h : i < jobs_in g = omega arith in rw (get_or-take (jobs_in g) (part_in g 0) i 0 h, w i h) (omega arith))
+        (λ i. cond (ltb (last_by (rows_in g) o.start low high i) o.over.width) (step_of g.f k (get_or (take (jobs_in g) g.cost) i 0)) 0) (jobs_in g) 0
+        (λ i l. let h : i < jobs_in g = omega arith in rw (get_or-take (jobs_in g) g.cost i 0 h, w i h) (omega arith))
 
 -- products that fit
 pub product_small : (a c : ℕ) → a ≤ 5 → c ≤ 65535 → a * c ≤ 327675

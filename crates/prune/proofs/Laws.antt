@@ -13,7 +13,8 @@ use lib.Seq.{get_or-take, drop-cons, get_or-set_same, get_or-set_other}
 use lib.Dec.{ltb, eqb}
 use borrow.Author.Tests.{le-leb, lt-leb, ltb-true, ltb-false, le-ltb, eq-eqb, ne_eqb, eqb-true, eqb-false}
 use Rattle.search.specs.Placing.{Problem, links_at, links_of}
-use Rattle.searcher.specs.Arrays.{part_in, counts_in, rows_in, jobs_in, problem_in, LinksBack}
+use Rattle.searcher.specs.Arrays.{counts_in, rows_in, jobs_in, problem_in, LinksBack}
+use Rattle.searcher.specs.declared.Problem.{Problem as InArrays}
 use Rattle.searcher.proofs.Laws as place_laws
 use Rattle.exact.specs.Domains.{Domains}
 use Rattle.exact.specs.Sweep.{From}
@@ -23,9 +24,9 @@ use Rattle.sweep.specs.Arrays.{jobs_of, rules_in, Sweepable}
 use Rattle.prune.specs.Arrays.{Packed, domains, raised, lowered, Linked, Tightened, Empty, Filled, side_by, row_by, marked_by, Marked}
 
 -- what is given is one problem, and its links are those of the arrays
-module _ {g : List (List ℕ)} {links : List ℕ} (c : Packed g links) where
+module _ {g : InArrays} (c : Packed g) where
   abbrev x : Problem
-  x = problem_in g links
+  x = problem_in g
 
   abbrev n : ℕ
   n = jobs_in g
@@ -34,14 +35,14 @@ module _ {g : List (List ℕ)} {links : List ℕ} (c : Packed g links) where
   counts = counts_in g
 
   module _ (i : ℕ) (h : i < n) where
-    pub same_links : links_of x i ≡ links_at counts links i
-    same_links = place_laws.same_links counts links n i h c.proper.linked
+    pub same_links : links_of x i ≡ links_at counts g.links i
+    same_links = place_laws.same_links counts g.links n i h c.proper.linked
 
-    pub links_back : LinksBack counts links i
-    links_back = place_laws.links_back counts links n i h c.proper.linked c.few (omega (arith, c.proper.counted, c.jobs))
+    pub links_back : LinksBack counts g.links i
+    links_back = place_laws.links_back counts g.links n i h c.proper.linked c.few (omega (arith, c.proper.counted, c.jobs))
 
     -- a link takes nothing away
-    pub link_tightens : {l : ℕ} {low high low' high' : List ℕ} → Memᴰ l (links_at counts links i) → Linked low high i l low' high'
+    pub link_tightens : {l : ℕ} {low high low' high' : List ℕ} → Memᴰ l (links_at counts g.links i) → Linked low high i l low' high'
         → Tightened x (domains low high) (domains low' high')
     link_tightens {l} {low} {high} {low'} {high'} m w = record
         { keeps = λ d. none_link c.proper (domains low high) i l (omega (arith, c.jobs)) mem (go (ltb l 128) refl d) }
@@ -55,7 +56,7 @@ module _ {g : List (List ℕ)} {links : List ℕ} (c : Packed g links) where
         go true e d = let t = w.before (ltb-true l 128 e) in rw (t.lows, t.highs) at d
         go false e d = let t = w.behind (ltb-false l 128 e) in rw (t.lows, t.highs) at d
 
-  pub sweepable : Sweepable g links
+  pub sweepable : Sweepable g
   sweepable = record { few = c.few; few_rows = c.few_rows; back = λ i h. links_back i h }
 
 -- tightened in steps
@@ -189,22 +190,22 @@ module _ {counts links : List ℕ} {y : ℕ} where
         same z l q m b = ⊎_elim (λ w. absurd (empty l w)) (λ w. w) (v.left l (rw q at m) b)
 
 -- the question itself
-module _ {g : List (List ℕ)} {links : List ℕ} (c : Packed g links) {low high : List ℕ} where
-  pub none_of_empty : Empty low high (jobs_in g) → None (problem_in g links) (domains low high)
+module _ {g : InArrays} (c : Packed g) {low high : List ℕ} where
+  pub none_of_empty : Empty low high (jobs_in g) → None (problem_in g) (domains low high)
   none_of_empty e = none_empty c.proper (domains low high) e.job (omega (arith, e.is_job, c.jobs)) e.none
 
   pub none_of_sweep : {first end side tied : List ℕ} → Filled (side_by (rows_in g) low high) (jobs_in g) side → Filled (row_by low side 1024) (jobs_in g) first
-      → Filled (row_by high side 1025) (jobs_in g) end → Marked (counts_in g) links (jobs_in g) tied
-      → From (rules_in g links (first ∷ end ∷ side ∷ tied ∷ [])) (rows_in g) 0 (replicate 128 false) → None (problem_in g links) (domains low high)
+      → Filled (row_by high side 1025) (jobs_in g) end → Marked (counts_in g) g.links (jobs_in g) tied
+      → From (rules_in g (first ∷ end ∷ side ∷ tied ∷ [])) (rows_in g) 0 (replicate 128 false) → None (problem_in g) (domains low high)
   unfolding rules_in
   none_of_sweep {first} {end} {side} {tied} sides firsts ends ties e = none_swept c.proper stated 128 c.few e
     where
-      stated : Stated (problem_in g links) (domains low high) (jobs_of g links (first ∷ end ∷ side ∷ tied ∷ []))
+      stated : Stated (problem_in g) (domains low high) (jobs_of g (first ∷ end ∷ side ∷ tied ∷ []))
       stated = record {
         few_rows = c.few_rows;
         jobs = sym c.jobs;
         room = refl;
-        costs = λ i h. sym (get_or-take (jobs_in g) (part_in g 0) i 0 h);
+        costs = λ i h. sym (get_or-take (jobs_in g) g.cost i 0 h);
         sides = λ i h. sides.each i h;
         firsts = λ i h. firsts.each i h;
         ends = λ i h. ends.each i h;
@@ -212,13 +213,13 @@ module _ {g : List (List ℕ)} {links : List ℕ} (c : Packed g links) {low high
         ties = λ y i h m. marks y i h m;
       }
         where
-          marks : (y i : ℕ) → y < jobs_in g → Memᴰ (i + 128) (links_at (counts_in g) links y) → not (eqb (get_or tied i 0) 0) ≡ true
+          marks : (y i : ℕ) → y < jobs_in g → Memᴰ (i + 128) (links_at (counts_in g) g.links y) → not (eqb (get_or tied i 0) 0) ≡ true
           marks y i h m =
               let z : i + 128 - 128 ≡ i = omega arith in
               let t : get_or tied i 0 ≡ 1 = rw z at (ties.each y (i + 128) h m (omega arith)) in
               rw t refl
 
   -- with one job not carried, and carried
-  pub none_of_both : (i : ℕ) → None (problem_in g links) (domains low (set high i (rows_in g)))
-      → None (problem_in g links) (domains (set low i (rows_in g)) high) → None (problem_in g links) (domains low high)
+  pub none_of_both : (i : ℕ) → None (problem_in g) (domains low (set high i (rows_in g)))
+      → None (problem_in g) (domains (set low i (rows_in g)) high) → None (problem_in g) (domains low high)
   none_of_both i a b = none_split c.proper (domains low high) i a b

@@ -4,16 +4,17 @@ use Rattle.std.specs.Prelude.{◌≡◌, cond, ℕ, ◌-◌, ◌≤◌, ◌<◌,
 use mathlib.Core.List.{List, Memᴰ}
 use Rattle.search.specs.Placing.{Problem, links_at, Proper}
 use Rattle.searcher.specs.Arrays.{rows_in, jobs_in, problem_in}
+use Rattle.searcher.specs.declared.Problem.{Problem as InArrays}
 use Rattle.exact.specs.Domains.{Domains}
 use Rattle.exact.specs.Sided.{side_in, from_side}
 use Rattle.exact.specs.None.{None}
 
 -- what is given is one problem, of as many jobs and rows as the arrays have room for
-pub record Packed (g : List (List ℕ)) (links : List ℕ) : Type 0 where
+pub record Packed (g : InArrays) : Type 0 where
   pub few : jobs_in g ≤ 128
   pub few_rows : rows_in g ≤ 256
-  pub jobs : length (problem_in g links).cost ≡ jobs_in g
-  pub proper : Proper (problem_in g links)
+  pub jobs : length (problem_in g).cost ≡ jobs_in g
+  pub proper : Proper (problem_in g)
 
 -- the domains in two arrays
 abbrev pub domains : List ℕ → List ℕ → Domains

@@ -1,13 +1,14 @@
 // Arcs: rows that follow each other, round the cycle too. The jobs that must stand in some arc count too much for it, by their costs or by a step
 // function of them. Costs of at most f together count no more than a row holds, by every step.
 ghost use Rattle.std.specs.Prelude.{◌≡◌, true, ◌≤◌, ◌<◌, length};
-ghost use Rattle.searcher.specs.Arrays.{part_in, problem_in};
+ghost use Rattle.searcher.specs.Arrays.{problem_in};
 ghost use Rattle.exact.specs.None.{None};
 ghost use Rattle.exact.specs.Arcs.{step_of, room_of, last_in};
 ghost use Rattle.prune.specs.Arrays.{Packed, domains, Filled};
 ghost use Rattle.prune.specs.Arcs.{step_by, last_by, weight_by, Light, Needed, Over, SomeOver};
 
 use super::tighten::Domains;
+use searcher::Problem;
 
 // What cost c counts by step k, where a row holds f.
 fn weight(c: u16, f: u16, k: u16) -> u32
@@ -34,12 +35,12 @@ fn room_of(f: u16, k: u16) -> u32
 }
 
 // What the jobs count by step k.
-fn weights_of(given: &[[u16; 128]; 5], n: usize, f: u16, k: u16) -> [u32; 128]
+fn weights_of(problem: &Problem, n: usize, f: u16, k: u16) -> [u32; 128]
     requires { (n ≤ 128) × (0 < f) × (k ≤ 4) }
-    ensures { Filled (step_by f k (part_in given.now 0)) n result × Light result n }
+    ensures { Filled (step_by f k problem.now.cost) n result × Light result n }
 {
     let mut out = [0u32; 128];
-    for (i, c) in given[0][..n].iter().enumerate() {
+    for (i, c) in problem.cost[..n].iter().enumerate() {
         out[i] = weight(*c, f, k);
     }
     out
@@ -97,25 +98,25 @@ fn some_over(weights: &[u32], d: &Domains, rows: u16, room: u32) -> bool
 }
 
 // Whether some rows must hold too much by step k.
-fn is_full(given: &[[u16; 128]; 5], links: &[u8; 2048], d: &Domains, k: u16) -> bool
-    requires packed { Packed given.now links.now }
+fn is_full(problem: &Problem, d: &Domains, k: u16) -> bool
+    requires packed { Packed problem.now }
     requires k_bound { k ≤ 4 }
-    ensures { result ≡ true → None (problem_in given.now links.now) (domains d.now.low d.now.high) }
+    ensures { result ≡ true → None (problem_in problem.now) (domains d.now.low d.now.high) }
 {
-    let n = given[4][2] as usize;
-    let rows = given[4][0];
-    let f = given[4][1];
+    let n = problem.n;
+    let rows = problem.rows;
+    let f = problem.f;
     if f == 0 {
         return false;
     }
-    let weights = weights_of(given, n, f, k);
+    let weights = weights_of(problem, n, f, k);
     some_over(&weights[..n], d, rows, room_of(f, k))
 }
 
 // The same by any step up to 4.
-pub(super) fn some_full(given: &[[u16; 128]; 5], links: &[u8; 2048], d: &Domains) -> bool
-    requires { Packed given.now links.now }
-    ensures { result ≡ true → None (problem_in given.now links.now) (domains d.now.low d.now.high) }
+pub(super) fn some_full(problem: &Problem, d: &Domains) -> bool
+    requires { Packed problem.now }
+    ensures { result ≡ true → None (problem_in problem.now) (domains d.now.low d.now.high) }
 {
-    (0..=4).any(|k| is_full(given, links, d, k))
+    (0..=4).any(|k| is_full(problem, d, k))
 }

@@ -7,11 +7,11 @@ mod sides;
 mod tighten;
 
 ghost use Rattle.std.specs.Prelude.{◌≡◌, true, false, ◌+◌};
-ghost use Rattle.search.specs.Placing.{links_at};
 ghost use Rattle.searcher.specs.Arrays.{counts_in, jobs_in, problem_in, LinksBack};
 ghost use Rattle.exact.specs.None.{None};
 ghost use Rattle.prune.specs.Arrays.{Packed, domains, marked_by, Marked};
 
+use searcher::Problem;
 use tighten::Domains;
 
 // Marks the job that link l names, if it must not be earlier.
@@ -23,58 +23,43 @@ fn mark(out: &mut [u16; 128], l: u8)
     }
 }
 
-// The links of job i.
-fn links_of<'a>(given: &[[u16; 128]; 5], links: &'a [u8; 2048], i: usize) -> &'a [u8]
-    requires { LinksBack (counts_in given.now) links.now i }
-    ensures { result.now ≡ links_at (counts_in given.now) links.now i }
-{
-    let at = 16 * i;
-    &links[at..at + given[3][i] as usize]
-}
-
 // Marks the jobs that the links of job y name.
-fn mark_links(given: &[[u16; 128]; 5], links: &[u8; 2048], out: &mut [u16; 128], y: usize)
-    requires links_back { LinksBack (counts_in given.now) links.now y }
-    requires marked { Marked (counts_in given.now) links.now y out.old }
-    ensures { Marked (counts_in given.now) links.now (y + 1) out.new }
+fn mark_links(problem: &Problem, out: &mut [u16; 128], y: usize)
+    requires links_back { LinksBack (counts_in problem.now) problem.now.links y }
+    requires marked { Marked (counts_in problem.now) problem.now.links y out.old }
+    ensures { Marked (counts_in problem.now) problem.now.links (y + 1) out.new }
 {
-    for l in links_of(given, links, y) {
+    for l in problem.links_of(y) {
         mark(out, *l);
     }
 }
 
 // The jobs that a job with a higher number must not be later than.
-pub fn tied_jobs(given: &[[u16; 128]; 5], links: &[u8; 2048]) -> [u16; 128]
-    requires { Packed given.now links.now }
-    ensures { Marked (counts_in given.now) links.now (jobs_in given.now) result }
+pub fn tied_jobs(problem: &Problem) -> [u16; 128]
+    requires { Packed problem.now }
+    ensures { Marked (counts_in problem.now) problem.now.links (jobs_in problem.now) result }
 {
-    let n = given[4][2] as usize;
+    let n = problem.n;
     let mut out = [0u16; 128];
     for y in 0..n {
-        mark_links(given, links, &mut out, y);
+        mark_links(problem, &mut out, y);
     }
     out
 }
 
 // Whether some arc must hold too much, so that the domains hold no placing.
-pub fn is_crowded(
-    given: &[[u16; 128]; 5],
-    links: &[u8; 2048],
-    low: [u16; 128],
-    high: [u16; 128],
-) -> bool
-    requires { Packed given.now links.now }
-    ensures { result ≡ true → None (problem_in given.now links.now) (domains low high) }
+pub fn is_crowded(problem: &Problem, low: [u16; 128], high: [u16; 128]) -> bool
+    requires { Packed problem.now }
+    ensures { result ≡ true → None (problem_in problem.now) (domains low high) }
 {
     let mut d = Domains { low, high };
-    d.tighten(given, links);
-    arcs::some_full(given, links, &d)
+    d.tighten(problem);
+    arcs::some_full(problem, &d)
 }
 
 // Whether the domains may hold a placing. At most `depth` jobs are made sided. `words` is the sweep's, and `found` gets the rows of its last answer.
 pub fn may(
-    given: &[[u16; 128]; 5],
-    links: &[u8; 2048],
+    problem: &Problem,
     tied: [u16; 128],
     found: &mut [u16; 128],
     words: &mut [u64],
@@ -82,20 +67,20 @@ pub fn may(
     high: [u16; 128],
     depth: u16,
 ) -> bool
-    requires packed { Packed given.now links.now }
-    requires marked { Marked (counts_in given.now) links.now (jobs_in given.now) tied }
-    ensures { result ≡ false → None (problem_in given.now links.now) (domains low high) }
+    requires packed { Packed problem.now }
+    requires marked { Marked (counts_in problem.now) problem.now.links (jobs_in problem.now) tied }
+    ensures { result ≡ false → None (problem_in problem.now) (domains low high) }
 {
-    let n = given[4][2] as usize;
-    let rows = given[4][0];
+    let n = problem.n;
+    let rows = problem.rows;
     let mut d = Domains { low, high };
-    d.tighten(given, links);
+    d.tighten(problem);
     if d.is_empty(n) {
         return false;
     }
     let (sides, firsts, ends) = sides::rows_of(&d, n, rows);
     let swept = [firsts, ends, sides, tied];
-    if !sweep::sweep(given, links, &swept, found, words) {
+    if !sweep::sweep(problem, &swept, found, words) {
         return false;
     }
     if depth == 0 {
@@ -106,9 +91,9 @@ pub fn may(
     };
     let mut e = d.high;
     e[i] = rows;
-    if may(given, links, tied, found, words, d.low, e, depth - 1) {
+    if may(problem, tied, found, words, d.low, e, depth - 1) {
         return true;
     }
     d.low[i] = rows;
-    may(given, links, tied, found, words, d.low, d.high, depth - 1)
+    may(problem, tied, found, words, d.low, d.high, depth - 1)
 }

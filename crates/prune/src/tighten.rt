@@ -3,6 +3,8 @@ ghost use Rattle.std.specs.Prelude.{◌≡◌, true, ◌≤◌, ◌<◌, set};
 ghost use Rattle.searcher.specs.Arrays.{jobs_in, problem_in};
 ghost use Rattle.prune.specs.Arrays.{Packed, domains, Tied, Linked, Tightened, Empty};
 
+use searcher::Problem;
+
 // Moves frame i to v; says whether it was another.
 fn moves(frames: &mut [u16; 128], i: usize, v: u16) -> bool
     requires { i < 128 }
@@ -43,41 +45,41 @@ impl Domains {
     }
 
     // What the links of job i say.
-    fn tie_links(&mut self, given: &[[u16; 128]; 5], links: &[u8; 2048], i: usize) -> bool
-        requires packed { Packed given.now links.now }
-        requires i_bound { i < jobs_in given.now }
-        ensures { Tightened (problem_in given.now links.now)
+    fn tie_links(&mut self, problem: &Problem, i: usize) -> bool
+        requires packed { Packed problem.now }
+        requires i_bound { i < jobs_in problem.now }
+        ensures { Tightened (problem_in problem.now)
             (domains self.old.low self.old.high) (domains self.new.low self.new.high) }
     {
         let mut moved = false;
-        for l in super::links_of(given, links, i) {
+        for l in problem.links_of(i) {
             moved |= self.tie_link(i, *l);
         }
         moved
     }
 
     // What the links of all jobs say, once.
-    fn pass(&mut self, given: &[[u16; 128]; 5], links: &[u8; 2048]) -> bool
-        requires { Packed given.now links.now }
-        ensures { Tightened (problem_in given.now links.now)
+    fn pass(&mut self, problem: &Problem) -> bool
+        requires { Packed problem.now }
+        ensures { Tightened (problem_in problem.now)
             (domains self.old.low self.old.high) (domains self.new.low self.new.high) }
     {
-        let n = given[4][2] as usize;
+        let n = problem.n;
         let mut moved = false;
         for i in 0..n {
-            moved |= self.tie_links(given, links, i);
+            moved |= self.tie_links(problem, i);
         }
         moved
     }
 
     // The same until nothing moves, at most 16 times.
-    pub(super) fn tighten(&mut self, given: &[[u16; 128]; 5], links: &[u8; 2048])
-        requires { Packed given.now links.now }
-        ensures { Tightened (problem_in given.now links.now)
+    pub(super) fn tighten(&mut self, problem: &Problem)
+        requires { Packed problem.now }
+        ensures { Tightened (problem_in problem.now)
             (domains self.old.low self.old.high) (domains self.new.low self.new.high) }
     {
         for _ in 0..16 {
-            if !self.pass(given, links) {
+            if !self.pass(problem) {
                 return;
             }
         }

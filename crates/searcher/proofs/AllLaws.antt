@@ -14,6 +14,7 @@ use Rattle.search.specs.Placing.{plan_walk, Problem, problem, Proper}
 use Rattle.search.specs.LoadLaws.{loads_empty}
 use Rattle.searcher.specs.Arrays.{Placeable, problem_from, problem_of, jobs_in, problem_in, placed_answer, placed_within, Placing, Tried, TriedJob}
 use Rattle.searcher.specs.declared.Given.{Given}
+use Rattle.searcher.specs.declared.Problem.{Problem as InArrays}
 use Rattle.searcher.specs.declared.Placed.{Placed}
 use Rattle.searcher.specs.declared.Placed.TheVariants.{At, Nowhere, OutOfTries}
 use Rattle.searcher.specs.declared.Attempt.{Attempt}
@@ -45,9 +46,9 @@ module _ {g : Given} (p : Placeable g) where
       (same_costs costs_are)
 
   -- so the search begins with it
-  module _ (packed : List (List ℕ)) (same : (problem_in packed g.links ≡ problem_of g) × (jobs_in packed ≡ g.n)) where
+  module _ (packed : InArrays) (same : (problem_in packed ≡ problem_of g) × (jobs_in packed ≡ g.n)) where
     abbrev x : Problem
-    x = problem_in packed g.links
+    x = problem_in packed
 
     abbrev n : ℕ
     n = jobs_in packed

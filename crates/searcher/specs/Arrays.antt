@@ -1,12 +1,13 @@
 -- What the search is given in arrays: the problem that they stand for, and what its functions require and ensure. A placing has the first n
 -- entries of the array of frames, one for each job. Assumes nothing.
 use Rattle.std.specs.Prelude.{◌≡◌, ℕ, ◌+◌, ◌-◌, ◌*◌, ◌≤◌, ◌<◌, ◌%◌, cond, length, get_or, take, drop, ltb}
-use mathlib.Core.List.{List, [], Memᴰ}
+use mathlib.Core.List.{List, Memᴰ}
 use Rattle.cursor.specs.Padded.{padded}
 use Rattle.search.specs.Search.{Found, none, at, Walk}
 use Rattle.search.specs.Counting.{attempt_walk}
 use Rattle.search.specs.Placing.{plan_walk, Problem, problem, links_at, partner, Bounds, Proper, LoadsKept}
 use Rattle.searcher.specs.declared.Given.{Given}
+use Rattle.searcher.specs.declared.Problem.{Problem as InArrays}
 use Rattle.searcher.specs.declared.Placed.{Placed}
 use Rattle.searcher.specs.declared.Placed.TheVariants.{At, Nowhere, OutOfTries}
 use Rattle.searcher.specs.declared.Attempt.{Attempt}
@@ -42,23 +43,20 @@ placed_answer none left = Nowhere left
 unfoldable pub placed_within : ℕ → Walk → Placed
 placed_within a w = cond (ltb a w.tries) OutOfTries (placed_answer w.found (a - w.tries))
 
--- what is given in one array: its parts
-abbrev pub part_in : List (List ℕ) → ℕ → List ℕ
-part_in g j = get_or g j []
-
-abbrev pub counts_in : List (List ℕ) → List ℕ
-counts_in g = part_in g 3
+-- as it is packed: how many links each job has
+abbrev pub counts_in : InArrays → List ℕ
+counts_in g = g.counts
 
 -- the number of rows, and the number of jobs
-abbrev pub rows_in : List (List ℕ) → ℕ
-rows_in g = get_or (part_in g 4) 0 0
+abbrev pub rows_in : InArrays → ℕ
+rows_in g = g.rows
 
-abbrev pub jobs_in : List (List ℕ) → ℕ
-jobs_in g = get_or (part_in g 4) 2 0
+abbrev pub jobs_in : InArrays → ℕ
+jobs_in g = g.n
 
--- the problem that it gives, with the links
-abbrev pub problem_in : List (List ℕ) → List ℕ → Problem
-problem_in g links = problem_from (part_in g 0) (part_in g 1) (part_in g 2) (counts_in g) links (jobs_in g) (rows_in g) (get_or (part_in g 4) 1 0)
+-- the problem that it gives
+abbrev pub problem_in : InArrays → Problem
+problem_in g = problem_from g.cost g.first g.end (counts_in g) g.links (jobs_in g) (rows_in g) g.f
 
 -- the links of job i have their places, and each names an earlier job
 pub record LinksBack (counts links : List ℕ) (i : ℕ) : Type 0 where

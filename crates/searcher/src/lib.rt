@@ -6,10 +6,8 @@
 // `left` is the number of tries that are left: one try is one job tested in one frame of its window, passed over or not. `place_job` and `try_frame`
 // answer by an `Attempt`.
 //
-// `pack` puts all that is given but the links into one array, so that `place_job`, the call that goes deeper, has six arguments. Its parts are the
-// jobs' costs, the first frames of their windows, the frames where these end, and the numbers of their links; the last part has the number of rows,
-// the length of a frame and the number of jobs.
-ghost use Rattle.std.specs.Prelude.{◌≡◌, [], ◌+◌, ◌<◌, ◌%◌, take, get_or};
+// `pack` makes of what is given the problem that the search lends on: the same, with each cost in two bytes.
+ghost use Rattle.std.specs.Prelude.{◌≡◌, [], ◌+◌, ◌<◌, ◌%◌, take};
 ghost use Rattle.cursor.specs.Padded.{padded};
 ghost use Rattle.search.specs.Placing.{raise, lower, links_at, earliest, latest, has_room, fits, plan_walk};
 ghost use Rattle.searcher.specs.Arrays.{Small, Placeable, problem_of, jobs_in, counts_in, problem_in, LinksBack, Placing, Testing, TriedJob, TriedFrame, placed_within};
@@ -26,6 +24,30 @@ pub struct Given {
     pub n: usize,
     pub rows: u16,
     pub f: u16,
+}
+
+// The same where each cost fits into two bytes, as `pack` leaves it. Not one generic struct with `Given`: such a struct has no array of its parameter.
+#[derive(Clone, Copy)]
+pub struct Problem {
+    pub cost: [u16; 128],
+    pub first: [u16; 128],
+    pub end: [u16; 128],
+    pub counts: [u16; 128],
+    pub links: [u8; 2048],
+    pub n: usize,
+    pub rows: u16,
+    pub f: u16,
+}
+
+impl Problem {
+    // The links of job i.
+    pub fn links_of(&self, i: usize) -> &[u8]
+        requires { LinksBack (counts_in self.now) self.now.links i }
+        ensures { result.now ≡ links_at (counts_in self.now) self.now.links i }
+    {
+        let from = 16 * i;
+        &self.links[from..from + self.counts[i] as usize]
+    }
 }
 
 // The frame of each job; or that there is no placing; or that finding out takes more tries than are allowed. And how many tries are left of those
@@ -58,34 +80,21 @@ fn narrow(xs: &[u32]) -> [u16; 128]
     out
 }
 
-// What is given, in one array: the problem is the same.
-pub fn pack(given: Given) -> [[u16; 128]; 5]
+// What is given, with its costs in two bytes: the problem is the same.
+pub fn pack(given: Given) -> Problem
     requires { Placeable given }
-    ensures { (problem_in result given.links ≡ problem_of given) × (jobs_in result ≡ given.n) }
+    ensures { (problem_in result ≡ problem_of given) × (jobs_in result ≡ given.n) }
 {
-    let costs = narrow(&given.cost[..given.n]);
-    let mut sizes = [0u16; 128];
-    sizes[0] = given.rows;
-    sizes[1] = given.f;
-    sizes[2] = given.n as u16;
-    [costs, given.first, given.end, given.counts, sizes]
-}
-
-// Entry i of part j. A function, because the prover knows the range of a returned u16 but not of one read from the array.
-pub fn entry(given: &[[u16; 128]; 5], j: usize, i: usize) -> u16
-    requires { (j < 5) × (i < 128) }
-    ensures { result ≡ get_or (get_or given.now j []) i 0 }
-{
-    given[j][i]
-}
-
-// The links of job i.
-fn links_of<'a>(given: &[[u16; 128]; 5], links: &'a [u8; 2048], i: usize) -> &'a [u8]
-    requires { LinksBack (counts_in given.now) links.now i }
-    ensures { result.now ≡ links_at (counts_in given.now) links.now i }
-{
-    let from = 16 * i;
-    &links[from..from + given[3][i] as usize]
+    Problem {
+        cost: narrow(&given.cost[..given.n]),
+        first: given.first,
+        end: given.end,
+        counts: given.counts,
+        links: given.links,
+        n: given.n,
+        rows: given.rows,
+        f: given.f,
+    }
 }
 
 // The earliest frame that is left by `low` and by link l.
@@ -111,21 +120,23 @@ fn lowered(place: &[u16; 128], l: u8, high: u16) -> u16
 }
 
 // The earliest frame that the links of job i leave it.
-pub fn lower_bound(given: &[[u16; 128]; 5], links: &[u8; 2048], place: &[u16; 128], i: usize) -> u16
-    requires { LinksBack (counts_in given.now) links.now i }
-    ensures { result ≡ earliest (take i place.now) (links_at (counts_in given.now) links.now i) }
+pub fn lower_bound(problem: &Problem, place: &[u16; 128], i: usize) -> u16
+    requires { LinksBack (counts_in problem.now) problem.now.links i }
+    ensures { result ≡ earliest (take i place.now) (links_at (counts_in problem.now) problem.now.links i) }
 {
-    links_of(given, links, i)
+    problem
+        .links_of(i)
         .iter()
         .fold(0, |low, l| raised(place, *l, low))
 }
 
 // The latest frame that the links of job i leave it.
-pub fn upper_bound(given: &[[u16; 128]; 5], links: &[u8; 2048], place: &[u16; 128], i: usize) -> u16
-    requires { LinksBack (counts_in given.now) links.now i }
-    ensures { result ≡ latest (take i place.now) (links_at (counts_in given.now) links.now i) }
+pub fn upper_bound(problem: &Problem, place: &[u16; 128], i: usize) -> u16
+    requires { LinksBack (counts_in problem.now) problem.now.links i }
+    ensures { result ≡ latest (take i place.now) (links_at (counts_in problem.now) problem.now.links i) }
 {
-    links_of(given, links, i)
+    problem
+        .links_of(i)
         .iter()
         .fold(65535, |high, l| lowered(place, *l, high))
 }
@@ -139,8 +150,7 @@ fn has_room(load: u16, f: u16, cost: u16) -> bool
 
 // The test of job i in frame k: its row has room for it by the row's kept load, and its links leave it the frames from `low` to `high`.
 pub fn may_stand(
-    given: &[[u16; 128]; 5],
-    links: &[u8; 2048],
+    problem: &Problem,
     place: &[u16; 128],
     load: &[u16; 256],
     i: usize,
@@ -149,10 +159,10 @@ pub fn may_stand(
     low: u16,
     high: u16,
 ) -> bool
-    requires { Testing (problem_in given.now links.now) (jobs_in given.now) place.now load.now i k row low high }
-    ensures { result ≡ fits (problem_in given.now links.now) (take i place.now) k }
+    requires { Testing (problem_in problem.now) (jobs_in problem.now) place.now load.now i k row low high }
+    ensures { result ≡ fits (problem_in problem.now) (take i place.now) k }
 {
-    has_room(load[row], given[4][1], given[0][i]) && (low..=high).contains(&k)
+    has_room(load[row], problem.f, problem.cost[i]) && (low..=high).contains(&k)
 }
 
 // The row of the frame after one in this row.
@@ -169,29 +179,28 @@ pub fn next_row(row: usize, rows: u16) -> usize
 // Places job i and those after it: tries the frames of its window, the earliest first. The jobs before i stay as they stand.
 #[cycle(place_job_try_frame)]
 fn place_job(
-    given: &[[u16; 128]; 5],
-    links: &[u8; 2048],
+    problem: &Problem,
     place: &mut [u16; 128],
     load: &mut [u16; 256],
     left: &mut u64,
     i: usize,
 ) -> Attempt
-    requires { Placing (problem_in given.now links.now) (jobs_in given.now) place.old load.old i }
-    ensures { TriedJob (problem_in given.now links.now) (jobs_in given.now)
+    requires { Placing (problem_in problem.now) (jobs_in problem.now) place.old load.old i }
+    ensures { TriedJob (problem_in problem.now) (jobs_in problem.now)
         place.old load.old i left.old result place.new load.new left.new }
 {
-    let n = given[4][2] as usize;
+    let n = problem.n;
     if i == n {
         return Attempt::Done;
     }
-    let low = lower_bound(given, links, place, i);
-    let high = upper_bound(given, links, place, i);
-    let rows = given[4][0];
-    let first = given[1][i];
-    let end = entry(given, 2, i);
+    let low = lower_bound(problem, place, i);
+    let high = upper_bound(problem, place, i);
+    let rows = problem.rows;
+    let first = problem.first[i];
+    let end = problem.end[i];
     let mut row = (first % rows) as usize;
     for k in first..end {
-        match try_frame(given, links, place, load, left, i, k, row, low, high) {
+        match try_frame(problem, place, load, left, i, k, row, low, high) {
             Attempt::Failed => row = next_row(row, rows),
             end => return end,
         }
@@ -203,8 +212,7 @@ fn place_job(
 // to `high`.
 #[cycle(place_job_try_frame)]
 fn try_frame(
-    given: &[[u16; 128]; 5],
-    links: &[u8; 2048],
+    problem: &Problem,
     place: &mut [u16; 128],
     load: &mut [u16; 256],
     left: &mut u64,
@@ -214,22 +222,22 @@ fn try_frame(
     low: u16,
     high: u16,
 ) -> Attempt
-    requires { Testing (problem_in given.now links.now) (jobs_in given.now) place.old load.old i k row low high }
-    ensures { TriedFrame (problem_in given.now links.now) (jobs_in given.now)
+    requires { Testing (problem_in problem.now) (jobs_in problem.now) place.old load.old i k row low high }
+    ensures { TriedFrame (problem_in problem.now) (jobs_in problem.now)
         place.old load.old i k left.old result place.new load.new left.new }
 {
     if *left < 1 {
         return Attempt::Stopped;
     }
-    let stands = may_stand(given, links, place, load, i, k, row, low, high);
+    let stands = may_stand(problem, place, load, i, k, row, low, high);
     *left -= 1;
     if !stands {
         return Attempt::Failed;
     }
     let l = load[row];
-    load[row] = l + given[0][i];
+    load[row] = l + problem.cost[i];
     place[i] = k;
-    match place_job(given, links, place, load, left, i + 1) {
+    match place_job(problem, place, load, left, i + 1) {
         Attempt::Failed => load[row] = l,
         end => return end,
     }
@@ -241,12 +249,11 @@ pub fn place_all(given: Given, allowed: u64) -> Placed
     requires { Placeable given }
     ensures { result ≡ placed_within allowed (plan_walk (problem_of given) []) }
 {
-    let packed = pack(given);
-    let links = given.links;
+    let problem = pack(given);
     let mut frames = [0u16; 128];
     let mut load = [0u16; 256];
     let mut left = allowed;
-    match place_job(&packed, &links, &mut frames, &mut load, &mut left, 0) {
+    match place_job(&problem, &mut frames, &mut load, &mut left, 0) {
         Attempt::Done => Placed::At { frames, left },
         Attempt::Failed => Placed::Nowhere { left },
         Attempt::Stopped => Placed::OutOfTries,

@@ -15,13 +15,13 @@ use lib.Pow.{shr-shr, shl-shr, shl_exact}
 use borrow.Author.Tests.{ltb-true, ltb-false, eqb-true, eqb-false}
 use Rattle.exact.specs.Sweep.{Rules, skips}
 use Rattle.exact.specs.Words.{word, word_at}
-use Rattle.searcher.specs.Arrays.{part_in}
-use Rattle.sweep.specs.Arrays.{rules_in, bit, with_bit, Begun, Beginning, Unfree}
+use Rattle.searcher.specs.declared.Problem.{Problem as InArrays}
+use Rattle.sweep.specs.Arrays.{part_in, rules_in, bit, with_bit, Begun, Beginning, Unfree}
 
 -- the first row of a job
-pub first_of : (g : List (List ℕ)) (links : List ℕ) (s : List (List ℕ)) (i : ℕ) → (rules_in g links s).first i ≡ get_or (part_in s 0) i 0
+pub first_of : (g : InArrays) (s : List (List ℕ)) (i : ℕ) → (rules_in g s).first i ≡ get_or (part_in s 0) i 0
 unfolding rules_in
-first_of g links s i = refl
+first_of g s i = refl
 
 -- the bits of the half
 half_bit : (n j : ℕ) → bit n (suc j) ≡ bit (n / 2) j
@@ -188,8 +188,8 @@ module _ {u : Rules} {rows n : ℕ} {ws : List ℕ} where
     }
 
 -- jobs without a free bit are passed over
-module _ (g : List (List ℕ)) (links : List ℕ) (s : List (List ℕ)) (ps : List Bool) (p : ℕ) where
-  passed_by : (i : ℕ) → ((rules_in g links s).first i ≤ p → get_or ps i false ≡ true) → skips (rules_in g links s) p ps i ≡ true
+module _ (g : InArrays) (s : List (List ℕ)) (ps : List Bool) (p : ℕ) where
+  passed_by : (i : ℕ) → ((rules_in g s).first i ≤ p → get_or ps i false ≡ true) → skips (rules_in g s) p ps i ≡ true
   unfolding rules_in
   passed_by i has = go (ltb p (get_or (part_in s 0) i 0)) refl
     where
@@ -197,38 +197,38 @@ module _ (g : List (List ℕ)) (links : List ℕ) (s : List (List ℕ)) (ps : Li
       go true t = rw t (or-true (get_or ps i false))
       go false t = rw (has (ltb-false p (get_or (part_in s 0) i 0) t))
 
-  module _ {rows : ℕ} {ws : List ℕ} (b : Begun (rules_in g links s) rows ws) (row : p < rows) {w i j : ℕ} where
+  module _ {rows : ℕ} {ws : List ℕ} (b : Begun (rules_in g s) rows ws) (row : p < rows) {w i j : ℕ} where
     pub low_passed : w ≡ word_at ps 0 → Unfree (get_or ws (2 * p) 0) w i j
-        → (y : ℕ) → i ≤ y → y < j → y < 64 → y < (rules_in g links s).n → skips (rules_in g links s) p ps y ≡ true
+        → (y : ℕ) → i ≤ y → y < j → y < 64 → y < (rules_in g s).n → skips (rules_in g s) p ps y ≡ true
     low_passed e un y le lt low job =
         let z : 0 + y ≡ y = omega arith in
         passed_by y (λ f. subst (λ (x : ℕ). get_or ps x false ≡ true) z (word_flag ps 0 y low (rw e at (un y le lt (has f)))))
       where
-        has : (rules_in g links s).first y ≤ p → bit (get_or ws (2 * p) 0) y ≡ 1
+        has : (rules_in g s).first y ≤ p → bit (get_or ws (2 * p) 0) y ≡ 1
         has f =
             let k : 2 * p + y / 64 ≡ 2 * p = omega arith in
             let t : y % 64 ≡ y = omega arith in
             rw (k, t) at (b.each p y row job f)
 
     pub high_passed : w ≡ word_at ps 64 → Unfree (get_or ws (2 * p + 1) 0) w i j
-        → (y : ℕ) → 64 + i ≤ y → y < 64 + j → y < 128 → y < (rules_in g links s).n → skips (rules_in g links s) p ps y ≡ true
+        → (y : ℕ) → 64 + i ≤ y → y < 64 + j → y < 128 → y < (rules_in g s).n → skips (rules_in g s) p ps y ≡ true
     high_passed e un y le lt high job =
         let z : 64 + (y - 64) ≡ y = omega arith in
         passed_by y (λ f. subst (λ (x : ℕ). get_or ps x false ≡ true) z
         (word_flag ps 64 (y - 64) (omega arith) (rw e at (un (y - 64) (omega arith) (omega arith) (has f)))))
       where
-        has : (rules_in g links s).first y ≤ p → bit (get_or ws (2 * p + 1) 0) (y - 64) ≡ 1
+        has : (rules_in g s).first y ≤ p → bit (get_or ws (2 * p + 1) 0) (y - 64) ≡ 1
         has f =
             let k : 2 * p + y / 64 ≡ 2 * p + 1 = omega arith in
             let t : y % 64 ≡ y - 64 = omega arith in
             rw (k, t) at (b.each p y row job f)
 
-  pub both_passed : {rows : ℕ} {ws : List ℕ} → Begun (rules_in g links s) rows ws → p < rows → {v w i j k : ℕ} → v ≡ word_at ps 0 → w ≡ word_at ps 64
+  pub both_passed : {rows : ℕ} {ws : List ℕ} → Begun (rules_in g s) rows ws → p < rows → {v w i j k : ℕ} → v ≡ word_at ps 0 → w ≡ word_at ps 64
       → Unfree (get_or ws (2 * p) 0) v i j → 64 ≤ j → Unfree (get_or ws (2 * p + 1) 0) w 0 k
-      → (y : ℕ) → i ≤ y → y < 64 + k → y < 128 → y < (rules_in g links s).n → skips (rules_in g links s) p ps y ≡ true
+      → (y : ℕ) → i ≤ y → y < 64 + k → y < 128 → y < (rules_in g s).n → skips (rules_in g s) p ps y ≡ true
   both_passed b row d e lows all highs y le lt few job = go (ltb y 64) refl
     where
-      go : (c : Bool) → ltb y 64 ≡ c → skips (rules_in g links s) p ps y ≡ true
+      go : (c : Bool) → ltb y 64 ≡ c → skips (rules_in g s) p ps y ≡ true
       go true t =
           let h : y < 64 = ltb-true y 64 t in
           low_passed b row d lows y le (omega arith) h job

@@ -13,20 +13,20 @@ use borrow.Author.Tests.{leb-true, leb-false, eq-eqb, ne_eqb, eqb-true, eqb-fals
 use Rattle.exact.specs.Sweep.{Rules, sum, waiting, From}
 use Rattle.exact.specs.Intervals.{sum_snoc, due_at, waiting_more}
 use Rattle.exact.specs.SweepLaws.{row_late}
-use Rattle.searcher.specs.Arrays.{part_in}
-use Rattle.sweep.specs.Arrays.{rules_in, due_share, Due, added_at, taken_at}
+use Rattle.searcher.specs.declared.Problem.{Problem as InArrays}
+use Rattle.sweep.specs.Arrays.{part_in, rules_in, due_share, Due, added_at, taken_at}
 
 -- the rules' ends and costs
-module _ (g : List (List ℕ)) (links : List ℕ) (s : List (List ℕ)) (i : ℕ) where
-  pub end_of : (rules_in g links s).end i ≡ get_or (part_in s 1) i 0
+module _ (g : InArrays) (s : List (List ℕ)) (i : ℕ) where
+  pub end_of : (rules_in g s).end i ≡ get_or (part_in s 1) i 0
   unfolding rules_in
   end_of = refl
 
-  pub cost_of_lem : (rules_in g links s).cost i ≡ get_or (part_in g 0) i 0
+  pub cost_of_lem : (rules_in g s).cost i ≡ get_or g.cost i 0
   unfolding rules_in
   cost_of_lem = refl
 
-  pub sided_of : (rules_in g links s).sided i ≡ true
+  pub sided_of : (rules_in g s).sided i ≡ true
   unfolding rules_in
   sided_of = refl
 

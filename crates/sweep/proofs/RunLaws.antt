@@ -11,7 +11,8 @@ use native.Mathlib.Nat.{eq-or-lt_of_le}
 use native.Mathlib.Omega.{arith}
 use lib.ListN.{length, get_or, set, replicate, length-set, length-replicate}
 use lib.Seq.{set-set, set-get_or}
-use Rattle.searcher.specs.Arrays.{part_in, jobs_in}
+use Rattle.searcher.specs.Arrays.{jobs_in}
+use Rattle.searcher.specs.declared.Problem.{Problem as InArrays}
 use Rattle.exact.specs.Sweep.{Rules, any_below, more, skips, leaves, From, Rest, Ordered, Fewer}
 use Rattle.exact.specs.WitnessLaws.{ordered_first, ordered_put, from_fewer}
 use Rattle.exact.specs.SweepLaws.{Putting, row_begun, rest_full, rest_next, rest_skip, rest_stuck, rest_left}
@@ -21,12 +22,12 @@ use Rattle.sweep.specs.Arrays.{rules_in, Next, Due, added_at, taken_at, Going, F
 use Rattle.sweep.proofs.LateLaws.{due_has, due_taken, due_restored}
 
 -- the rules' numbers
-module _ (g : List (List ℕ)) (links : List ℕ) (s : List (List ℕ)) where
-  pub n_is : (rules_in g links s).n ≡ jobs_in g
+module _ (g : InArrays) (s : List (List ℕ)) where
+  pub n_is : (rules_in g s).n ≡ jobs_in g
   unfolding rules_in
   n_is = refl
 
-  pub f_is : (rules_in g links s).f ≡ get_or (part_in g 4) 1 0
+  pub f_is : (rules_in g s).f ≡ g.f
   unfolding rules_in
   f_is = refl
 

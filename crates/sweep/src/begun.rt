@@ -6,6 +6,8 @@ ghost use Rattle.exact.specs.Sweep.{skips};
 ghost use Rattle.exact.specs.Words.{word_at};
 ghost use Rattle.sweep.specs.Arrays.{rules_in, Sweepable, Begun, Beginning, Unfree, with_bit};
 
+use searcher::Problem;
+
 // Sets bit j of word k.
 fn add_bit(begun: &mut [u64; 512], k: usize, j: usize)
     requires { (k < 512) × (j < 64) }
@@ -15,19 +17,14 @@ fn add_bit(begun: &mut [u64; 512], k: usize, j: usize)
 }
 
 // Each job has its bit in its first row.
-fn in_first_rows(
-    given: &[[u16; 128]; 5],
-    links: &[u8; 2048],
-    swept: &[[u16; 128]; 4],
-    begun: &mut [u64; 512],
-)
-    requires sweepable { Sweepable given.now links.now }
+fn in_first_rows(problem: &Problem, swept: &[[u16; 128]; 4], begun: &mut [u64; 512])
+    requires sweepable { Sweepable problem.now }
     requires begun_len { length begun.old ≡ 512 }
-    ensures { Beginning (rules_in given.now links.now swept.now) (rows_in given.now)
-        (jobs_in given.now) 0 begun.new }
+    ensures { Beginning (rules_in problem.now swept.now) (rows_in problem.now)
+        (jobs_in problem.now) 0 begun.new }
 {
-    let rows = given[4][0];
-    let n = given[4][2] as usize;
+    let rows = problem.rows;
+    let n = problem.n;
     for (i, &row) in swept[0][..n].iter().enumerate() {
         if row < rows {
             add_bit(begun, 2 * (row as usize) + i / 64, i % 64);
@@ -36,17 +33,13 @@ fn in_first_rows(
 }
 
 // Each job has its bit in its first row and in all after it.
-pub(super) fn begun_of(
-    given: &[[u16; 128]; 5],
-    links: &[u8; 2048],
-    swept: &[[u16; 128]; 4],
-) -> [u64; 512]
-    requires { Sweepable given.now links.now }
-    ensures { Begun (rules_in given.now links.now swept.now) (rows_in given.now) result }
+pub(super) fn begun_of(problem: &Problem, swept: &[[u16; 128]; 4]) -> [u64; 512]
+    requires { Sweepable problem.now }
+    ensures { Begun (rules_in problem.now swept.now) (rows_in problem.now) result }
 {
     let mut begun = [0u64; 512];
-    in_first_rows(given, links, swept, &mut begun);
-    let end = 2 * (given[4][0] as usize);
+    in_first_rows(problem, swept, &mut begun);
+    let end = 2 * (problem.rows as usize);
     for k in 2..end {
         begun[k] |= begun[k - 2];
     }
@@ -64,8 +57,7 @@ fn free_place(begun: u64, put: u64, i: usize) -> usize
 
 // Jobs from job i on up to the answer are passed over in row p.
 pub(super) fn first_free(
-    given: &[[u16; 128]; 5],
-    links: &[u8; 2048],
+    problem: &Problem,
     swept: &[[u16; 128]; 4],
     begun: &[u64; 512],
     flags: &[bool; 128],
@@ -74,11 +66,11 @@ pub(super) fn first_free(
     p: u16,
     i: usize,
 ) -> usize
-    requires sweepable { Sweepable given.now links.now }
-    requires begun { Begun (rules_in given.now links.now swept.now) (rows_in given.now) begun.now }
-    requires p_bound { (p < rows_in given.now) × (i < 128) × (low ≡ word_at flags.now 0) × (high ≡ word_at flags.now 64) }
-    ensures { (i ≤ result) × ((y : ℕ) → i ≤ y → y < result → y < jobs_in given.now
-        → skips (rules_in given.now links.now swept.now) p flags.now y ≡ true) }
+    requires sweepable { Sweepable problem.now }
+    requires begun { Begun (rules_in problem.now swept.now) (rows_in problem.now) begun.now }
+    requires p_bound { (p < rows_in problem.now) × (i < 128) × (low ≡ word_at flags.now 0) × (high ≡ word_at flags.now 64) }
+    ensures { (i ≤ result) × ((y : ℕ) → i ≤ y → y < result → y < jobs_in problem.now
+        → skips (rules_in problem.now swept.now) p flags.now y ≡ true) }
 {
     let k = 2 * (p as usize);
     if i >= 64 {

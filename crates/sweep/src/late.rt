@@ -5,6 +5,8 @@ ghost use Rattle.searcher.specs.Arrays.{rows_in, jobs_in};
 ghost use Rattle.exact.specs.Sweep.{From};
 ghost use Rattle.sweep.specs.Arrays.{rules_in, Sweepable, Due, added_at, taken_at};
 
+use searcher::Problem;
+
 // Adds c at place e, if there is one.
 pub(super) fn add_at(due: &mut [u32; 257], e: u16, c: u16)
     requires { get_or due.old e 0 + c ≤ 4294967295 }
@@ -29,18 +31,14 @@ pub(super) fn take_at(due: &mut [u32; 257], e: u16, c: u16, reach: u16) -> u16
 }
 
 // What the jobs take, where none has a row yet.
-pub(super) fn due_times(
-    given: &[[u16; 128]; 5],
-    links: &[u8; 2048],
-    swept: &[[u16; 128]; 4],
-) -> [u32; 257]
-    requires { Sweepable given.now links.now }
-    ensures { Due (rules_in given.now links.now swept.now) (replicate 128 false) (jobs_in given.now) result }
+pub(super) fn due_times(problem: &Problem, swept: &[[u16; 128]; 4]) -> [u32; 257]
+    requires { Sweepable problem.now }
+    ensures { Due (rules_in problem.now swept.now) (replicate 128 false) (jobs_in problem.now) result }
 {
-    let n = given[4][2] as usize;
+    let n = problem.n;
     let mut due = [0u32; 257];
     for i in 0..n {
-        add_at(&mut due, swept[1][i], given[0][i]);
+        add_at(&mut due, swept[1][i], problem.cost[i]);
     }
     due
 }
@@ -59,8 +57,7 @@ fn stop_row(rows: u16, p: u16, space: u16, reach: u16) -> u16
 
 // Whether the jobs without a row need too much of the rows from p on up to some row.
 pub(super) fn is_late(
-    given: &[[u16; 128]; 5],
-    links: &[u8; 2048],
+    problem: &Problem,
     swept: &[[u16; 128]; 4],
     flags: &[bool; 128],
     due: &[u32; 257],
@@ -68,15 +65,15 @@ pub(super) fn is_late(
     space: u16,
     reach: u16,
 ) -> bool
-    requires sweepable { Sweepable given.now links.now }
-    requires p_bound { p < rows_in given.now }
-    requires due { Due (rules_in given.now links.now swept.now) flags.now (jobs_in given.now) due.now }
-    ensures { result ≡ true → From (rules_in given.now links.now swept.now)
-        (rows_in given.now) p flags.now }
+    requires sweepable { Sweepable problem.now }
+    requires p_bound { p < rows_in problem.now }
+    requires due { Due (rules_in problem.now swept.now) flags.now (jobs_in problem.now) due.now }
+    ensures { result ≡ true → From (rules_in problem.now swept.now)
+        (rows_in problem.now) p flags.now }
 {
-    let rows = given[4][0];
+    let rows = problem.rows;
     let stop = stop_row(rows, p, space, reach);
-    let f = searcher::entry(given, 4, 1) as u32;
+    let f = problem.f as u32;
     let mut sum: u32 = 0;
     let mut room: u32 = 0;
     for e in p..stop {

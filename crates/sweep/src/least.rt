@@ -3,6 +3,8 @@
 ghost use Rattle.std.specs.Prelude.{◌≤◌};
 ghost use Rattle.searcher.specs.Arrays.{jobs_in};
 
+use searcher::Problem;
+
 // A job of this cost may stand in the rows from `first` to before `end`.
 fn add_cost(least: &mut [u16; 256], first: u16, end: u16, cost: u16) {
     for row in first..end.min(256) {
@@ -11,13 +13,13 @@ fn add_cost(least: &mut [u16; 256], first: u16, end: u16, cost: u16) {
     }
 }
 
-pub(super) fn least_costs(given: &[[u16; 128]; 5], swept: &[[u16; 128]; 4]) -> [u16; 256]
-    requires { jobs_in given.now ≤ 128 }
+pub(super) fn least_costs(problem: &Problem, swept: &[[u16; 128]; 4]) -> [u16; 256]
+    requires { jobs_in problem.now ≤ 128 }
 {
-    let n = given[4][2] as usize;
+    let n = problem.n;
     let mut least = [65535u16; 256];
     for i in 0..n {
-        add_cost(&mut least, swept[0][i], swept[1][i], given[0][i]);
+        add_cost(&mut least, swept[0][i], swept[1][i], problem.cost[i]);
     }
     least
 }

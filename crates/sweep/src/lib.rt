@@ -3,7 +3,7 @@
 // it. Where `sweep` answers false, there is no way to do so; an answer true says nothing. `run` goes through the jobs of a row and on through
 // the rows, and `put` puts one job into the row and runs on from there, so calls are no deeper than there are jobs.
 //
-// The jobs' costs and links, their number and that of the rows stand in `given`, as for the search. `swept` has the first row of each job, one
+// The jobs' costs and links, their number and that of the rows stand in `problem`, as for the search. `swept` has the first row of each job, one
 // past its last, its side, and whether a job with a higher number must not be later. `begun` has a bit for each job that has begun in a row, and
 // `least` the least cost of the jobs of each row. `flags` says which jobs have a row, `low` and `high` are the same as words, and `kept` is true only where each of them
 // has its row behind those that must not be later. `due` has the times of the jobs without a row, `marks` and `words` are the memory of states that
@@ -20,74 +20,71 @@ ghost use Rattle.exact.specs.Words.{word_at};
 ghost use Rattle.exact.specs.Sweep.{any_below, more, skips, puts, leaves, From, Ordered};
 ghost use Rattle.sweep.specs.Arrays.{rules_in, Sweepable, Begun, Next, Going, Failed, NotPut, tied_in};
 
+use searcher::Problem;
+
 // Job i is passed over in row p: it has a row, or its rows are later.
 fn is_skipped(
-    given: &[[u16; 128]; 5],
-    links: &[u8; 2048],
+    problem: &Problem,
     swept: &[[u16; 128]; 4],
     flags: &[bool; 128],
     p: u16,
     i: usize,
 ) -> bool
     requires { i < 128 }
-    ensures { result ≡ skips (rules_in given.now links.now swept.now) p flags.now i }
+    ensures { result ≡ skips (rules_in problem.now swept.now) p flags.now i }
 {
     flags[i] || p < swept[0][i]
 }
 
 // Job i may be put into the row, which has this room left.
 fn may_put(
-    given: &[[u16; 128]; 5],
-    links: &[u8; 2048],
+    problem: &Problem,
     swept: &[[u16; 128]; 4],
     flags: &[bool; 128],
     room: u16,
     i: usize,
 ) -> bool
-    requires { LinksBack (counts_in given.now) links.now i }
-    ensures { result ≡ puts (rules_in given.now links.now swept.now) flags.now room i }
+    requires { LinksBack (counts_in problem.now) problem.now.links i }
+    ensures { result ≡ puts (rules_in problem.now swept.now) flags.now room i }
 {
-    given[0][i] <= room && order::all_let(given, links, swept, flags, i, true)
+    problem.cost[i] <= room && order::all_let(problem, swept, flags, i, true)
 }
 
 // Job i may be left out of row p: it has a later one.
 fn may_leave(
-    given: &[[u16; 128]; 5],
-    links: &[u8; 2048],
+    problem: &Problem,
     swept: &[[u16; 128]; 4],
     flags: &[bool; 128],
     p: u16,
     i: usize,
 ) -> bool
-    requires { (p < 65535) × LinksBack (counts_in given.now) links.now i }
-    ensures { result ≡ leaves (rules_in given.now links.now swept.now) p flags.now i }
+    requires { (p < 65535) × LinksBack (counts_in problem.now) problem.now.links i }
+    ensures { result ≡ leaves (rules_in problem.now swept.now) p flags.now i }
 {
-    p + 1 < swept[1][i] && order::all_let(given, links, swept, flags, i, false)
+    p + 1 < swept[1][i] && order::all_let(problem, swept, flags, i, false)
 }
 
 // Job i, left out of row p, could still be put into it.
 fn could_put(
-    given: &[[u16; 128]; 5],
-    links: &[u8; 2048],
+    problem: &Problem,
     swept: &[[u16; 128]; 4],
     flags: &[bool; 128],
     p: u16,
     room: u16,
     i: usize,
 ) -> bool
-    requires { LinksBack (counts_in given.now) links.now i }
-    ensures { result ≡ true → more (rules_in given.now links.now swept.now) p flags.now room i ≡ true }
+    requires { LinksBack (counts_in problem.now) problem.now.links i }
+    ensures { result ≡ true → more (rules_in problem.now swept.now) p flags.now room i ≡ true }
 {
-    given[0][i] <= room
-        && !is_skipped(given, links, swept, flags, p, i)
+    problem.cost[i] <= room
+        && !is_skipped(problem, swept, flags, p, i)
         && swept[3][i] == 0
-        && may_put(given, links, swept, flags, room, i)
+        && may_put(problem, swept, flags, room, i)
 }
 
 // Some job of the row could. The bits say how far the loop goes on, so it counts nothing.
 fn one_more(
-    given: &[[u16; 128]; 5],
-    links: &[u8; 2048],
+    problem: &Problem,
     swept: &[[u16; 128]; 4],
     begun: &[u64; 512],
     least: &[u16; 256],
@@ -97,23 +94,23 @@ fn one_more(
     p: u16,
     room: u16,
 ) -> bool
-    requires sweepable { Sweepable given.now links.now }
-    requires p_bound { (p < rows_in given.now) × (low ≡ word_at flags.now 0) × (high ≡ word_at flags.now 64)
-        × Begun (rules_in given.now links.now swept.now) (rows_in given.now) begun.now }
-    ensures { result ≡ true → any_below (more (rules_in given.now links.now swept.now) p flags.now room)
-        (jobs_in given.now) ≡ true }
+    requires sweepable { Sweepable problem.now }
+    requires p_bound { (p < rows_in problem.now) × (low ≡ word_at flags.now 0) × (high ≡ word_at flags.now 64)
+        × Begun (rules_in problem.now swept.now) (rows_in problem.now) begun.now }
+    ensures { result ≡ true → any_below (more (rules_in problem.now swept.now) p flags.now room)
+        (jobs_in problem.now) ≡ true }
 {
     if room < least[p as usize] {
         return false;
     }
-    let n = given[4][2] as usize;
+    let n = problem.n;
     let mut i = 0;
     while i < n {
-        i = begun::first_free(given, links, swept, begun, flags, low, high, p, i);
+        i = begun::first_free(problem, swept, begun, flags, low, high, p, i);
         if i >= n {
             return false;
         }
-        if could_put(given, links, swept, flags, p, room, i) {
+        if could_put(problem, swept, flags, p, room, i) {
             return true;
         }
         i += 1;
@@ -130,42 +127,34 @@ fn still_kept(swept: &[[u16; 128]; 4], i: usize, kept: bool) -> bool
 }
 
 // The order is kept: so it was, or all jobs are in order.
-fn is_kept(
-    given: &[[u16; 128]; 5],
-    links: &[u8; 2048],
-    swept: &[[u16; 128]; 4],
-    flags: &[bool; 128],
-    kept: bool,
-) -> bool
-    requires sweepable { Sweepable given.now links.now }
-    requires ordered { kept ≡ true → Ordered (rules_in given.now links.now swept.now) flags.now }
-    ensures { result ≡ true → Ordered (rules_in given.now links.now swept.now) flags.now }
+fn is_kept(problem: &Problem, swept: &[[u16; 128]; 4], flags: &[bool; 128], kept: bool) -> bool
+    requires sweepable { Sweepable problem.now }
+    requires ordered { kept ≡ true → Ordered (rules_in problem.now swept.now) flags.now }
+    ensures { result ≡ true → Ordered (rules_in problem.now swept.now) flags.now }
 {
-    kept || order::all_in_order(given, links, swept, flags)
+    kept || order::all_in_order(problem, swept, flags)
 }
 
 // A run that began in row p and answered e has shown that the state of the next row fails, and the order is kept there.
 fn is_worth_noting(
-    given: &[[u16; 128]; 5],
-    links: &[u8; 2048],
+    problem: &Problem,
     swept: &[[u16; 128]; 4],
     flags: &[bool; 128],
     kept: bool,
     p: u16,
     e: u16,
 ) -> bool
-    requires sweepable { Sweepable given.now links.now }
-    requires ordered { kept ≡ true → Ordered (rules_in given.now links.now swept.now) flags.now }
-    ensures { result ≡ true → (p < e) × Ordered (rules_in given.now links.now swept.now) flags.now }
+    requires sweepable { Sweepable problem.now }
+    requires ordered { kept ≡ true → Ordered (rules_in problem.now swept.now) flags.now }
+    ensures { result ≡ true → (p < e) × Ordered (rules_in problem.now swept.now) flags.now }
 {
-    p < e && is_kept(given, links, swept, flags, kept)
+    p < e && is_kept(problem, swept, flags, kept)
 }
 
 // The first job from job i on that is not passed over in row p, or `end`, or i if that is behind it. The bits lead to it, and the job is tested.
 // They say how far the loop goes on, so it counts nothing.
 fn next_job(
-    given: &[[u16; 128]; 5],
-    links: &[u8; 2048],
+    problem: &Problem,
     swept: &[[u16; 128]; 4],
     begun: &[u64; 512],
     flags: &[bool; 128],
@@ -175,18 +164,18 @@ fn next_job(
     i: usize,
     end: usize,
 ) -> usize
-    requires sweepable { Sweepable given.now links.now }
-    requires begun { Begun (rules_in given.now links.now swept.now) (rows_in given.now) begun.now }
-    requires p_bound { (p < rows_in given.now) × (end ≤ jobs_in given.now) × (low ≡ word_at flags.now 0) × (high ≡ word_at flags.now 64) }
-    ensures { Next (rules_in given.now links.now swept.now) p flags.now i end result }
+    requires sweepable { Sweepable problem.now }
+    requires begun { Begun (rules_in problem.now swept.now) (rows_in problem.now) begun.now }
+    requires p_bound { (p < rows_in problem.now) × (end ≤ jobs_in problem.now) × (low ≡ word_at flags.now 0) × (high ≡ word_at flags.now 64) }
+    ensures { Next (rules_in problem.now swept.now) p flags.now i end result }
 {
     let mut j = i;
     while j < end {
-        j = begun::first_free(given, links, swept, begun, flags, low, high, p, j);
+        j = begun::first_free(problem, swept, begun, flags, low, high, p, j);
         if j >= end {
             return end;
         }
-        if !is_skipped(given, links, swept, flags, p, j) {
+        if !is_skipped(problem, swept, flags, p, j) {
             return j;
         }
         j += 1;
@@ -202,8 +191,7 @@ fn next_job(
 // over those left open), where the bar is 1.03.
 #[cycle(put_run)]
 fn run(
-    given: &[[u16; 128]; 5],
-    links: &[u8; 2048],
+    problem: &Problem,
     swept: &[[u16; 128]; 4],
     begun: &[u64; 512],
     least: &[u16; 256],
@@ -221,51 +209,49 @@ fn run(
     left: u16,
     reach: u16,
 ) -> Option<u16>
-    requires sweepable { Sweepable given.now links.now }
-    requires p_bound { (p < rows_in given.now) × (i ≤ jobs_in given.now)
-        × Begun (rules_in given.now links.now swept.now) (rows_in given.now) begun.now }
-    requires going { Going (rules_in given.now links.now swept.now) (rows_in given.now) flags.old due.old marks.old words.old low high kept }
-    ensures { IfSome result (λ e. Failed (rules_in given.now links.now swept.now)
-        (rows_in given.now) p i room flags.old due.old e flags.new due.new marks.new words.new) }
+    requires sweepable { Sweepable problem.now }
+    requires p_bound { (p < rows_in problem.now) × (i ≤ jobs_in problem.now)
+        × Begun (rules_in problem.now swept.now) (rows_in problem.now) begun.now }
+    requires going { Going (rules_in problem.now swept.now) (rows_in problem.now) flags.old due.old marks.old words.old low high kept }
+    ensures { IfSome result (λ e. Failed (rules_in problem.now swept.now)
+        (rows_in problem.now) p i room flags.old due.old e flags.new due.new marks.new words.new) }
 {
-    let n = given[4][2] as usize;
-    let rows = given[4][0];
+    let n = problem.n;
+    let rows = problem.rows;
     let mut row = p;
     let mut job = i;
     let mut space = room;
     let mut ordered = kept;
     let mut far = reach;
     while row < rows {
-        job = next_job(given, links, swept, begun, flags, low, high, row, job, n);
+        job = next_job(problem, swept, begun, flags, low, high, row, job, n);
         if job >= n {
             if row + 1 == rows {
                 return None;
             }
-            if one_more(
-                given, links, swept, begun, least, flags, low, high, row, space,
-            ) {
+            if one_more(problem, swept, begun, least, flags, low, high, row, space) {
                 return Some(row);
             }
             row += 1;
             if memory::known(marks, words, row, low, high) {
                 return Some(row);
             }
-            if late::is_late(given, links, swept, flags, due, row, space, far) {
+            if late::is_late(problem, swept, flags, due, row, space, far) {
                 return Some(row);
             }
-            ordered = is_kept(given, links, swept, flags, ordered);
+            ordered = is_kept(problem, swept, flags, ordered);
             job = 0;
-            space = given[4][1];
+            space = problem.f;
             far = 0;
             continue;
         }
         if put(
-            given, links, swept, begun, least, flags, found, due, marks, words, low, high, ordered,
-            row, job, space, left, far,
+            problem, swept, begun, least, flags, found, due, marks, words, low, high, ordered, row,
+            job, space, left, far,
         ) {
             return None;
         }
-        if !may_leave(given, links, swept, flags, row, job) {
+        if !may_leave(problem, swept, flags, row, job) {
             return Some(row);
         }
         job += 1;
@@ -276,8 +262,7 @@ fn run(
 // Puts job i into row p, if it may, and runs on. An answer false says that this fails, and leaves the flags and the times as they were.
 #[cycle(put_run)]
 fn put(
-    given: &[[u16; 128]; 5],
-    links: &[u8; 2048],
+    problem: &Problem,
     swept: &[[u16; 128]; 4],
     begun: &[u64; 512],
     least: &[u16; 256],
@@ -295,21 +280,21 @@ fn put(
     left: u16,
     reach: u16,
 ) -> bool
-    requires sweepable { Sweepable given.now links.now }
-    requires p_bound { (p < rows_in given.now) × (i < jobs_in given.now)
-        × Begun (rules_in given.now links.now swept.now) (rows_in given.now) begun.now }
-    requires going { Going (rules_in given.now links.now swept.now) (rows_in given.now) flags.old due.old marks.old words.old low high kept }
-    requires i_value { skips (rules_in given.now links.now swept.now) p flags.old i ≡ false }
-    ensures { result ≡ false → NotPut (rules_in given.now links.now swept.now)
-        (rows_in given.now) p i room flags.old due.old flags.new due.new marks.new words.new }
+    requires sweepable { Sweepable problem.now }
+    requires p_bound { (p < rows_in problem.now) × (i < jobs_in problem.now)
+        × Begun (rules_in problem.now swept.now) (rows_in problem.now) begun.now }
+    requires going { Going (rules_in problem.now swept.now) (rows_in problem.now) flags.old due.old marks.old words.old low high kept }
+    requires i_value { skips (rules_in problem.now swept.now) p flags.old i ≡ false }
+    ensures { result ≡ false → NotPut (rules_in problem.now swept.now)
+        (rows_in problem.now) p i room flags.old due.old flags.new due.new marks.new words.new }
 {
     if left == 0 {
         return true;
     }
-    if !may_put(given, links, swept, flags, room, i) {
+    if !may_put(problem, swept, flags, room, i) {
         return false;
     }
-    let c = searcher::entry(given, 0, i);
+    let c = problem.cost[i];
     let lows = memory::with_flag(flags, i, low, 0);
     let highs = memory::with_flag(flags, i, high, 64);
     let still = still_kept(swept, i, kept);
@@ -317,8 +302,7 @@ fn put(
     found[i] = p;
     let far = late::take_at(due, swept[1][i], c, reach);
     let Some(e) = run(
-        given,
-        links,
+        problem,
         swept,
         begun,
         least,
@@ -339,7 +323,7 @@ fn put(
         return true;
     };
     late::add_at(due, swept[1][i], c);
-    if is_worth_noting(given, links, swept, flags, still, p, e) {
+    if is_worth_noting(problem, swept, flags, still, p, e) {
         memory::note(marks, words, p + 1, lows, highs);
         flags[i] = false;
         return false;
@@ -354,31 +338,29 @@ pub const WORDS: usize = 10240;
 // Puts the jobs into the rows. False: there is no way. `found` gets the row of each job that was put last. Nothing is known of `words`, but it must
 // have WORDS numbers.
 pub fn sweep(
-    given: &[[u16; 128]; 5],
-    links: &[u8; 2048],
+    problem: &Problem,
     swept: &[[u16; 128]; 4],
     found: &mut [u16; 128],
     words: &mut [u64],
 ) -> bool
-    requires { Sweepable given.now links.now }
-    ensures { result ≡ false → From (rules_in given.now links.now swept.now)
-        (rows_in given.now) 0 (replicate 128 false) }
+    requires { Sweepable problem.now }
+    ensures { result ≡ false → From (rules_in problem.now swept.now)
+        (rows_in problem.now) 0 (replicate 128 false) }
 {
-    let rows = given[4][0];
+    let rows = problem.rows;
     if rows == 0 {
         return true;
     }
     if words.len() != WORDS {
         return true;
     }
-    let begun = begun::begun_of(given, links, swept);
-    let least = least::least_costs(given, swept);
+    let begun = begun::begun_of(problem, swept);
+    let least = least::least_costs(problem, swept);
     let mut flags = [false; 128];
-    let mut due = late::due_times(given, links, swept);
+    let mut due = late::due_times(problem, swept);
     let mut marks = [0u16; 5120];
     let failed = run(
-        given,
-        links,
+        problem,
         swept,
         &begun,
         &least,
@@ -392,8 +374,8 @@ pub fn sweep(
         true,
         0,
         0,
-        given[4][1],
-        given[4][2],
+        problem.f,
+        problem.n as u16,
         0,
     );
     failed.is_none()

@@ -4,4 +4,4 @@ use Rattle.prune.proofs.Laws.{Marking}
 use Rattle.prune.proofs.mark_links.Given as goal
 
 abbrev pub invariant-loop-l : goal.invariant-loop-l
-invariant-loop-l l = Marking (counts_in l.given) l.links l.y l.l-index l.out
+invariant-loop-l l = Marking (counts_in l.problem) l.problem.links l.y l.l-index l.out

@@ -4,4 +4,4 @@ use Rattle.prune.specs.Arrays.{Marked}
 use Rattle.prune.proofs.tied_jobs.Given as goal
 
 abbrev pub invariant-loop-y : goal.invariant-loop-y
-invariant-loop-y l = Marked (counts_in l.given) l.links l.y l.out
+invariant-loop-y l = Marked (counts_in l.problem) l.problem.links l.y l.out

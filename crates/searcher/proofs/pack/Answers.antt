@@ -5,4 +5,4 @@ use Rattle.searcher.proofs.pack.Goals as goal
 
 pub returns : goal.returns
 returns c =
-    (packed_same c.requires c.narrow-costs.ensures, refl)
+    (packed_same c.requires c.narrow.ensures, refl)

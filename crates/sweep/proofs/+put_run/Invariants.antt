@@ -14,7 +14,7 @@ decreases-run l = 2 * l.left + 1
 
 abbrev pub invariant-run-loop-row : goal.invariant-run-loop-row
 invariant-run-loop-row l =
-    Running (rules_in l.given l.links l.swept) (rows_in l.given) l.p l.i l.room l.initial.flags l.initial.due l.low l.high
+    Running (rules_in l.problem l.swept) (rows_in l.problem) l.p l.i l.room l.initial.flags l.initial.due l.low l.high
     l.ordered l.flags l.due l.marks l.words l.row l.job l.space
 
 abbrev pub decreases-run-loop-row : goal.decreases-run-loop-row

@@ -3,12 +3,12 @@ use Rattle.std.proofs.Common.{◌∙◌}
 use Rattle.sweep.proofs.Laws.{no_room, room_for}
 use Rattle.sweep.proofs.may_put.Goals as goal
 
-pub returns-then-given-i : goal.returns-then-given-i
-returns-then-given-i c =
+pub returns-then-problem-i : goal.returns-then-problem-i
+returns-then-problem-i c =
     let a = c.args in
-    c.all_let.ensures ∙ room_for a.given.now a.links.now a.swept.now a.flags.now a.i a.room c.if-given-i.true
+    c.all_let.ensures ∙ room_for a.problem.now a.swept.now a.flags.now a.i a.room c.if-problem-i.true
 
-pub returns-else-given-i : goal.returns-else-given-i
-returns-else-given-i c =
+pub returns-else-problem-i : goal.returns-else-problem-i
+returns-else-problem-i c =
     let a = c.args in
-    no_room a.given.now a.links.now a.swept.now a.flags.now a.i a.room c.if-given-i.false
+    no_room a.problem.now a.swept.now a.flags.now a.i a.room c.if-problem-i.false

@@ -9,5 +9,5 @@ use Rattle.sweep.proofs.one_more.Goals as goal
 pub returns-then-could_put : goal.returns-then-could_put
 returns-then-could_put c =
     let a = c.args in
-    λ e. any_below_from (more (rules_in a.given.now a.links.now a.swept.now) a.p a.flags.now a.room) (jobs_in a.given.now)
+    λ e. any_below_from (more (rules_in a.problem.now a.swept.now) a.p a.flags.now a.room) (jobs_in a.problem.now)
     c.first_free-i.result (omega (arith, c.if-i-n.false, c.loop-i.invariant)) (c.could_put.ensures c.if-could_put.true)

@@ -8,11 +8,10 @@ use Rattle.sweep.proofs.sweep.Goals as goal
 pub returns : goal.returns
 returns c = λ e.
     let some = some_of c.run-failed.result c.is_none.ensures e in
-    swept_false (omega (arith, c.if-rows-eq0.false)) (sym (f_is c.args.given.now c.args.links.now c.args.swept.now)) (failed_at some.1 c.run-failed.ensures)
+    swept_false (omega (arith, c.if-rows-eq0.false)) (sym (f_is c.args.problem.now c.args.swept.now)) (failed_at some.1 c.run-failed.ensures)
 
 pub run-failed-requires-clause-going : goal.run-failed-requires-clause-going
 run-failed-requires-clause-going c =
-    let g = c.args.given.now in
-    let l = c.args.links.now in
+    let g = c.args.problem.now in
     let w = c.args.swept.now in
-    going_first (rules_in g l w) (rows_in g) (n_is g l w) c.due_times-due.ensures c.if-words-ne-WORDS.false
+    going_first (rules_in g w) (rows_in g) (n_is g w) c.due_times-due.ensures c.if-words-ne-WORDS.false

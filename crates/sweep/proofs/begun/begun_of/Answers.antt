@@ -8,4 +8,4 @@ pub loop-k-preserved : goal.loop-k-preserved
 loop-k-preserved c = beginning_word c.loop-k.invariant c.loop-k.auto.k (omega (arith, c.loop-k-test.true, c.requires.few_rows)) refl
 
 pub returns : goal.returns
-returns c = beginning_done c.loop-k.invariant c.loop-k-test.false (n_is c.args.given.now c.args.links.now c.args.swept.now) c.requires.few
+returns c = beginning_done c.loop-k.invariant c.loop-k-test.false (n_is c.args.problem.now c.args.swept.now) c.requires.few

@@ -5,4 +5,4 @@ use Rattle.sweep.proofs.LateLaws.{Comparing}
 use Rattle.sweep.proofs.late.is_late.Given as goal
 
 abbrev pub invariant-loop-e : goal.invariant-loop-e
-invariant-loop-e l = Comparing (rules_in l.given l.links l.swept) (rows_in l.given) l.p l.flags l.e l.sum l.room
+invariant-loop-e l = Comparing (rules_in l.problem l.swept) (rows_in l.problem) l.p l.flags l.e l.sum l.room

@@ -4,4 +4,4 @@ use Rattle.sweep.proofs.Laws.{order_by}
 use Rattle.sweep.proofs.order.is_in_order.Goals as goal
 
 pub returns : goal.returns
-returns c = c.all_let.ensures ∙ order_by c.args.given.now c.args.links.now c.args.swept.now c.args.flags.now c.args.i
+returns c = c.all_let.ensures ∙ order_by c.args.problem.now c.args.swept.now c.args.flags.now c.args.i

@@ -4,4 +4,4 @@ use Rattle.prune.specs.Arrays.{domains, Tightened}
 use Rattle.prune.proofs.tighten.Domains.tie_links.Given as goal
 
 abbrev pub invariant-loop-l : goal.invariant-loop-l
-invariant-loop-l l = Tightened (problem_in l.given l.links) (domains l.initial.self.low l.initial.self.high) (domains l.self.low l.self.high)
+invariant-loop-l l = Tightened (problem_in l.problem) (domains l.initial.self.low l.initial.self.high) (domains l.self.low l.self.high)

@@ -4,4 +4,4 @@ use Rattle.prune.specs.Arrays.{domains, Tightened}
 use Rattle.prune.proofs.tighten.Domains.tighten.Given as goal
 
 abbrev pub invariant-loop : goal.invariant-loop
-invariant-loop l = Tightened (problem_in l.given l.links) (domains l.initial.self.low l.initial.self.high) (domains l.self.low l.self.high)
+invariant-loop l = Tightened (problem_in l.problem) (domains l.initial.self.low l.initial.self.high) (domains l.self.low l.self.high)
