@@ -2,7 +2,7 @@
 use Rattle.std.specs.Prelude.{ℕ, ◌*◌, ◌/◌, ℤ, length, drop}
 use mathlib.Core.List.{List, ◌++◌, flat_map}
 use Rattle.job_records.specs.Timeline.{Timeline, filling, records_in, filled_answer}
-use Rattle.job_records.specs.declared.RecordsFilled.{RecordsFilled}
+use Rattle.job_records.specs.Numbered.{RecordsFilled}
 use Rattle.lent.specs.Records.{record_bytes}
 use Rattle.bus.specs.Reply.{reply}
 

@@ -1,5 +1,5 @@
 -- The check's steps on the answers of the readers: what they tell of the request and the table, and what is answered from there.
-use Rattle.std.specs.Prelude.{ℕ, ◌≤◌, min, ◌≡◌, Bool, true, false, cond, ◌&&◌, Option, Some, None, Ok, Err, List, length, eqb}
+use Rattle.std.specs.Prelude.{ℕ, ◌≤◌, min, ◌≡◌, Bool, true, false, cond, ◌&&◌, Option, Some, None, Result, Ok, Err, List, length, eqb}
 use Rattle.refusal.specs.Refusal.{number_of}
 use Rattle.refusal.specs.declared.Refusal.{Refusal}
 use Rattle.std.proofs.Math.Path.{refl, ap}
@@ -11,22 +11,24 @@ use Rattle.cursor.specs.ParsedLaws.{never}
 use Rattle.cursor.specs.Padded.{padded, firsts}
 use Rattle.cursor.specs.PaddedLaws.{firsts_length, firsts_padded}
 use Rattle.cycle.specs.Cycle.{no_cycle, cycle_of}
+use Rattle.cycle.specs.Answers.{cycle_answered}
 use Rattle.cycle.specs.Planned.{no_job}
 use Rattle.cycle.specs.declared.Job.{Job}
 use Rattle.cycle.specs.declared.Cycle.{Cycle}
 use Rattle.table.specs.Table.{Table, Decoded, table, malformed, decode}
+use Rattle.table.specs.Answers as answered
 use Rattle.table.specs.Answers.{sizes_of, sizes_said}
 use Rattle.table.specs.Inverse.{decode_wellformed}
-use Rattle.table.specs.Answers as answered
 use Rattle.table.specs.declared.Sizes.{Sizes}
 use Rattle.model.specs.Plausible.{plausible}
 use Rattle.model.specs.Answers.{instance_of}
 use Rattle.plan_rules.specs.Every.{every}
 use Rattle.plan_rules.specs.Rules.{rules_right}
-use Rattle.checker.specs.Checked.{frames_in, frame_in, is_placed, rows_kept, entries_right, Verdict, accepted, refusal, plan_of, judged_by, judged, checked_by, checked, verdict_number}
+use Rattle.checker.specs.Checked.{frames_in, frame_in, is_placed, rows_kept, entries_right, Verdict, accepted, refusal, plan_of, judged_by, judged, checked_by, checked, verdict_number, check_number}
 use Rattle.checker.specs.Answers.{frames_answer, read_answer, cycle_in, rows_of}
 use Rattle.checker.specs.WalkLaws.{rows_count, rows_in_bytes}
-use Rattle.checker.specs.Numbered.{Read, found_said}
+use Rattle.checker.specs.Numbered.{Read, read_said, found_said}
+use Rattle.checker.specs.declared.Read as code
 
 -- what the reader of the frames answers
 none_read : (b : Bool) (frames : List ℕ) → None ≡ frames_answer b frames → b ≡ false
@@ -192,3 +194,19 @@ module _ (c : Cycle) where
 -- the number of a verdict, from the answer for it
 pub said_number : (c : Cycle) (v : Verdict) {r : Read} → r ≡ read_answer c v → r.refusal ≡ verdict_number v
 said_number c v e = ap (λ (y : Read). y.refusal) e ∙ answer_number c v
+
+-- what the answer of `read_plan` says of the bytes of a request and of a table
+module _ (request bytes : List ℕ) where
+  abbrev pub ReadSays : Result code.Read Refusal → Type 0
+  ReadSays r = read_said (cycle_answered (cycle_of request)) r ≡ read_answer (cycle_answered (cycle_of request)) (checked (cycle_of request) (decode bytes))
+
+  -- a plan is read where the check passes, with the request's cycle;
+  pub read_passes : {read : code.Read} → ReadSays (Ok read) → check_number request bytes ≡ 0
+  read_passes e = sym (said_number (cycle_answered (cycle_of request)) (checked (cycle_of request) (decode bytes)) e)
+
+  pub read_cycle : {read : code.Read} → ReadSays (Ok read) → read.cycle ≡ cycle_answered (cycle_of request)
+  read_cycle e = ap (λ (y : Read). y.cycle) e ∙ answer_cycle (cycle_answered (cycle_of request)) (checked (cycle_of request) (decode bytes))
+
+  -- and a refusal is the check's
+  pub refused_number : (e : Refusal) → ReadSays (Err e) → number_of e ≡ check_number request bytes
+  refused_number e says = said_number (cycle_answered (cycle_of request)) (checked (cycle_of request) (decode bytes)) says

@@ -7,7 +7,7 @@ ghost use Rattle.model.specs.Plan.{costs};
 ghost use Rattle.model.specs.Answers.{instance_of};
 ghost use Rattle.cursor.specs.Written.{written_said};
 ghost use Rattle.plan_writer.specs.Outcome.{outcome_answer, outcome_buffer};
-ghost use Rattle.draft.specs.Draft.{is_lifted, sound_draft, no_draft, touched, after_lift, after_put, can_move, put_there, start, lift, put, write};
+ghost use Rattle.draft.specs.Draft.{is_lifted, sound_draft, no_draft, touched, after_lift, can_move, put_there, start, lift, put, write};
 ghost use Rattle.draft.specs.Numbered.{drafted_said};
 ghost use Rattle.draft.specs.Answers.{placing, with_jobs, RowsFit, LoadsAre, Movable};
 

@@ -10,7 +10,7 @@ use Rattle.model.specs.Described.{Describes, Accepted}
 use Rattle.checker.specs.Checked.{check_number}
 use Rattle.checker.specs.Exactly.{OfBoth}
 use Rattle.job_records.specs.declared.JobRecord.{JobRecord}
-use Rattle.job_records.specs.declared.RecordsFilled.{RecordsFilled}
+use Rattle.job_records.specs.Numbered.{RecordsFilled}
 use Rattle.job_records.specs.Timeline.{record_of, no_record, filling, filled_answer, filled_records, busy_of, rows_busy}
 
 module _ (request bytes : List ℕ) (lent : List JobRecord) where

@@ -1,10 +1,13 @@
 -- Filling a lent list, record by record: after i records it is the first i of the timeline, and the lent list behind them.
-use Rattle.std.specs.Prelude.{ℕ, zero, suc, ◌+◌, ◌≤◌, ◌<◌, ◌≡◌, refl, Bool, true, false, cond, List, [], ◌∷◌, ◌++◌, ltb, get_or, set, take, drop}
+use Rattle.std.specs.Prelude.{ℕ, zero, suc, ◌+◌, ◌≤◌, ◌<◌, ◌≡◌, refl, Bool, true, false, cond, List, [], ◌∷◌, ◌++◌, ltb, get_or, set, take, drop, Ok, Err}
 use Rattle.std.proofs.Common.{ap, ap₂, ◌∙◌, arith, ltb-false}
 use Rattle.std.proofs.Math.ListN.{length}
 use Rattle.std.proofs.Math.Seq.{take-length}
 use Rattle.job_records.specs.Timeline.{no_record, Timeline, timeline, refusal, timeline_for, fitting, filling, records_in, filled_answer, filled_records}
-use Rattle.job_records.specs.Known.{record_here}
+use Rattle.refusal.specs.declared.Refusal.{Refusal}
+use Rattle.job_records.specs.Known.{known_answer, record_here}
+use Rattle.job_records.specs.Numbered as numbered
+use Rattle.job_records.specs.Numbered.{filled_said, known_said}
 use Rattle.job_records.specs.KnownLaws.{KnownFor}
 use Rattle.job_records.specs.declared.JobRecord.{JobRecord}
 use Rattle.job_records.specs.declared.JobsKnown.{JobsKnown}
@@ -29,6 +32,10 @@ set_next (r ∷ rs) [] i h l = absurd (omega arith)
 set_next (r ∷ rs) (x ∷ lent) zero h l = refl
 set_next (r ∷ rs) (x ∷ lent) (suc i) h l = ap (λ (l : List JobRecord). r ∷ l) (set_next rs lent i (omega arith) (omega arith))
 
+counted : (t : Timeline) → length (records_in t) ≡ (filled_answer t).count
+counted (timeline rs) = refl
+counted (refusal number) = refl
+
 module _ (tl : Timeline) (lent : List JobRecord) where
   abbrev pub filled_to : ℕ → List JobRecord
   filled_to i = take i (records_in tl) ++ drop i lent
@@ -45,9 +52,17 @@ module _ (tl : Timeline) (lent : List JobRecord) where
         let all : i ≡ length (records_in tl) = omega (arith, known.count_is) in
         rw (all, take-length (records_in tl))
 
-    pub fill_answer : record { refusal = k.refusal; count = k.count } ≡ filled_answer tl
-    fill_answer = ap₂ (λ n c. record { refusal = n; count = c }) known.refusal_is (known.count_is ∙ counted tl)
-      where
-        counted : (t : Timeline) → length (records_in t) ≡ (filled_answer t).count
-        counted (timeline rs) = refl
-        counted (refusal number) = refl
+    pub fill_answer : filled_said (Ok k.count) ≡ filled_answer tl
+    fill_answer = ap₂ (λ n c. record { refusal = n; count = c }) known.none_refused (known.count_is ∙ counted tl)
+
+  -- a refusal fills none
+  pub fill_refused : (e : Refusal) → known_said (Err e) ≡ known_answer tl → (filled_said (Err e) ≡ filled_answer tl) × (lent ≡ filled_records tl lent)
+  unfolding filled_records
+  fill_refused e said =
+      let none : 0 ≡ length (records_in tl) = ap (λ (k : numbered.JobsKnown). k.count) said in
+      let number = ap (λ (k : numbered.JobsKnown). k.refusal) said in
+      (ap₂ (λ n c. record { refusal = n; count = c }) number (none ∙ counted tl), still (records_in tl) none)
+    where
+      still : (rs : List JobRecord) → 0 ≡ length rs → lent ≡ rs ++ drop (length rs) lent
+      still [] h = refl
+      still (r ∷ rs) h = absurd (omega (arith, h))

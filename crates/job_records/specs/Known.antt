@@ -6,6 +6,7 @@ use Rattle.cycle.specs.declared.Job.{Job}
 use Rattle.job_records.specs.Timeline.{record_of, Timeline, records_in, filled_answer}
 use Rattle.job_records.specs.declared.JobRecord.{JobRecord}
 use Rattle.job_records.specs.declared.JobsKnown.{JobsKnown}
+use Rattle.job_records.specs.Numbered as numbered
 
 -- the job that a record is made of
 abbrev pub job_in : JobRecord → Job
@@ -15,7 +16,7 @@ abbrev pub frame_in : JobRecord → ℕ
 frame_in r = r.frame
 
 -- the answer for what filling comes to: its number, how many records, and the jobs and frames that they are made of, with zeros in the unused places
-abbrev pub known_answer : Timeline → JobsKnown
+abbrev pub known_answer : Timeline → numbered.JobsKnown
 known_answer tl = record {
   refusal = (filled_answer tl).refusal;
   count = length (records_in tl);

@@ -1,7 +1,7 @@
 -- What filling comes to: where the check refuses, where the list is too short, and where it is long enough; and so the answer of `known`. The records that are
 -- made of it, one place after the other, are the timeline's.
 use Prim.Native.Nat.{ℕ, zero, suc, ◌+◌, ◌-◌, ◌≤◌, ◌<◌}
-use Rattle.std.specs.Prelude.{◌≡◌, refl, get_or}
+use Rattle.std.specs.Prelude.{◌≡◌, refl, get_or, Ok, Err}
 use Rattle.std.proofs.Math.Path.{sym, ap, ap₂}
 use Rattle.std.proofs.Common.{◌∙◌, ⊎_elim, zero-add, drop-cons, lt-ltb, le-ltb}
 use mathlib.Core.List.{List, [], ◌∷◌, map}
@@ -11,6 +11,8 @@ use Rattle.std.proofs.Math.Seq.{drop-length}
 use Rattle.cursor.specs.ChoiceLaws.{lt_or_ge}
 use Rattle.cursor.specs.Padded.{padded}
 use Rattle.cursor.specs.PaddedLaws.{get_or_padded_any, map_at}
+use Rattle.refusal.specs.Refusal.{number_of}
+use Rattle.refusal.specs.declared.Refusal.{Refusal}
 use Rattle.cycle.specs.Cycle.{Cycle, cycle_of}
 use Rattle.cycle.specs.Answers.{cycle_answered, listed}
 use Rattle.cycle.specs.Planned.{no_job}
@@ -31,6 +33,8 @@ use Rattle.job_records.specs.Timeline.{record_of, no_record, records_of, Timelin
 use Rattle.job_records.specs.Known.{job_in, frame_in, known_answer, record_here, records_from, records_known}
 use Rattle.job_records.specs.declared.JobRecord.{JobRecord}
 use Rattle.job_records.specs.declared.JobsKnown.{JobsKnown}
+use Rattle.job_records.specs.Numbered as numbered
+use Rattle.job_records.specs.Numbered.{known_said}
 
 -- a record for each job
 pub records_count : (jobs : List Job) (frames : List ℕ) → length frames ≡ length jobs → length (records_of jobs frames) ≡ length jobs
@@ -86,6 +90,11 @@ module _ (request bytes : List ℕ) where
     pub long_enough : length x.jobs ≤ places → filling request bytes places ≡ timeline records
     long_enough h = fills ∙ rw (le-ltb places (length records) (omega (arith, many)))
 
+-- a refusal leaves all places unused
+pub refused_said : (e : Refusal) → known_said (Err e) ≡ known_answer (refusal (number_of e))
+unfolding padded
+refused_said e = refl
+
 -- The answer of `known`: r is what the check answered
 module _ (request bytes : List ℕ) (places : ℕ) (r : Read) (e : r ≡ read_answer (cycle_answered (cycle_of request)) (checked (cycle_of request) (decode bytes))) where
   -- the check refuses
@@ -135,9 +144,9 @@ module _ (request bytes : List ℕ) (places : ℕ) (r : Read) (e : r ≡ read_an
         ∙ ap known_answer
         (sym (long_enough request bytes x plan.taken.within r.f plan.frames plan.verdict plan.is_plan places (omega (arith, counted))))
 
--- what the answer of `known` says of its parts
+-- what the answer of `known` without a refusal says of its parts
 pub record KnownFor (tl : Timeline) (k : JobsKnown) : Type 0 where
-  pub refusal_is : k.refusal ≡ (filled_answer tl).refusal
+  pub none_refused : 0 ≡ (filled_answer tl).refusal
   pub count_is : k.count ≡ length (records_in tl)
   pub few : k.count ≤ 128
   pub each : (y : ℕ) → y < k.count → record_here k y ≡ get_or (records_in tl) y no_record
@@ -158,10 +167,19 @@ module _ (request bytes : List ℕ) (places : ℕ) where
           (λ h. rw (long_enough request bytes p.x p.within f frames is p.is_plan places h) (omega (arith, records_count p.x.jobs frames p.is_plan.all)))
           (lt_or_ge places (length p.x.jobs))
 
-  pub known_for : (k : JobsKnown) → k ≡ known_answer tl → KnownFor tl k
-  known_for k e = rw e (record { refusal_is = refl; count_is = refl; few = few_records; each = there })
+  pub known_for : (k : JobsKnown) → known_said (Ok k) ≡ known_answer tl → KnownFor tl k
+  known_for k e = record {
+    none_refused = ap (λ (z : numbered.JobsKnown). z.refusal) e;
+    count_is = count;
+    few = omega (arith, count, few_records);
+    each = λ y h. rw (ap (λ (z : numbered.JobsKnown). z.jobs) e, ap (λ (z : numbered.JobsKnown). z.frames) e) (there y (omega (arith, h, count)));
+  }
     where
-      there : (y : ℕ) → y < length (records_in tl) → record_here (known_answer tl) y ≡ get_or (records_in tl) y no_record
+      count : k.count ≡ length (records_in tl)
+      count = ap (λ (z : numbered.JobsKnown). z.count) e
+
+      there : (y : ℕ) → y < length (records_in tl)
+          → record_of (get_or (known_answer tl).jobs y no_job) (get_or (known_answer tl).frames y 0) ≡ get_or (records_in tl) y no_record
       there y h =
           rw (
             get_or_padded_any 128 no_job (map job_in (records_in tl)) y,

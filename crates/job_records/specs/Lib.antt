@@ -3,6 +3,7 @@
 pub mod Timeline
 pub mod Exactly
 -- How answers stand in types:
+pub mod Numbered
 pub mod Known
 -- Theorems:
 pub mod Theorem

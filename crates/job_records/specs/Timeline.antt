@@ -9,7 +9,7 @@ use Rattle.checker.specs.Checked as checker
 use Rattle.checker.specs.Checked.{Verdict, checked}
 use Rattle.plan_listing.specs.Listing.{busy_ticks}
 use Rattle.job_records.specs.declared.JobRecord.{JobRecord}
-use Rattle.job_records.specs.declared.RecordsFilled.{RecordsFilled}
+use Rattle.job_records.specs.Numbered.{RecordsFilled}
 
 -- "job records (task, job, release, due, frame)": a job, and its frame k, counted from time 0
 abbrev pub record_of : Job → ℕ → JobRecord

@@ -1,10 +1,12 @@
 #![tactic(auto)]
 // The timeline of an accepted table: a record for each job of the cycle, in planning order.
 ghost use Rattle.std.specs.Prelude.{◌≡◌, ◌<◌, length};
-ghost use Rattle.job_records.specs.Timeline.{Timeline, refusal, filling, filled_answer, filled_records};
+ghost use Rattle.job_records.specs.Timeline.{filling, filled_answer, filled_records};
 ghost use Rattle.job_records.specs.Known.{known_answer, record_here};
+ghost use Rattle.job_records.specs.Numbered.{filled_said, known_said};
 
 use cycle::Job;
+use refusal::Refusal;
 
 // Task, job, release, due time and frame, which is counted from time 0.
 #[derive(Clone, Copy)]
@@ -16,58 +18,30 @@ pub struct JobRecord {
     pub frame: u16,
 }
 
-// How many records were filled; or the number of the refusal, and 0.
-#[derive(Clone, Copy)]
-pub struct RecordsFilled {
-    pub refusal: u8,
-    pub count: usize,
-}
-
-// The jobs that a list is filled with, in planning order, and their frames, with zeros in the unused places; or the number of the refusal, a count of 0 and zeros.
+// The jobs that a list is filled with, in planning order, and their frames, with zeros in the unused places.
 #[derive(Clone, Copy)]
 pub struct JobsKnown {
-    pub refusal: u8,
     pub count: usize,
     pub jobs: [Job; 128],
     pub frames: [u16; 128],
 }
 
-fn refused(number: u8) -> JobsKnown
-    ensures { result ≡ known_answer (refusal number) }
+// The jobs of the request and the frames that the table gives them, for a list with so many places; or the check's refusal, or 11 where there are fewer places.
+pub fn known(request: &[u8], table: &[u8], places: usize) -> Result<JobsKnown, Refusal>
+    ensures { known_said result ≡ known_answer (filling request.now table.now places) }
 {
-    JobsKnown {
-        refusal: number,
-        count: 0,
-        jobs: [Job {
-            task: 0,
-            number: 0,
-            release: 0,
-            due: 0,
-        }; 128],
-        frames: [0; 128],
-    }
-}
-
-// The jobs of the request and the frames that the table gives them, for a list with so many places; or the check's number, or 11 where there are fewer places.
-pub fn known(request: &[u8], table: &[u8], places: usize) -> JobsKnown
-    ensures { result ≡ known_answer (filling request.now table.now places) }
-{
-    let read = checker::read_plan(request, table);
-    if read.refusal != 0 {
-        return refused(read.refusal);
-    }
+    let read = checker::read_plan(request, table)?;
     let cycle = read.cycle;
     if places < cycle.count {
-        return refused(11);
+        return Err(Refusal::ShortBuffer);
     }
     let jobs = cycle.jobs;
     let frames = read.frames;
-    JobsKnown {
-        refusal: 0,
+    Ok(JobsKnown {
         count: cycle.count,
         jobs,
         frames,
-    }
+    })
 }
 
 // The record of the job at place y.
@@ -85,17 +59,14 @@ pub fn record_at(known: JobsKnown, y: usize) -> JobRecord
     }
 }
 
-// The first records are filled, one for each job of the cycle, in planning order; where the table is refused, or the list is too short, none.
-pub fn fill(request: &[u8], table: &[u8], records: &mut [JobRecord]) -> RecordsFilled
-    ensures { (result ≡ filled_answer (filling request.now table.now (length records.old)))
+// The first records are filled, one for each job of the cycle, in planning order: how many. Where the table is refused, or the list is too short, none is filled.
+pub fn fill(request: &[u8], table: &[u8], records: &mut [JobRecord]) -> Result<usize, Refusal>
+    ensures { (filled_said result ≡ filled_answer (filling request.now table.now (length records.old)))
         × (records.new ≡ filled_records (filling request.now table.now (length records.old)) records.old) }
 {
-    let known = known(request, table, records.len());
+    let known = known(request, table, records.len())?;
     for i in 0..known.count {
         records[i] = record_at(known, i);
     }
-    RecordsFilled {
-        refusal: known.refusal,
-        count: known.count,
-    }
+    Ok(known.count)
 }

@@ -12,7 +12,7 @@ use Rattle.text.specs.Text.{ascii, decimal_of}
 use Rattle.plan_listing.specs.Listing.{refused_line, tasks_in}
 use Rattle.job_records.specs.Timeline.{Timeline, timeline, refusal, no_record, timeline_of, filling, filled_answer, filled_records, busy_of, rows_busy}
 use Rattle.job_records.specs.declared.JobRecord.{JobRecord}
-use Rattle.job_records.specs.declared.RecordsFilled.{RecordsFilled}
+use Rattle.job_records.specs.Numbered.{RecordsFilled}
 
 -- "fields in that order with single spaces": task, job, release, due, frame
 unfoldable pub record_line : JobRecord → List ℕ

@@ -1,15 +1,28 @@
 -- The check reads the plan; each way out is one of the laws of `known`.
-use Rattle.std.proofs.Common.{◌∙◌}
-use Rattle.job_records.specs.KnownLaws.{not_known, too_few, all_known}
+use Rattle.std.specs.Prelude.{Ok}
+use Rattle.std.proofs.Common.{subst, refl, ◌∙◌}
+use Rattle.std.proofs.lemmas.Result.{err_from_is_err_and}
+use Rattle.refusal.specs.declared.Refusal.TheVariants.{ShortBuffer}
+use Rattle.request.specs.SectionLaws.{no_zero}
+use Rattle.checker.specs.ReadLaws.{ReadSays}
+use Rattle.job_records.specs.KnownLaws.{refused_said, not_known, too_few, all_known}
 use Rattle.job_records.proofs.known.Goals as goal
+use Rattle.job_records.proofs.known.Goals.{In_ok-read}
 
-pub returns-then-read-ne0 : goal.returns-then-read-ne0
-returns-then-read-ne0 c = c.refused.ensures ∙ not_known _ _ _ _ c.read_plan-read.ensures c.if-read-ne0.true
+-- what the check said of the plan that it read
+said : (c : In_ok-read) → ReadSays c.args.request.now c.args.table.now (Ok c.in_ok-read.read)
+said c = subst (ReadSays c.args.request.now c.args.table.now) c.in_ok-read.was c.read_plan.ensures
+
+pub returns-in_err-read : goal.returns-in_err-read
+returns-in_err-read c =
+    let p = err_from_is_err_and c.from_residual.result c.from_residual.ensures.1 in
+    let said = subst (ReadSays c.args.request.now c.args.table.now) c.in_err-read.was c.read_plan.ensures in
+    let e = c.in_err-read.field-0.0 in
+    rw (p.1, p.2) (refused_said e ∙ not_known _ _ _ _ said (no_zero e))
 
 pub returns-then-places-cycle : goal.returns-then-places-cycle
 returns-then-places-cycle c =
-    c.refused-then-places-cycle.ensures ∙ too_few _ _ _ _ c.read_plan-read.ensures c.if-read-ne0.false c.if-places-cycle.true
+    refused_said ShortBuffer ∙ too_few _ _ _ _ (said (goal.at.returns-then-places-cycle c).In_ok-read) refl c.if-places-cycle.true
 
 pub returns : goal.returns
-returns c =
-    all_known _ _ _ _ c.read_plan-read.ensures c.if-read-ne0.false c.if-places-cycle.false
+returns c = all_known _ _ _ _ (said (goal.at.returns c).In_ok-read) refl c.if-places-cycle.false
