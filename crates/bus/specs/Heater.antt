@@ -2,7 +2,7 @@
 use Rattle.std.specs.Prelude.{ℕ, ◌%◌, ◌/◌, Bool, false, not, cond, ◌&&◌, List, ◌++◌, ℤ, pos, length, drop, ltb, eqb}
 use Rattle.heater_link.specs.Exchange.{fresh_link, exchange}
 use Rattle.heater_link.specs.declared.Losses.{Losses}
-use Rattle.heater_link.specs.declared.Exchange.{Exchange}
+use Rattle.heater_link.specs.Numbered.{Exchange}
 use Rattle.lent.specs.Words.{zeros}
 use Rattle.lent.specs.Entries.{entry_bytes}
 use Rattle.lent.specs.HeaterBytes.{is_heater, link_of, heater_bytes}

@@ -2,7 +2,7 @@
 use Rattle.std.specs.Prelude.{ℕ, ◌≤◌, ◌<◌, ◌≡◌, true, false, List, ◌++◌, ℤ, pos, length, drop}
 use borrow.Author.Tests.{lt-ltb, le-ltb}
 use Rattle.heater_link.specs.Exchange.{fresh_link}
-use Rattle.heater_link.specs.declared.Exchange.{Exchange}
+use Rattle.heater_link.specs.Numbered.{Exchange}
 use Rattle.lent.specs.Words.{zeros}
 use Rattle.lent.specs.Entries.{entry_bytes}
 use Rattle.lent.specs.HeaterBytes.{is_heater, heater_bytes}

@@ -4,7 +4,7 @@ use Rattle.heater_link.specs.Exchange.{fresh_link}
 use Rattle.heater_link.specs.Machine.{count_of}
 use Rattle.heater_link.specs.Calls.{Ask, exchange_of, link_from, answers_given, LinkLaw}
 use Rattle.heater_link.specs.declared.Link.{Link}
-use Rattle.heater_link.specs.declared.Exchange.{Exchange}
+use Rattle.heater_link.specs.Numbered.{Exchange}
 use Rattle.lent.specs.Entries.{entry_bytes}
 use Rattle.lent.specs.HeaterBytes.{is_heater, link_of}
 use Rattle.bus.specs.Reply.{refused_reply, reply, after}

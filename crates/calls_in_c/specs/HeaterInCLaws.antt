@@ -19,7 +19,7 @@ use Rattle.heater_link.specs.Machine.{count_of}
 use Rattle.heater_link.specs.Calls.{Ask, exchange_of, exchanges_from, link_from}
 use Rattle.heater_link.specs.Theorem.{link_law}
 use Rattle.heater_link.specs.declared.Link.{Link}
-use Rattle.heater_link.specs.declared.Exchange.{Exchange}
+use Rattle.heater_link.specs.Numbered.{Exchange}
 use Rattle.lent.specs.Words.{zeros}
 use Rattle.lent.specs.StateLaws.{long}
 use Rattle.lent.specs.State.{state_bytes}

@@ -1,6 +1,7 @@
 #![tactic(auto)]
 // Checks the table in a file against the request in another: `check_table REQUEST TABLE` prints `accepted` or `refused N`. A file that
 // cannot be read is named on standard error.
+use refusal::Refusal;
 use std::env::FillError;
 use std::fs::File;
 use std::io::{ErrorKind, Read};
@@ -51,14 +52,17 @@ fn read_file<R: Env + Files + Eprint + AllocGlobal>(
     Some(bytes)
 }
 
-fn print<R: Print + Eprint + AllocGlobal>(rt: &R, refusal: u8) {
-    if refusal == 0 {
-        streams::print(rt, b"accepted\n");
-        return;
+fn print<R: Print + Eprint + AllocGlobal>(rt: &R, checked: Result<(), Refusal>) {
+    match checked {
+        Ok(()) => {
+            streams::print(rt, b"accepted\n");
+        }
+        Err(refusal) => {
+            let mut line = [0u8; 4096];
+            let end = plan_listing::refused(refusal, &mut line);
+            streams::print(rt, &line[..end]);
+        }
     }
-    let mut line = [0u8; 4096];
-    let end = plan_listing::refused(refusal, &mut line);
-    streams::print(rt, &line[..end]);
 }
 
 fn main(rt: HostRuntime) {

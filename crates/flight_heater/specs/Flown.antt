@@ -14,7 +14,7 @@ use Rattle.heater_link.specs.Exchange.{fresh_link}
 use Rattle.heater_link.specs.Exactly.{IsPair, row_answered}
 use Rattle.heater_link.specs.Calls.{Ask, answers_given, link_from}
 use Rattle.heater_link.specs.declared.Losses.{Losses}
-use Rattle.heater_link.specs.declared.Exchange.{Exchange}
+use Rattle.heater_link.specs.Numbered.{Exchange}
 
 abbrev pub ask_for : List ℕ → List ℕ → ℕ → ℕ → Losses → Ask
 ask_for request table a b lost = record { request = request; table = table; a = a; b = b; lost = lost }

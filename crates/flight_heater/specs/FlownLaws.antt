@@ -25,7 +25,7 @@ use Rattle.heater_link.specs.ExactlyLaws.{link_exact}
 use Rattle.heater_link.specs.Calls.{exchange_of, exchanges_from, link_from}
 use Rattle.heater_link.specs.declared.Link.{Link}
 use Rattle.heater_link.specs.declared.Losses.{Losses}
-use Rattle.heater_link.specs.declared.Exchange.{Exchange}
+use Rattle.heater_link.specs.Numbered.{Exchange}
 use Rattle.flight_heater.specs.Flown.{ask_for, asks_of, frames_asked, SameFrames, LinkFlight}
 
 module _ (request bytes : List ℕ) (are : Bytes bytes) (x : Instance) (within : Within request x) (t : Table) (says : SaysTable bytes t) (acc : Accepted x t)

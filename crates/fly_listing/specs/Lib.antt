@@ -1,5 +1,7 @@
 -- To be believed:
 pub mod Flown
+-- How answers stand in types:
+pub mod Answers
 -- Theorems:
 pub mod ShortLaws
 -- Laws:

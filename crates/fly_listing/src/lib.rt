@@ -4,12 +4,14 @@
 ghost use Rattle.std.specs.Prelude.{◌*◌, ◌/◌, ◌-◌, ◌≤◌, ◌<◌, ◌≡◌, cond};
 ghost use Rattle.table.specs.Table.{carried_in, entry_of, decode};
 ghost use Rattle.dispatcher.specs.Dispatch.{entries_of};
+ghost use Rattle.dispatcher.specs.Numbered.{frame_ok};
 ghost use Rattle.text.specs.Text.{filled_to, put_all_of, PutIn};
 ghost use Rattle.plan_listing.specs.Listing.{each};
-ghost use Rattle.plan_listing.specs.Answers.{table_in};
-ghost use Rattle.fly_listing.specs.Flown.{served_text, frame_line, flight_lines, flight_listing};
+ghost use Rattle.fly_listing.specs.Flown.{served_text, frame_line, flight_listing};
+ghost use Rattle.fly_listing.specs.Answers.{FramesPut, FlightPut};
 
 use dispatcher::Frame;
+use refusal::Refusal;
 use table::Sizes;
 
 // The cycle of an entry's job, in cycle q: a carried one is of the cycle before.
@@ -33,7 +35,7 @@ fn put_served(out: &mut [u8], at: usize, task: u8, job: u8, q: u32) -> usize
 
 fn put_entries(out: &mut [u8], at: usize, frame: Frame, q: u32) -> usize
     requires { frame.count ≤ 16 }
-    ensures { filled_to result out.new ≡ put_all_of (filled_to at out.old) (each (served_text q) (entries_of frame)) }
+    ensures { filled_to result out.new ≡ put_all_of (filled_to at out.old) (each (served_text q) (entries_of (frame_ok frame))) }
 {
     let mut end = at;
     for i in 0..frame.count {
@@ -45,7 +47,7 @@ fn put_entries(out: &mut [u8], at: usize, frame: Frame, q: u32) -> usize
 // Frame m of a table with frames of length f, F rows to a cycle.
 fn put_frame(out: &mut [u8], at: usize, m: u32, sizes: Sizes, frame: Frame) -> usize
     requires { (m < 768) × (0 < sizes.height) × (frame.count ≤ 16) }
-    ensures { filled_to result out.new ≡ put_all_of (filled_to at out.old) (frame_line m (m * sizes.f) (m / sizes.height) (entries_of frame)) }
+    ensures { filled_to result out.new ≡ put_all_of (filled_to at out.old) (frame_line m (m * sizes.f) (m / sizes.height) (entries_of (frame_ok frame))) }
 {
     let name = text::put_all(out, at, b"frame ");
     let number = text::put_number(out, name, m);
@@ -55,30 +57,37 @@ fn put_frame(out: &mut [u8], at: usize, m: u32, sizes: Sizes, frame: Frame) -> u
     text::put(out, entries, b'\n')
 }
 
-// Three cycles of the table, from the fresh state on.
-fn put_frames(out: &mut [u8], table: &[u8]) -> usize
-    ensures { filled_to result out.new ≡ put_all_of (filled_to 0 out.old) (flight_lines (table_in (decode table.now))) }
+// Three cycles of the table, from the fresh state on; where it cannot be read, `out` is left as it was.
+fn put_frames(out: &mut [u8], table: &[u8]) -> Result<usize, Refusal>
+    ensures { FramesPut result (decode table.now) out.old out.new }
 {
-    let sizes = table::read::sizes(table);
+    let sizes = table::read::sizes(table)?;
     let frames = 3 * sizes.height as u32;
     let mut state = dispatcher::fresh();
     let mut end: usize = 0;
     for m in 0..frames {
-        let frame = dispatcher::next_frame(table, state);
+        let frame = dispatcher::next_frame(table, state)?;
         state = frame.state;
         end = put_frame(out, end, m, sizes, frame);
     }
-    end
+    Ok(end)
+}
+
+// Three cycles of the request's plan in flight, where there is one; a refusal leaves `out` as it was.
+fn put_flight(request: &[u8], out: &mut [u8]) -> Result<usize, Refusal>
+    ensures { FlightPut result request.now out.old out.new }
+{
+    let mut table = [0u8; 519];
+    let length = planner::plan(request, planner::PROGRAM_TRIES, &mut table).outcome?;
+    put_frames(out, &table[..length])
 }
 
 // Three cycles of the request's plan in flight, or the line of its refusal, within the tries that a program allows.
 pub fn list(request: &[u8], out: &mut [u8]) -> usize
     ensures { PutIn (flight_listing request.now) out.old result out.new }
 {
-    let mut table = [0u8; 519];
-    let planned = planner::plan(request, planner::PROGRAM_TRIES, &mut table);
-    if planned.refusal != 0 {
-        return plan_listing::refused(planned.refusal, out);
+    match put_flight(request, out) {
+        Ok(end) => end,
+        Err(refusal) => plan_listing::refused(refusal, out),
     }
-    put_frames(out, &table[..planned.length])
 }

@@ -5,7 +5,7 @@ use Rattle.heater_link.specs.Law.{Lawful}
 use Rattle.heater_link.specs.Exchange.{fresh_link, refused_exchange, exchange}
 use Rattle.heater_link.specs.declared.Link.{Link}
 use Rattle.heater_link.specs.declared.Losses.{Losses}
-use Rattle.heater_link.specs.declared.Exchange.{Exchange}
+use Rattle.heater_link.specs.Numbered.{Exchange}
 
 -- a call: "serves one frame, is told which of the two are lost in it". Request, table and pair are given anew each time, and may be any.
 pub record Ask : Type 0 where

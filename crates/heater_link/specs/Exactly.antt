@@ -11,7 +11,7 @@ use Rattle.dispatcher.specs.Dispatch.{next_frame, row_shown}
 use Rattle.heater_link.specs.Exchange.{refused_exchange, exchange}
 use Rattle.heater_link.specs.declared.Link.{Link}
 use Rattle.heater_link.specs.declared.Losses.{Losses}
-use Rattle.heater_link.specs.declared.Exchange.{Exchange}
+use Rattle.heater_link.specs.Numbered.{Exchange}
 
 -- "a, b" is a "pair of the request": in this order, wherever it stands, and if it stands twice
 pub record IsPair (x : Instance) (a b : ℕ) : Type 0 where

@@ -28,7 +28,7 @@ use Rattle.heater_link.specs.PairLaws.{is_pair_says, says_is_pair}
 use Rattle.heater_link.specs.Exactly.{IsPair, row_answered, given, ExchangeExact, LinkExact}
 use Rattle.heater_link.specs.declared.Link.{Link}
 use Rattle.heater_link.specs.declared.Losses.{Losses}
-use Rattle.heater_link.specs.declared.Exchange.{Exchange}
+use Rattle.heater_link.specs.Numbered.{Exchange}
 
 module _ (request bytes : List ℕ) (are : Bytes bytes) where
   -- 15 is none of the check's numbers

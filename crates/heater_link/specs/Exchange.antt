@@ -11,7 +11,7 @@ use Rattle.dispatcher.specs.Numbered.{Frame}
 use Rattle.heater_link.specs.Machine.{Ends, fresh_ends, Arrivals, toggles, answers, ends_now}
 use Rattle.heater_link.specs.declared.Link.{Link}
 use Rattle.heater_link.specs.declared.Losses.{Losses}
-use Rattle.heater_link.specs.declared.Exchange.{Exchange}
+use Rattle.heater_link.specs.Numbered.{Exchange}
 
 -- a link is the dispatcher's state and the two ends
 abbrev pub ends_of : Link → Ends

@@ -3,6 +3,8 @@
 -- the two ends and one call:
 pub mod Machine
 pub mod Exchange
+-- the answer as the paper numbers it:
+pub mod Numbered
 -- what is claimed of every list of calls, and which number, exactly:
 pub mod Law
 pub mod Exactly

@@ -31,7 +31,7 @@ use Rattle.dispatcher.specs.Numbered.{Frame}
 use Rattle.heater_link.specs.Exchange.{serves, refused_exchange, served_in, exchanged_in, is_pair, pairs_in, exchange}
 use Rattle.heater_link.specs.declared.Link.{Link}
 use Rattle.heater_link.specs.declared.Losses.{Losses}
-use Rattle.heater_link.specs.declared.Exchange.{Exchange}
+use Rattle.heater_link.specs.Numbered.{Exchange}
 
 -- The entries and the pairs, as a slice of the first ones shows them
 

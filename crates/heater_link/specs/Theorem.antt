@@ -19,7 +19,7 @@ use Rattle.heater_link.specs.OrderLaws.{tasks_rise}
 use Rattle.heater_link.specs.Calls.{Ask, exchange_of, exchanges_from, no_ask}
 use Rattle.heater_link.specs.Calls.{ask_at, answers_given, answer_at, TaskServed, CommandArrives, ReplyArrives, Toggled, Answered, LinkHolds}
 use Rattle.heater_link.specs.declared.Link.{Link}
-use Rattle.heater_link.specs.declared.Exchange.{Exchange}
+use Rattle.heater_link.specs.Numbered.{Exchange}
 
 -- One call: what arrived, and what it said
 

@@ -3,9 +3,12 @@
 // and the check, and knows only their promises.
 ghost use Rattle.std.specs.Prelude.{◌≡◌, not, cond, ◌&&◌, ◌≤◌};
 ghost use Rattle.heater_link.specs.Machine.{differ};
-ghost use Rattle.heater_link.specs.Exchange.{fresh_link, arrives, refused_exchange, exchanged, exchanged_in, is_pair, exchange};
+ghost use Rattle.dispatcher.specs.Numbered.{frame_ok};
+ghost use Rattle.heater_link.specs.Exchange.{fresh_link, arrives, exchanged, served_in, is_pair, exchange};
+ghost use Rattle.heater_link.specs.Numbered.{exchange_ok, exchange_said};
 
 use dispatcher::{Frame, State};
+use refusal::Refusal;
 use request::Pair;
 
 // The dispatcher's state; the bit that the master sends, and the bit that the board last obeyed: false is 0, true is 1.
@@ -24,10 +27,9 @@ pub struct Losses {
 }
 
 // The entries served, as next-frame answers them; whether the board toggled and whether the command was answered in this call; and the link for the next
-// one. Or the number of the refusal, no entries, neither, and the link as it was.
+// one.
 #[derive(Clone, Copy)]
 pub struct Exchange {
-    pub refusal: u8,
     pub count: usize,
     pub tasks: [u8; 16],
     pub jobs: [u8; 16],
@@ -44,20 +46,6 @@ pub fn fresh() -> Link
         state: dispatcher::fresh(),
         master: false,
         obeyed: true,
-    }
-}
-
-fn refused(number: u8, link: Link) -> Exchange
-    ensures { result ≡ refused_exchange number link }
-{
-    Exchange {
-        refusal: number,
-        count: 0,
-        tasks: [0; 16],
-        jobs: [0; 16],
-        toggled: false,
-        answered: false,
-        link,
     }
 }
 
@@ -103,7 +91,7 @@ fn answers(reply: bool, shown: bool, master: bool) -> bool
 
 // A frame was served, and in it a command and a reply arrived, or did not. The command goes before the reply.
 fn exchanged(command: bool, reply: bool, frame: Frame, link: Link) -> Exchange
-    ensures { result ≡ exchanged command reply frame link }
+    ensures { exchange_ok result ≡ exchanged command reply (frame_ok frame) link }
 {
     let toggled = board_toggles(command, link.master, link.obeyed);
     let obeyed = board_obeys(command, link.master, link.obeyed);
@@ -114,10 +102,8 @@ fn exchanged(command: bool, reply: bool, frame: Frame, link: Link) -> Exchange
         tasks,
         jobs,
         state,
-        ..
     } = frame;
     Exchange {
-        refusal: 0,
         count,
         tasks,
         jobs,
@@ -131,32 +117,33 @@ fn exchanged(command: bool, reply: bool, frame: Frame, link: Link) -> Exchange
     }
 }
 
-// What comes of a frame that next-frame answered, with what is lost in it; or its number, which is 15.
+// What comes of a frame that next-frame answered, with what is lost in it.
 fn in_frame(frame: Frame, a: u8, b: u8, lost: Losses, link: Link) -> Exchange
     requires { frame.count ≤ 16 }
-    ensures { result ≡ exchanged_in a b lost frame link }
+    ensures { exchange_ok result ≡ served_in a b lost (frame_ok frame) link }
 {
-    if frame.refusal != 0 {
-        return refused(frame.refusal, link);
-    }
     let served = &frame.tasks[..frame.count];
     let command = arrives(served.contains(&a), lost.command);
     let reply = arrives(served.contains(&b), lost.reply);
     exchanged(command, reply, frame, link)
 }
 
-// One frame of the table is served for the pair a, b of the request. Or the check's number, 30 where a, b is no pair of the request, or 15.
-pub fn serve(request: &[u8], table: &[u8], a: u8, b: u8, lost: Losses, link: Link) -> Exchange
-    ensures { result ≡ exchange a b lost request.now table.now link }
+// One frame of the table is served for the pair a, b of the request. Or the check's refusal, 30 where a, b is no pair of the request, or 15: on a refusal
+// the caller keeps its link.
+pub fn serve(
+    request: &[u8],
+    table: &[u8],
+    a: u8,
+    b: u8,
+    lost: Losses,
+    link: Link,
+) -> Result<Exchange, Refusal>
+    ensures { exchange_said link result ≡ exchange a b lost request.now table.now link }
 {
-    let read = checker::read_plan(request, table);
-    if read.refusal != 0 {
-        return refused(read.refusal, link);
-    }
-    let cycle = read.cycle;
+    let cycle = checker::read_plan(request, table)?.cycle;
     if !is_pair(&cycle.pairs[..cycle.m], a, b) {
-        return refused(30, link);
+        return Err(Refusal::NoSuchPair);
     }
-    let frame = dispatcher::next_frame(table, link.state);
-    in_frame(frame, a, b, lost, link)
+    let frame = dispatcher::next_frame(table, link.state)?;
+    Ok(in_frame(frame, a, b, lost, link))
 }

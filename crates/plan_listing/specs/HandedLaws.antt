@@ -44,8 +44,11 @@ module _ (request : List ℕ) (r : Searched) (e : r ≡ searched_answer program_
     table_there : (bytes : List ℕ) → bytes ≡ outcome_buffer (program_outcome request) blank → decode (take r.length bytes) ≡ table back.t
     table_there bytes b = rw (b, back.front) (decode_encode back.t back.good.form)
 
+    pub not_malformed : (bytes : List ℕ) → bytes ≡ outcome_buffer (program_outcome request) blank → decode (take r.length bytes) ≡ malformed → ⊥
+    not_malformed bytes b is = let none : table back.t ≡ malformed = sym (table_there bytes b) ∙ is in never (cc)
+
     -- the request of a table that is handed out was read
-    request_there : (number : ℕ) → reading request ≡ unreadable number → ⊥
+    pub request_there : (number : ℕ) → reading request ≡ unreadable number → ⊥
     request_there number e =
         let (x, within) = handed_within_cycle program_tries request back.t back.is in
         let none : readable x.tasks x.pairs x.g ≡ unreadable number = sym (cycle_reading request x.tasks x.pairs x.g x.h x.jobs within) ∙ e in
@@ -71,5 +74,5 @@ module _ (request : List ℕ) (r : Searched) (e : r ≡ searched_answer program_
   plan_put (Err n) old new so = go so.1
     where
       go : ((number_of n ≡ 12) × (decode (take r.length bytes) ≡ malformed)) ⊎ (reading request ≡ unreadable (number_of n)) → PlanPut (Err n) request old new
-      go (inl w) = let none : table (back request r e z).t ≡ malformed = sym (table_there request r e z bytes b) ∙ w.1 in absurd (never (cc))
+      go (inl w) = absurd (not_malformed request r e z bytes b w.1)
       go (inr w) = absurd (request_there request r e z (number_of n) w)

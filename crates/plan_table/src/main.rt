@@ -3,15 +3,16 @@
 // standard error and nothing on standard output.
 ghost use Rattle.std.specs.Prelude.{◌≡◌, ◌≤◌, length, take};
 ghost use Rattle.plan_writer.specs.Outcome.{outcome_buffer};
+ghost use Rattle.planner.specs.Numbered.{searched_said};
 ghost use Rattle.planner.specs.Outcome.{program_tries, outcome_within, searched_answer};
 
 use planner::Searched;
 
 // The planner's answer and buffer within the tries that a program allows; the answer's length is within the buffer.
-fn plan(request: &[u8], out: &mut [u8]) -> Searched
-    ensures value { (result ≡ searched_answer program_tries request.now out.old)
+fn plan(request: &[u8], out: &mut [u8]) -> Searched<usize>
+    ensures value { (searched_said result ≡ searched_answer program_tries request.now out.old)
         × (out.new ≡ outcome_buffer (outcome_within program_tries request.now) out.old) }
-    ensures prefix_len { (result.length ≤ length out.new) × (result.length ≡ length (take result.length out.new)) }
+    ensures prefix_len { let n = (searched_said result).length in (n ≤ length out.new) × (n ≡ length (take n out.new)) }
 {
     planner::plan(request, planner::PROGRAM_TRIES, out)
 }
@@ -22,12 +23,13 @@ fn main(rt: HostRuntime) {
         return;
     };
     let mut out = [0u8; 4096];
-    let planned = plan(&request, &mut out);
-    if planned.refusal != 0 {
-        let end = plan_listing::refused(planned.refusal, &mut out);
-        let _ = rt.stderr().write_all(&out[..end]);
-        return;
+    match plan(&request, &mut out).outcome {
+        Ok(length) => {
+            streams::print(&rt, &out[..length]);
+        }
+        Err(refusal) => {
+            let end = plan_listing::refused(refusal, &mut out);
+            let _ = rt.stderr().write_all(&out[..end]);
+        }
     }
-    let length = planned.length;
-    streams::print(&rt, &out[..length]);
 }

@@ -2,8 +2,11 @@
 // Runs the reading of requests on byte strings of every kind that 1 to 8 and 17 refuse, and prints the number that each gets
 // (0: none). The file `stdout` beside src/ has the numbers that they must get.
 fn show<R: Print + Eprint + AllocGlobal>(rt: &R, name: &str, request: &[u8]) {
-    let cycle = cycle::read(request);
-    streams::was_printed(rt, println!(rt; "{} {name}", cycle.refusal));
+    let number = match cycle::read(request) {
+        Ok(_) => 0,
+        Err(refusal) => refusal.number(),
+    };
+    streams::was_printed(rt, println!(rt; "{number} {name}"));
 }
 
 // 1 and 2: the count of tasks, and bytes that end too early.

@@ -1,20 +1,26 @@
 #![tactic(auto)]
 // Plans the requests of the bench sheet that have a plan, checks each table and rewrites it, and prints what the check gives (0: accepted)
 // and whether the bytes are the same. The file `stdout` beside src/ has what it must print.
-fn print<R: Print + Eprint + AllocGlobal>(rt: &R, name: &str, refusal: u8, same: bool) {
-    let bytes = if same { "same" } else { "other" };
-    streams::was_printed(rt, println!(rt; "{name} {refusal} {bytes}"));
+use refusal::Refusal;
+
+// Whether the table of the request's plan, which the check must accept, is written again byte for byte.
+fn same(request: &[u8]) -> Result<bool, Refusal> {
+    let mut table = [0u8; 1024];
+    let mut again = [0u8; 1024];
+    let length = planner::plan(request, planner::PROGRAM_TRIES, &mut table).outcome?;
+    let table = &table[..length.min(1024)];
+    checker::check(request, table)?;
+    let length = rewriter::rewrite(request, table, &mut again)?;
+    Ok(table == &again[..length.min(1024)])
 }
 
 fn show<R: Print + Eprint + AllocGlobal>(rt: &R, name: &str, request: &[u8]) {
-    let mut table = [0u8; 1024];
-    let mut again = [0u8; 1024];
-    let planned = planner::plan(request, planner::PROGRAM_TRIES, &mut table);
-    let end = arith::at_most(planned.length, 1024);
-    let refusal = checker::check(request, &table[..end]);
-    let written = rewriter::rewrite(request, &table[..end], &mut again);
-    let again_end = arith::at_most(written.length, 1024);
-    print(rt, name, refusal, table[..end] == again[..again_end]);
+    let (number, bytes) = match same(request) {
+        Ok(true) => (0, "same"),
+        Ok(false) => (0, "other"),
+        Err(refusal) => (refusal.number(), "other"),
+    };
+    streams::was_printed(rt, println!(rt; "{name} {number} {bytes}"));
 }
 
 fn main(rt: HostRuntime) {

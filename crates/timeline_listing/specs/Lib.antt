@@ -1,6 +1,8 @@
 -- What `timeline` prints.
 -- To be believed:
 pub mod Printed
+-- How answers stand in types:
+pub mod Answers
 -- Theorems:
 pub mod Theorem
 pub mod ShortLaws

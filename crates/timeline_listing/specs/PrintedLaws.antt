@@ -28,7 +28,7 @@ use Rattle.checker.specs.Checked.{checked}
 use Rattle.checker.specs.Accepts.{accepts_described}
 use Rattle.plan_listing.specs.Listing.{refused_line, tasks_in}
 use Rattle.plan_listing.specs.Answers.{table_in}
-use Rattle.job_records.specs.Timeline.{timeline, records_of, timeline_of, filling, records_in}
+use Rattle.job_records.specs.Timeline.{timeline, records_of, timeline_of, filling, records_in, filled_answer}
 use Rattle.job_records.specs.KnownLaws.{long_enough}
 use Rattle.job_records.specs.declared.JobRecord.{JobRecord}
 use Rattle.timeline_listing.specs.Printed.{timeline_lines, printed_timeline, timeline_planned, timeline_text}
@@ -108,4 +108,13 @@ timeline_handed request bytes e = go (decode bytes) refl e
     go : (d : Decoded) → decode bytes ≡ d → program_outcome request ≡ outcome.handed (table_in d)
         → timeline_lines (tasks_in (reading request)) (records_in (filling request bytes 128)) ≡ timeline_text request
     go (table t) is q = text_handed request bytes t q is
+    go malformed is q = absurd (omega (arith, (handed_planned request _ q).describes.form.some_rows))
+
+-- a list of 128 records is filled from it
+pub handed_filled : (request bytes : List ℕ) → program_outcome request ≡ outcome.handed (table_in (decode bytes))
+    → (filled_answer (filling request bytes 128)).refusal ≡ 0
+handed_filled request bytes e = go (decode bytes) refl e
+  where
+    go : (d : Decoded) → decode bytes ≡ d → program_outcome request ≡ outcome.handed (table_in d) → (filled_answer (filling request bytes 128)).refusal ≡ 0
+    go (table t) is q = rw (filling_planned request t (handed_planned request t q) bytes is)
     go malformed is q = absurd (omega (arith, (handed_planned request _ q).describes.form.some_rows))

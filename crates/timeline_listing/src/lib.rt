@@ -4,12 +4,13 @@
 ghost use Rattle.std.specs.Prelude.{◌≤◌, ◌≡◌, ◌++◌, length};
 ghost use Rattle.request.specs.Request.{reading};
 ghost use Rattle.text.specs.Text.{ascii, decimal_of, filled_to, put_all_of, PutIn};
-ghost use Rattle.plan_listing.specs.Listing.{tasks_in};
-ghost use Rattle.job_records.specs.Timeline.{filling, records_in, busy_of};
+ghost use Rattle.job_records.specs.Timeline.{filling, busy_of};
 ghost use Rattle.job_records.specs.Known.{records_known};
-ghost use Rattle.timeline_listing.specs.Printed.{record_line, record_lines, busy_line, timeline_lines, timeline_text};
+ghost use Rattle.timeline_listing.specs.Printed.{record_line, record_lines, busy_line, timeline_text};
+ghost use Rattle.timeline_listing.specs.Answers.{TimelinePut, ListPut};
 
 use job_records::{JobRecord, JobsKnown};
+use refusal::Refusal;
 use request::Task;
 
 // A number and a space.
@@ -62,26 +63,32 @@ fn put_busy(out: &mut [u8], at: usize, ticks: u32) -> usize
     text::put(out, number, b'\n')
 }
 
-// The records of a table that the check accepts, and the sum of C over them. A list of 128 places holds the jobs of every cycle.
-fn put_timeline(out: &mut [u8], request: &[u8], table: &[u8]) -> usize
-    ensures { filled_to result out.new ≡ put_all_of (filled_to 0 out.old)
-        (timeline_lines (tasks_in (reading request.now)) (records_in (filling request.now table.now 128))) }
+// The records of a table that the check accepts, and the sum of C over them; where it refuses, `out` is left as it was. A list of 128 places holds the jobs
+// of every cycle.
+fn put_timeline(out: &mut [u8], request: &[u8], table: &[u8]) -> Result<usize, Refusal>
+    ensures { TimelinePut result (reading request.now) (filling request.now table.now 128) out.old out.new }
 {
-    let known = job_records::known(request, table, 128);
-    let read = request::read(request);
-    let tasks = read.tasks;
+    let known = job_records::known(request, table, 128)?;
+    let read = request::read(request)?;
     let end = put_records(out, 0, known);
-    put_busy(out, end, busy(known, tasks))
+    Ok(put_busy(out, end, busy(known, read.tasks)))
+}
+
+// The timeline of the request's plan, where there is one; a refusal leaves `out` as it was.
+fn put_list(request: &[u8], out: &mut [u8]) -> Result<usize, Refusal>
+    ensures { ListPut result request.now out.old out.new }
+{
+    let mut table = [0u8; 519];
+    let length = planner::plan(request, planner::PROGRAM_TRIES, &mut table).outcome?;
+    put_timeline(out, request, &table[..length])
 }
 
 // The timeline of the request's plan, or the line of its refusal, within the tries that a program allows.
 pub fn list(request: &[u8], out: &mut [u8]) -> usize
     ensures { PutIn (timeline_text request.now) out.old result out.new }
 {
-    let mut table = [0u8; 519];
-    let planned = planner::plan(request, planner::PROGRAM_TRIES, &mut table);
-    if planned.refusal != 0 {
-        return plan_listing::refused(planned.refusal, out);
+    match put_list(request, out) {
+        Ok(end) => end,
+        Err(refusal) => plan_listing::refused(refusal, out),
     }
-    put_timeline(out, request, &table[..planned.length])
 }

@@ -1,13 +1,8 @@
 -- What is served arrives unless it is lost; the rest is what `exchanged` ensures.
 use Rattle.std.proofs.Common.{◌≡◌, ◌∙◌, ap, arith, Bool}
 use Rattle.heater_link.specs.Exchange.{serves, arrives}
-use Rattle.heater_link.specs.StepLaws.{served_among, frame_refused, frame_exchanged}
+use Rattle.heater_link.specs.StepLaws.{served_among}
 use Rattle.heater_link.proofs.in_frame.Goals as goal
-
-pub returns-then-frame-ne0 : goal.returns-then-frame-ne0
-returns-then-frame-ne0 c =
-    let a = c.args in
-    c.refused.ensures ∙ frame_refused a.a a.b a.lost a.frame a.link c.if-frame-ne0.true
 
 pub returns : goal.returns
 returns c =
@@ -16,4 +11,4 @@ returns c =
     c.arrives-command.ensures ∙ ap (λ (b : Bool). arrives b a.lost.command) (c.contains.ensures.value ∙ served_among a.a a.frame.tasks a.frame.count (omega (arith, c.requires))) in
     let reply : c.arrives-reply.result ≡ arrives (serves a.b a.frame.tasks a.frame.count) a.lost.reply =
     c.arrives-reply.ensures ∙ ap (λ (b : Bool). arrives b a.lost.reply) (c.contains-2.ensures.value ∙ served_among a.b a.frame.tasks a.frame.count (omega (arith, c.requires))) in
-    c.exchanged.ensures ∙ rw (reply, command) (frame_exchanged a.a a.b a.lost a.frame a.link c.if-frame-ne0.false)
+    rw (← command, ← reply) c.exchanged.ensures

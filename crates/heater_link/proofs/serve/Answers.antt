@@ -1,58 +1,81 @@
 -- What passes the check was read, and so its pairs are there. Each way out is one case of the definition.
-use Rattle.std.proofs.Common.{◌≡◌, sym, ap, ◌∙◌, ◌≤◌, arith}
+use Rattle.std.specs.Prelude.{Ok}
+use Rattle.std.proofs.Common.{◌≡◌, ◌≤◌, refl, sym, ap, ◌∙◌, arith}
+use Rattle.std.proofs.lemmas.Result.{err_from_is_err_and}
+use Rattle.request.specs.SectionLaws.{no_zero}
 use Rattle.cycle.specs.Cycle.{cycle_of}
+use Rattle.cycle.specs.Answers.{cycle_answered}
+use Rattle.table.specs.Table.{decode}
+use Rattle.checker.specs.Checked.{checked, check_number}
+use Rattle.checker.specs.Answers.{read_answer}
+use Rattle.checker.specs.Numbered.{read_said}
+use Rattle.dispatcher.specs.Dispatch.{next_frame}
 use Rattle.dispatcher.specs.FrameLaws.{frame_few}
-use Rattle.checker.specs.Checked.{check_number}
+use Rattle.dispatcher.specs.Numbered.{Frame, frame_ok}
 use Rattle.heater_link.specs.Exchange.{is_pair, pairs_in}
-use Rattle.heater_link.specs.StepLaws.{number_is, cycle_is, few_pairs, same_pairs, pairs_taken, check_refuses, pair_refused, pair_served}
+use Rattle.heater_link.specs.StepLaws.{number_is, cycle_is, few_pairs, same_pairs, pairs_taken, check_refuses, pair_refused, pair_served, frame_refused, frame_exchanged}
 use Rattle.heater_link.proofs.serve.Goals as goal
-use Rattle.heater_link.proofs.serve.Goals.{Else-read-ne0, After-is_pair}
+use Rattle.heater_link.proofs.serve.Goals.{In_ok-cycle, After-is_pair, In_ok-frame}
 
-passes : (c : Else-read-ne0) → check_number c.args.request.now c.args.table.now ≡ 0
-passes c =
-    let a = c.args in
-    sym (number_is a.request.now a.table.now _ c.read_plan-read.ensures) ∙ c.if-read-ne0.false
+was_read : (c : In_ok-cycle) → let cycle = cycle_answered (cycle_of c.args.request.now) in
+    read_said cycle (Ok c.in_ok-cycle.field-0) ≡ read_answer cycle (checked (cycle_of c.args.request.now) (decode c.args.table.now))
+was_read c = rw c.in_ok-cycle.was at c.read_plan.ensures
 
-few : (c : Else-read-ne0) → c.read_plan-read.result.cycle.m ≤ 16
-few c =
-    let a = c.args in
-    few_pairs a.request.now a.table.now (passes c) _ (cycle_is a.request.now a.table.now _ c.read_plan-read.ensures)
+passes : (c : In_ok-cycle) → check_number c.args.request.now c.args.table.now ≡ 0
+passes c = sym (number_is c.args.request.now c.args.table.now _ (was_read c))
+
+cycle_was : (c : In_ok-cycle) → c.in_ok-cycle.field-0.cycle ≡ cycle_answered (cycle_of c.args.request.now)
+cycle_was c = cycle_is c.args.request.now c.args.table.now _ (was_read c)
+
+few : (c : In_ok-cycle) → c.in_ok-cycle.field-0.cycle.m ≤ 16
+few c = few_pairs c.args.request.now c.args.table.now (passes c) _ (cycle_was c)
 
 -- what is asked of the slice is asked of the request's pairs
 asked : (c : After-is_pair) → c.is_pair.result ≡ is_pair c.args.a c.args.b (pairs_in (cycle_of c.args.request.now))
 asked c =
     let a = c.args in
-    let read = (goal.at.After-is_pair c).Else-read-ne0 in
-    let cycle = c.read_plan-read.result.cycle in
+    let read = (goal.at.After-is_pair c).In_ok-cycle in
+    let cycle = c.in_ok-cycle.field-0.cycle in
     c.is_pair.ensures
     ∙ ap (is_pair a.a a.b)
-    (pairs_taken cycle.pairs cycle.m (omega (arith, few read))
-    ∙ same_pairs a.request.now a.table.now (passes read) _ (cycle_is a.request.now a.table.now _ c.read_plan-read.ensures))
+    (pairs_taken cycle.pairs cycle.m (omega (arith, few read)) ∙ same_pairs a.request.now a.table.now (passes read) _ (cycle_was read))
 
-pub returns-then-read-ne0 : goal.returns-then-read-ne0
-returns-then-read-ne0 c =
+pub returns-in_err-cycle : goal.returns-in_err-cycle
+returns-in_err-cycle c =
     let a = c.args in
-    let number = number_is a.request.now a.table.now _ c.read_plan-read.ensures in
-    c.refused.ensures ∙ check_refuses a.a a.b a.lost a.request.now a.table.now a.link _ number c.if-read-ne0.true
+    let p = err_from_is_err_and c.from_residual.result c.from_residual.ensures.1 in
+    let number = number_is a.request.now a.table.now _ (rw c.in_err-cycle.was at c.read_plan.ensures) in
+    rw (p.1, p.2) (check_refuses a.a a.b a.lost a.request.now a.table.now a.link _ number (no_zero c.in_err-cycle.field-0.0))
 
 pub shared_ref_as_front-is_pair : goal.shared_ref_as_front-is_pair
-shared_ref_as_front-is_pair c = few (goal.at.shared_ref_as_front-is_pair c).Else-read-ne0
+shared_ref_as_front-is_pair c = few (goal.at.shared_ref_as_front-is_pair c).In_ok-cycle
 
 pub returns-then-not-is_pair : goal.returns-then-not-is_pair
 returns-then-not-is_pair c =
     let a = c.args in
     let none = sym (asked (goal.at.returns-then-not-is_pair c).After-is_pair) ∙ c.if-not-is_pair.true in
-    c.refused-then-not-is_pair.ensures
-    ∙ pair_refused a.a a.b a.lost a.request.now a.table.now a.link (passes (goal.at.returns-then-not-is_pair c).Else-read-ne0) none
+    pair_refused a.a a.b a.lost a.request.now a.table.now a.link (passes (goal.at.returns-then-not-is_pair c).In_ok-cycle) none
+
+pub returns-in_err-frame : goal.returns-in_err-frame
+returns-in_err-frame c =
+    let a = c.args in
+    let p = err_from_is_err_and c.from_residual-in_err-frame.result c.from_residual-in_err-frame.ensures.1 in
+    let found = sym (asked (goal.at.returns-in_err-frame c).After-is_pair) ∙ c.if-not-is_pair.false in
+    let frame = rw c.in_err-frame.was at c.next_frame.ensures in
+    let served = pair_served a.a a.b a.lost a.request.now a.table.now a.link (passes (goal.at.returns-in_err-frame c).In_ok-cycle) found in
+    rw (p.1, p.2) (frame_refused a.a a.b a.lost _ a.link (no_zero c.in_err-frame.field-0.0) ∙ rw (← frame) at served)
+
+frame_was : (c : In_ok-frame) → frame_ok c.in_ok-frame.frame ≡ next_frame (decode c.args.table.now) c.args.link.state
+frame_was c = rw c.in_ok-frame.was at c.next_frame.ensures
 
 pub in_frame-requires : goal.in_frame-requires
 in_frame-requires c =
     let a = c.args in
-    rw c.next_frame-frame.ensures (frame_few a.table.now a.link.state)
+    omega (arith, ap (λ (f : Frame). f.count) (frame_was (goal.at.in_frame-requires c).In_ok-frame), frame_few a.table.now a.link.state)
 
 pub returns : goal.returns
 returns c =
     let a = c.args in
     let found = sym (asked (goal.at.returns c).After-is_pair) ∙ c.if-not-is_pair.false in
-    c.in_frame.ensures ∙ rw c.next_frame-frame.ensures
-    (pair_served a.a a.b a.lost a.request.now a.table.now a.link (passes (goal.at.returns c).Else-read-ne0) found)
+    let served = pair_served a.a a.b a.lost a.request.now a.table.now a.link (passes (goal.at.returns c).In_ok-cycle) found in
+    c.in_frame.ensures ∙ frame_exchanged a.a a.b a.lost _ a.link refl ∙ rw (← frame_was (goal.at.returns c).In_ok-frame) at served
