@@ -1,7 +1,10 @@
 -- Each way out of a call on a draft, as its definition has it.
-use Rattle.std.specs.Prelude.{ℕ, ◌≤◌, ◌<◌, ◌≡◌, List, ℤ, pos, length}
-use Rattle.std.proofs.Common.{inl, inr, arith}
+use Rattle.std.specs.Prelude.{ℕ, ◌≤◌, ◌<◌, ◌≡◌, List, ℤ, length, Result, Ok, Err}
+use Rattle.std.proofs.Common.{ap, refl, inl, inr, arith}
 use borrow.Author.Tests.{lt-ltb, le-ltb}
+use Rattle.refusal.specs.Refusal.{number_of}
+use Rattle.refusal.specs.declared.Refusal.{Refusal}
+use Rattle.request.specs.SectionLaws.{no_zero}
 use Rattle.cursor.specs.WrittenLaws.{written_most}
 use Rattle.cursor.specs.Written.{Written}
 use Rattle.table.specs.Table.{encode}
@@ -13,11 +16,11 @@ use Rattle.plan_writer.specs.OutcomeLaws.{refused_answer, table_answer}
 use Rattle.draft.specs.Draft.{write, frames_held}
 use Rattle.draft.specs.WriteLaws.{WriteComes, write_comes_to}
 use Rattle.draft.specs.declared.Draft.{Draft}
-use Rattle.draft.specs.Numbered.{Drafted}
+use Rattle.draft.specs.Numbered.{Drafted, drafted_said}
 use Rattle.lent.specs.DraftBytes.{draft_in, draft_bytes}
-use Rattle.bus.specs.Reply.{refused_reply}
-use Rattle.bus.specs.ReplyLaws.{reply_refused, reply_value, after_refusal, after_value, written_refused, written_length}
-use Rattle.bus.specs.Drafts.{drafted_reply, drafted_bytes, write_reply, write_buffer}
+use Rattle.bus.specs.Reply.{refused_reply, written_reply}
+use Rattle.bus.specs.ReplyLaws.{reply_refused, reply_value, after_refusal, after_value}
+use Rattle.bus.specs.Drafts.{handed_reply, handed_bytes, drafted_reply, drafted_bytes, write_reply, write_buffer}
 
 -- a call that gives a draft
 module _ (made : Drafted) (draft : List ℕ) where
@@ -28,20 +31,14 @@ module _ (made : Drafted) (draft : List ℕ) where
   unfolding drafted_reply drafted_bytes
   too_short h = let e = lt-ltb (length draft) 770 h in (rw e, rw e)
 
-  module _ (room : 770 ≤ length draft) where
-    pub draft_refused : (made.refusal ≡ 0 → ⊥) → Drafts (refused_reply made.refusal) draft
-    unfolding drafted_reply drafted_bytes
-    draft_refused h = rw (le-ltb (length draft) 770 room) (
-      reply_refused made.refusal 0 h,
-      after_refusal made.refusal (draft_bytes made.draft draft) draft h,
-    )
-
-    pub draft_made : made.refusal ≡ 0 → Drafts (pos 0) (draft_bytes made.draft draft)
-    unfolding drafted_reply drafted_bytes
-    draft_made h = rw (le-ltb (length draft) 770 room) (
-      reply_value made.refusal 0 h,
-      after_value made.refusal (draft_bytes made.draft draft) draft h,
-    )
+-- a draft handed back: what the call `made` says of it, of any draft `old` that its caller had
+pub handed_back : (old : Draft) (made : Result Draft Refusal) (draft : List ℕ) → 770 ≤ length draft
+    → (handed_reply made ≡ drafted_reply (drafted_said old made) draft) × (handed_bytes made draft ≡ drafted_bytes (drafted_said old made) draft)
+unfolding drafted_reply drafted_bytes
+handed_back old (Ok d) draft room = rw (le-ltb (length draft) 770 room) (reply_value 0 0 refl, after_value 0 (draft_bytes d draft) draft refl)
+handed_back old (Err e) draft room =
+    rw (le-ltb (length draft) 770 room)
+    (reply_refused (number_of e) 0 (no_zero e), after_refusal (number_of e) (draft_bytes old draft) draft (no_zero e))
 
 -- bus_draft_write
 module _ (request draft out : List ℕ) where
@@ -53,13 +50,9 @@ module _ (request draft out : List ℕ) where
   write_short h = let e = lt-ltb (length draft) 770 h in (rw e, rw e)
 
   module _ (room : 770 ≤ length draft) (w : Written) (e : w ≡ outcome_answer (write request (draft_in draft)) out) where
-    pub write_refused : (w.refusal ≡ 0 → ⊥) → refused_reply w.refusal ≡ write_reply request draft out
+    pub write_answered : written_reply w ≡ write_reply request draft out
     unfolding write_reply
-    write_refused h = rw (le-ltb (length draft) 770 room) (written_refused w _ e h)
-
-    pub write_made : w.refusal ≡ 0 → pos w.length ≡ write_reply request draft out
-    unfolding write_reply
-    write_made h = rw (le-ltb (length draft) 770 room) (written_length w _ e h)
+    write_answered = rw (le-ltb (length draft) 770 room) (ap written_reply e)
 
   pub write_buffer_lem : 770 ≤ length draft → outcome_buffer (write request (draft_in draft)) out ≡ write_buffer request draft out
   unfolding write_buffer

@@ -1,5 +1,6 @@
 // The count of tries, and the four counts of a task's phases, each in 8 lent bytes.
 ghost use Rattle.std.specs.Prelude.{◌≡◌, ◌≤◌, ◌++◌, length, drop};
+ghost use Rattle.phases.specs.Numbered.{counts_ok};
 ghost use Rattle.lent.specs.Numbers.{low_first, counts_bytes};
 
 use phases::PhaseCounts;
@@ -15,7 +16,7 @@ pub fn write_number(out: &mut [u8], number: u64)
 // The first 8 bytes get the four counts; those behind them are left alone.
 pub fn write_phases(counts: &mut [u8], found: PhaseCounts)
     requires { 8 ≤ length counts.old }
-    ensures { counts.new ≡ counts_bytes found ++ drop 8 counts.old }
+    ensures { counts.new ≡ counts_bytes (counts_ok found) ++ drop 8 counts.old }
 {
     cursor::put_word(counts, 0, found.tables);
     cursor::put_word(counts, 2, found.nines);
