@@ -196,11 +196,11 @@ module _ {g : InArrays} (c : Packed g) {low high : List ℕ} where
 
   pub none_of_sweep : {first end side tied : List ℕ} → Filled (side_by (rows_in g) low high) (jobs_in g) side → Filled (row_by low side 1024) (jobs_in g) first
       → Filled (row_by high side 1025) (jobs_in g) end → Marked (counts_in g) g.links (jobs_in g) tied
-      → From (rules_in g (first ∷ end ∷ side ∷ tied ∷ [])) (rows_in g) 0 (replicate 128 false) → None (problem_in g) (domains low high)
+      → From (rules_in g (record { first = first; end = end; side = side; tied = tied })) (rows_in g) 0 (replicate 128 false) → None (problem_in g) (domains low high)
   unfolding rules_in
   none_of_sweep {first} {end} {side} {tied} sides firsts ends ties e = none_swept c.proper stated 128 c.few e
     where
-      stated : Stated (problem_in g) (domains low high) (jobs_of g (first ∷ end ∷ side ∷ tied ∷ []))
+      stated : Stated (problem_in g) (domains low high) (jobs_of g (record { first = first; end = end; side = side; tied = tied }))
       stated = record {
         few_rows = c.few_rows;
         jobs = sym c.jobs;

@@ -12,6 +12,7 @@ ghost use Rattle.exact.specs.None.{None};
 ghost use Rattle.prune.specs.Arrays.{Packed, domains, marked_by, Marked};
 
 use searcher::Problem;
+use sweep::Swept;
 use tighten::Domains;
 
 // Marks the job that link l names, if it must not be earlier.
@@ -78,15 +79,20 @@ pub fn may(
     if d.is_empty(n) {
         return false;
     }
-    let (sides, firsts, ends) = sides::rows_of(&d, n, rows);
-    let swept = [firsts, ends, sides, tied];
+    let (side, first, end) = sides::rows_of(&d, n, rows);
+    let swept = Swept {
+        first,
+        end,
+        side,
+        tied,
+    };
     if !sweep::sweep(problem, &swept, found, words) {
         return false;
     }
     if depth == 0 {
         return true;
     }
-    let Some(i) = sides[..n].iter().position(|side| *side == 1024) else {
+    let Some(i) = side[..n].iter().position(|side| *side == 1024) else {
         return true;
     };
     let mut e = d.high;

@@ -16,10 +16,11 @@ use borrow.Author.Tests.{ltb-true, ltb-false, eqb-true, eqb-false}
 use Rattle.exact.specs.Sweep.{Rules, skips}
 use Rattle.exact.specs.Words.{word, word_at}
 use Rattle.searcher.specs.declared.Problem.{Problem as InArrays}
-use Rattle.sweep.specs.Arrays.{part_in, rules_in, bit, with_bit, Begun, Beginning, Unfree}
+use Rattle.sweep.specs.declared.Swept.{Swept}
+use Rattle.sweep.specs.Arrays.{rules_in, bit, with_bit, Begun, Beginning, Unfree}
 
 -- the first row of a job
-pub first_of : (g : InArrays) (s : List (List ℕ)) (i : ℕ) → (rules_in g s).first i ≡ get_or (part_in s 0) i 0
+pub first_of : (g : InArrays) (s : Swept) (i : ℕ) → (rules_in g s).first i ≡ get_or s.first i 0
 unfolding rules_in
 first_of g s i = refl
 
@@ -188,14 +189,14 @@ module _ {u : Rules} {rows n : ℕ} {ws : List ℕ} where
     }
 
 -- jobs without a free bit are passed over
-module _ (g : InArrays) (s : List (List ℕ)) (ps : List Bool) (p : ℕ) where
+module _ (g : InArrays) (s : Swept) (ps : List Bool) (p : ℕ) where
   passed_by : (i : ℕ) → ((rules_in g s).first i ≤ p → get_or ps i false ≡ true) → skips (rules_in g s) p ps i ≡ true
   unfolding rules_in
-  passed_by i has = go (ltb p (get_or (part_in s 0) i 0)) refl
+  passed_by i has = go (ltb p (get_or s.first i 0)) refl
     where
-      go : (b : Bool) → ltb p (get_or (part_in s 0) i 0) ≡ b → (get_or ps i false || ltb p (get_or (part_in s 0) i 0)) ≡ true
+      go : (b : Bool) → ltb p (get_or s.first i 0) ≡ b → (get_or ps i false || ltb p (get_or s.first i 0)) ≡ true
       go true t = rw t (or-true (get_or ps i false))
-      go false t = rw (has (ltb-false p (get_or (part_in s 0) i 0) t))
+      go false t = rw (has (ltb-false p (get_or s.first i 0) t))
 
   module _ {rows : ℕ} {ws : List ℕ} (b : Begun (rules_in g s) rows ws) (row : p < rows) {w i j : ℕ} where
     pub low_passed : w ≡ word_at ps 0 → Unfree (get_or ws (2 * p) 0) w i j

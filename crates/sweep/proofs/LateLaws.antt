@@ -14,11 +14,12 @@ use Rattle.exact.specs.Sweep.{Rules, sum, waiting, From}
 use Rattle.exact.specs.Intervals.{sum_snoc, due_at, waiting_more}
 use Rattle.exact.specs.SweepLaws.{row_late}
 use Rattle.searcher.specs.declared.Problem.{Problem as InArrays}
-use Rattle.sweep.specs.Arrays.{part_in, rules_in, due_share, Due, added_at, taken_at}
+use Rattle.sweep.specs.declared.Swept.{Swept}
+use Rattle.sweep.specs.Arrays.{rules_in, due_share, Due, added_at, taken_at}
 
 -- the rules' ends and costs
-module _ (g : InArrays) (s : List (List ℕ)) (i : ℕ) where
-  pub end_of : (rules_in g s).end i ≡ get_or (part_in s 1) i 0
+module _ (g : InArrays) (s : Swept) (i : ℕ) where
+  pub end_of : (rules_in g s).end i ≡ get_or s.end i 0
   unfolding rules_in
   end_of = refl
 

@@ -11,9 +11,10 @@ use Rattle.search.specs.Placing.{links_at}
 use Rattle.search.specs.LoadLaws.{both_true}
 use Rattle.searcher.specs.Arrays.{counts_in}
 use Rattle.searcher.specs.declared.Problem.{Problem as InArrays}
+use Rattle.sweep.specs.declared.Swept.{Swept}
 use Rattle.exact.specs.Sweep.{Rules, more, skips, puts, leaves, in_order}
 use Rattle.exact.specs.Sided.{all_in, put_by, leave_by}
-use Rattle.sweep.specs.Arrays.{part_in, sides_in, lets_by, tied_in, rules_in}
+use Rattle.sweep.specs.Arrays.{sides_in, lets_by, tied_in, rules_in}
 
 -- the test of all numbers, in std's word
 pub all_of : (t : ℕ → Bool) (ls : List ℕ) → list_all t ls ≡ all_in t ls
@@ -22,12 +23,12 @@ all_of t [] = refl
 all_of t (l ∷ ls) = rw (all_of t ls)
 
 -- the tests of a job
-module _ (g : InArrays) (s : List (List ℕ)) (ps : List Bool) (i : ℕ) where
+module _ (g : InArrays) (s : Swept) (ps : List Bool) (i : ℕ) where
   abbrev u : Rules
   u = rules_in g s
 
   abbrev first : ℕ
-  first = get_or (part_in s 0) i 0
+  first = get_or s.first i 0
 
   abbrev cost : ℕ
   cost = get_or g.cost i 0
@@ -48,13 +49,13 @@ module _ (g : InArrays) (s : List (List ℕ)) (ps : List Bool) (i : ℕ) where
   unfolding rules_in
   cost_within room e = leb-true cost room (both_true (leb cost room) (all_in (put_by (sides_in s) ps i) (links_at (counts_in g) g.links i)) e).0
 
-  pub last_row : (p : ℕ) → get_or (part_in s 1) i 0 ≤ p + 1 → ltb (p + 1) (get_or (part_in s 1) i 0) ≡ leaves u p ps i
+  pub last_row : (p : ℕ) → get_or s.end i 0 ≤ p + 1 → ltb (p + 1) (get_or s.end i 0) ≡ leaves u p ps i
   unfolding rules_in
-  last_row p h = rw (le-ltb (p + 1) (get_or (part_in s 1) i 0) h)
+  last_row p h = rw (le-ltb (p + 1) (get_or s.end i 0) h)
 
-  pub later_row : (p : ℕ) → p + 1 < get_or (part_in s 1) i 0 → all_in (leave_by (sides_in s) ps i) (links_at (counts_in g) g.links i) ≡ leaves u p ps i
+  pub later_row : (p : ℕ) → p + 1 < get_or s.end i 0 → all_in (leave_by (sides_in s) ps i) (links_at (counts_in g) g.links i) ≡ leaves u p ps i
   unfolding rules_in
-  later_row p h = rw (lt-ltb (p + 1) (get_or (part_in s 1) i 0) h)
+  later_row p h = rw (lt-ltb (p + 1) (get_or s.end i 0) h)
 
   or_false_right : (a b : Bool) → (a || b) ≡ false → (a ≡ false) × (b ≡ false)
   or_false_right true b e = (e, absurd (false≢true (sym e)))
@@ -65,12 +66,12 @@ module _ (g : InArrays) (s : List (List ℕ)) (ps : List Bool) (i : ℕ) where
   unfolding rules_in
   not_skipped p e = let b = or_false_right (get_or ps i false) (ltb p first) e in (b.0, ltb-false p first b.1)
 
-  pub more_of : (p room : ℕ) → skips u p ps i ≡ false → get_or (part_in s 3) i 0 ≡ 0 → puts u ps room i ≡ true → more u p ps room i ≡ true
+  pub more_of : (p room : ℕ) → skips u p ps i ≡ false → get_or s.tied i 0 ≡ 0 → puts u ps room i ≡ true → more u p ps room i ≡ true
   unfolding rules_in more
   more_of p room e z a =
       let b = not_skipped p e in
       let c = both_true (leb cost room) (all_in (put_by (sides_in s) ps i) (links_at (counts_in g) g.links i)) a in
-      rw (b.0, le-leb first p b.1, c.0, c.1, eq-eqb (get_or (part_in s 3) i 0) 0 z)
+      rw (b.0, le-leb first p b.1, c.0, c.1, eq-eqb (get_or s.tied i 0) 0 z)
 
   pub free_of : (room : ℕ) → puts u ps room i ≡ true → tied_in s i ≡ false → u.free ps i ≡ true
   unfolding rules_in

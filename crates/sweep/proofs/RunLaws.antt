@@ -13,6 +13,7 @@ use lib.ListN.{length, get_or, set, replicate, length-set, length-replicate}
 use lib.Seq.{set-set, set-get_or}
 use Rattle.searcher.specs.Arrays.{jobs_in}
 use Rattle.searcher.specs.declared.Problem.{Problem as InArrays}
+use Rattle.sweep.specs.declared.Swept.{Swept}
 use Rattle.exact.specs.Sweep.{Rules, any_below, more, skips, leaves, From, Rest, Ordered, Fewer}
 use Rattle.exact.specs.WitnessLaws.{ordered_first, ordered_put, from_fewer}
 use Rattle.exact.specs.SweepLaws.{Putting, row_begun, rest_full, rest_next, rest_skip, rest_stuck, rest_left}
@@ -22,7 +23,7 @@ use Rattle.sweep.specs.Arrays.{rules_in, Next, Due, added_at, taken_at, Going, F
 use Rattle.sweep.proofs.LateLaws.{due_has, due_taken, due_restored}
 
 -- the rules' numbers
-module _ (g : InArrays) (s : List (List ℕ)) where
+module _ (g : InArrays) (s : Swept) where
   pub n_is : (rules_in g s).n ≡ jobs_in g
   unfolding rules_in
   n_is = refl

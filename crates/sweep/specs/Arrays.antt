@@ -1,41 +1,38 @@
 -- What the sweep is given in arrays: the rules that they stand for, and what its functions require and ensure. Assumes nothing.
-use Rattle.std.specs.Prelude.{◌≡◌, Bool, true, false, not, cond, ◌&&◌, List, [], ◌++◌, ℕ, ◌+◌, ◌-◌, ◌*◌, ◌/◌, ◌%◌, ◌^◌, ◌≤◌, ◌<◌, length, get_or, set, leb, eqb}
+use Rattle.std.specs.Prelude.{◌≡◌, Bool, true, false, not, cond, ◌&&◌, List, ◌++◌, ℕ, ◌+◌, ◌-◌, ◌*◌, ◌/◌, ◌%◌, ◌^◌, ◌≤◌, ◌<◌, length, get_or, set, leb, eqb}
 use Rattle.std.specs.Int.Bits.{bit_or}
 use Rattle.search.specs.Placing.{links_at}
 use Rattle.searcher.specs.Arrays.{counts_in, rows_in, jobs_in, LinksBack}
 use Rattle.searcher.specs.declared.Problem.{Problem as InArrays}
+use Rattle.sweep.specs.declared.Swept.{Swept}
 use Rattle.exact.specs.Sweep.{Rules, sum, skips, From, Rest, Ordered}
 use Rattle.exact.specs.Sided.{Jobs, rules_of, put_by, leave_by}
 use Rattle.exact.specs.SweepLaws.{Putting}
 use Rattle.exact.specs.Words.{word_at}
 use Rattle.sweep.specs.Memo.{Sound}
 
--- what is swept in one array: its parts
-abbrev pub part_in : List (List ℕ) → ℕ → List ℕ
-part_in s j = get_or s j []
-
 -- the side of each job
-abbrev pub sides_in : List (List ℕ) → ℕ → ℕ
-sides_in s i = get_or (part_in s 2) i 0
+abbrev pub sides_in : Swept → ℕ → ℕ
+sides_in s i = get_or s.side i 0
 
 -- whether a job with a higher number must not be later
-abbrev pub tied_in : List (List ℕ) → ℕ → Bool
-tied_in s i = not (eqb (get_or (part_in s 3) i 0) 0)
+abbrev pub tied_in : Swept → ℕ → Bool
+tied_in s i = not (eqb (get_or s.tied i 0) 0)
 
 -- the jobs: their costs and links, their rows and sides, and which are tied to one with a higher number
-abbrev pub jobs_of : InArrays → List (List ℕ) → Jobs
+abbrev pub jobs_of : InArrays → Swept → Jobs
 jobs_of g s = record {
   n = jobs_in g;
   f = g.f;
   cost = λ i. get_or g.cost i 0;
-  first = λ i. get_or (part_in s 0) i 0;
-  end = λ i. get_or (part_in s 1) i 0;
+  first = λ i. get_or s.first i 0;
+  end = λ i. get_or s.end i 0;
   side = sides_in s;
   links = λ i. links_at (counts_in g) g.links i;
   tied = tied_in s;
 }
 
-unfoldable pub rules_in : InArrays → List (List ℕ) → Rules
+unfoldable pub rules_in : InArrays → Swept → Rules
 rules_in g s = rules_of (jobs_of g s)
 
 -- there are as many jobs and rows as the arrays have room for, and each link has its place and names an earlier job

@@ -6,6 +6,7 @@ ghost use Rattle.exact.specs.Sweep.{skips};
 ghost use Rattle.exact.specs.Words.{word_at};
 ghost use Rattle.sweep.specs.Arrays.{rules_in, Sweepable, Begun, Beginning, Unfree, with_bit};
 
+use super::Swept;
 use searcher::Problem;
 
 // Sets bit j of word k.
@@ -17,7 +18,7 @@ fn add_bit(begun: &mut [u64; 512], k: usize, j: usize)
 }
 
 // Each job has its bit in its first row.
-fn in_first_rows(problem: &Problem, swept: &[[u16; 128]; 4], begun: &mut [u64; 512])
+fn in_first_rows(problem: &Problem, swept: &Swept, begun: &mut [u64; 512])
     requires sweepable { Sweepable problem.now }
     requires begun_len { length begun.old ≡ 512 }
     ensures { Beginning (rules_in problem.now swept.now) (rows_in problem.now)
@@ -25,7 +26,7 @@ fn in_first_rows(problem: &Problem, swept: &[[u16; 128]; 4], begun: &mut [u64; 5
 {
     let rows = problem.rows;
     let n = problem.n;
-    for (i, &row) in swept[0][..n].iter().enumerate() {
+    for (i, &row) in swept.first[..n].iter().enumerate() {
         if row < rows {
             add_bit(begun, 2 * (row as usize) + i / 64, i % 64);
         }
@@ -33,7 +34,7 @@ fn in_first_rows(problem: &Problem, swept: &[[u16; 128]; 4], begun: &mut [u64; 5
 }
 
 // Each job has its bit in its first row and in all after it.
-pub(super) fn begun_of(problem: &Problem, swept: &[[u16; 128]; 4]) -> [u64; 512]
+pub(super) fn begun_of(problem: &Problem, swept: &Swept) -> [u64; 512]
     requires { Sweepable problem.now }
     ensures { Begun (rules_in problem.now swept.now) (rows_in problem.now) result }
 {
@@ -58,7 +59,7 @@ fn free_place(begun: u64, put: u64, i: usize) -> usize
 // Jobs from job i on up to the answer are passed over in row p.
 pub(super) fn first_free(
     problem: &Problem,
-    swept: &[[u16; 128]; 4],
+    swept: &Swept,
     begun: &[u64; 512],
     flags: &[bool; 128],
     low: u64,

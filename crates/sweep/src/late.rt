@@ -5,6 +5,7 @@ ghost use Rattle.searcher.specs.Arrays.{rows_in, jobs_in};
 ghost use Rattle.exact.specs.Sweep.{From};
 ghost use Rattle.sweep.specs.Arrays.{rules_in, Sweepable, Due, added_at, taken_at};
 
+use super::Swept;
 use searcher::Problem;
 
 // Adds c at place e, if there is one.
@@ -31,14 +32,14 @@ pub(super) fn take_at(due: &mut [u32; 257], e: u16, c: u16, reach: u16) -> u16
 }
 
 // What the jobs take, where none has a row yet.
-pub(super) fn due_times(problem: &Problem, swept: &[[u16; 128]; 4]) -> [u32; 257]
+pub(super) fn due_times(problem: &Problem, swept: &Swept) -> [u32; 257]
     requires { Sweepable problem.now }
     ensures { Due (rules_in problem.now swept.now) (replicate 128 false) (jobs_in problem.now) result }
 {
     let n = problem.n;
     let mut due = [0u32; 257];
     for i in 0..n {
-        add_at(&mut due, swept[1][i], problem.cost[i]);
+        add_at(&mut due, swept.end[i], problem.cost[i]);
     }
     due
 }
@@ -58,7 +59,7 @@ fn stop_row(rows: u16, p: u16, space: u16, reach: u16) -> u16
 // Whether the jobs without a row need too much of the rows from p on up to some row.
 pub(super) fn is_late(
     problem: &Problem,
-    swept: &[[u16; 128]; 4],
+    swept: &Swept,
     flags: &[bool; 128],
     due: &[u32; 257],
     p: u16,

@@ -3,6 +3,7 @@
 ghost use Rattle.std.specs.Prelude.{◌≤◌};
 ghost use Rattle.searcher.specs.Arrays.{jobs_in};
 
+use super::Swept;
 use searcher::Problem;
 
 // A job of this cost may stand in the rows from `first` to before `end`.
@@ -13,13 +14,13 @@ fn add_cost(least: &mut [u16; 256], first: u16, end: u16, cost: u16) {
     }
 }
 
-pub(super) fn least_costs(problem: &Problem, swept: &[[u16; 128]; 4]) -> [u16; 256]
+pub(super) fn least_costs(problem: &Problem, swept: &Swept) -> [u16; 256]
     requires { jobs_in problem.now ≤ 128 }
 {
     let n = problem.n;
     let mut least = [65535u16; 256];
     for i in 0..n {
-        add_cost(&mut least, swept[0][i], swept[1][i], problem.cost[i]);
+        add_cost(&mut least, swept.first[i], swept.end[i], problem.cost[i]);
     }
     least
 }

@@ -3,11 +3,10 @@
 // it. Where `sweep` answers false, there is no way to do so; an answer true says nothing. `run` goes through the jobs of a row and on through
 // the rows, and `put` puts one job into the row and runs on from there, so calls are no deeper than there are jobs.
 //
-// The jobs' costs and links, their number and that of the rows stand in `problem`, as for the search. `swept` has the first row of each job, one
-// past its last, its side, and whether a job with a higher number must not be later. `begun` has a bit for each job that has begun in a row, and
-// `least` the least cost of the jobs of each row. `flags` says which jobs have a row, `low` and `high` are the same as words, and `kept` is true only where each of them
-// has its row behind those that must not be later. `due` has the times of the jobs without a row, `marks` and `words` are the memory of states that
-// failed.
+// The jobs' costs and links, their number and that of the rows stand in `problem`, as for the search. `begun` has a bit for each job that has begun
+// in a row, and `least` the least cost of the jobs of each row. `flags` says which jobs have a row, `low` and `high` are the same as words, and
+// `kept` is true only where each of them has its row behind those that must not be later. `due` has the times of the jobs without a row, `marks` and
+// `words` are the memory of states that failed.
 mod begun;
 mod late;
 mod least;
@@ -22,28 +21,25 @@ ghost use Rattle.sweep.specs.Arrays.{rules_in, Sweepable, Begun, Next, Going, Fa
 
 use searcher::Problem;
 
+// For each job its first row, one past its last, its side, and whether a job with a higher number must not be later: then it is not 0.
+#[derive(Clone, Copy)]
+pub struct Swept {
+    pub first: [u16; 128],
+    pub end: [u16; 128],
+    pub side: [u16; 128],
+    pub tied: [u16; 128],
+}
+
 // Job i is passed over in row p: it has a row, or its rows are later.
-fn is_skipped(
-    problem: &Problem,
-    swept: &[[u16; 128]; 4],
-    flags: &[bool; 128],
-    p: u16,
-    i: usize,
-) -> bool
+fn is_skipped(problem: &Problem, swept: &Swept, flags: &[bool; 128], p: u16, i: usize) -> bool
     requires { i < 128 }
     ensures { result ≡ skips (rules_in problem.now swept.now) p flags.now i }
 {
-    flags[i] || p < swept[0][i]
+    flags[i] || p < swept.first[i]
 }
 
 // Job i may be put into the row, which has this room left.
-fn may_put(
-    problem: &Problem,
-    swept: &[[u16; 128]; 4],
-    flags: &[bool; 128],
-    room: u16,
-    i: usize,
-) -> bool
+fn may_put(problem: &Problem, swept: &Swept, flags: &[bool; 128], room: u16, i: usize) -> bool
     requires { LinksBack (counts_in problem.now) problem.now.links i }
     ensures { result ≡ puts (rules_in problem.now swept.now) flags.now room i }
 {
@@ -51,23 +47,17 @@ fn may_put(
 }
 
 // Job i may be left out of row p: it has a later one.
-fn may_leave(
-    problem: &Problem,
-    swept: &[[u16; 128]; 4],
-    flags: &[bool; 128],
-    p: u16,
-    i: usize,
-) -> bool
+fn may_leave(problem: &Problem, swept: &Swept, flags: &[bool; 128], p: u16, i: usize) -> bool
     requires { (p < 65535) × LinksBack (counts_in problem.now) problem.now.links i }
     ensures { result ≡ leaves (rules_in problem.now swept.now) p flags.now i }
 {
-    p + 1 < swept[1][i] && order::all_let(problem, swept, flags, i, false)
+    p + 1 < swept.end[i] && order::all_let(problem, swept, flags, i, false)
 }
 
 // Job i, left out of row p, could still be put into it.
 fn could_put(
     problem: &Problem,
-    swept: &[[u16; 128]; 4],
+    swept: &Swept,
     flags: &[bool; 128],
     p: u16,
     room: u16,
@@ -78,14 +68,14 @@ fn could_put(
 {
     problem.cost[i] <= room
         && !is_skipped(problem, swept, flags, p, i)
-        && swept[3][i] == 0
+        && swept.tied[i] == 0
         && may_put(problem, swept, flags, room, i)
 }
 
 // Some job of the row could. The bits say how far the loop goes on, so it counts nothing.
 fn one_more(
     problem: &Problem,
-    swept: &[[u16; 128]; 4],
+    swept: &Swept,
     begun: &[u64; 512],
     least: &[u16; 256],
     flags: &[bool; 128],
@@ -119,15 +109,15 @@ fn one_more(
 }
 
 // The order is still kept where job i is put: it was, and no job with a higher number must be put before.
-fn still_kept(swept: &[[u16; 128]; 4], i: usize, kept: bool) -> bool
+fn still_kept(swept: &Swept, i: usize, kept: bool) -> bool
     requires { i < 128 }
     ensures { result ≡ true → (kept ≡ true) × (tied_in swept.now i ≡ false) }
 {
-    kept && swept[3][i] == 0
+    kept && swept.tied[i] == 0
 }
 
 // The order is kept: so it was, or all jobs are in order.
-fn is_kept(problem: &Problem, swept: &[[u16; 128]; 4], flags: &[bool; 128], kept: bool) -> bool
+fn is_kept(problem: &Problem, swept: &Swept, flags: &[bool; 128], kept: bool) -> bool
     requires sweepable { Sweepable problem.now }
     requires ordered { kept ≡ true → Ordered (rules_in problem.now swept.now) flags.now }
     ensures { result ≡ true → Ordered (rules_in problem.now swept.now) flags.now }
@@ -138,7 +128,7 @@ fn is_kept(problem: &Problem, swept: &[[u16; 128]; 4], flags: &[bool; 128], kept
 // A run that began in row p and answered e has shown that the state of the next row fails, and the order is kept there.
 fn is_worth_noting(
     problem: &Problem,
-    swept: &[[u16; 128]; 4],
+    swept: &Swept,
     flags: &[bool; 128],
     kept: bool,
     p: u16,
@@ -155,7 +145,7 @@ fn is_worth_noting(
 // They say how far the loop goes on, so it counts nothing.
 fn next_job(
     problem: &Problem,
-    swept: &[[u16; 128]; 4],
+    swept: &Swept,
     begun: &[u64; 512],
     flags: &[bool; 128],
     low: u64,
@@ -187,12 +177,12 @@ fn next_job(
 // was no way on; `None` says nothing. At most `left` jobs are put, each by one call more. The jobs put into row p so far may
 // stand only in rows before row `reach`. At the end of a row the jobs are in order again, so this is tested there, once for all that follows.
 // Each turn goes on to a job or to a row, so the loop counts neither.
-// What is given goes on argument by argument: lent as one struct of borrowed parts it took 1.05 times as long over five long searches (0.99 times
-// over those left open), where the bar is 1.03.
+// The problem and what is swept go on as two arguments: all lent as one struct of borrowed parts it took 1.05 times as long over five long searches
+// (0.99 times over those left open), where the bar is 1.03.
 #[cycle(put_run)]
 fn run(
     problem: &Problem,
-    swept: &[[u16; 128]; 4],
+    swept: &Swept,
     begun: &[u64; 512],
     least: &[u16; 256],
     flags: &mut [bool; 128],
@@ -263,7 +253,7 @@ fn run(
 #[cycle(put_run)]
 fn put(
     problem: &Problem,
-    swept: &[[u16; 128]; 4],
+    swept: &Swept,
     begun: &[u64; 512],
     least: &[u16; 256],
     flags: &mut [bool; 128],
@@ -300,7 +290,7 @@ fn put(
     let still = still_kept(swept, i, kept);
     flags[i] = true;
     found[i] = p;
-    let far = late::take_at(due, swept[1][i], c, reach);
+    let far = late::take_at(due, swept.end[i], c, reach);
     let Some(e) = run(
         problem,
         swept,
@@ -322,7 +312,7 @@ fn put(
     ) else {
         return true;
     };
-    late::add_at(due, swept[1][i], c);
+    late::add_at(due, swept.end[i], c);
     if is_worth_noting(problem, swept, flags, still, p, e) {
         memory::note(marks, words, p + 1, lows, highs);
         flags[i] = false;
@@ -337,12 +327,7 @@ pub const WORDS: usize = 10240;
 
 // Puts the jobs into the rows. False: there is no way. `found` gets the row of each job that was put last. Nothing is known of `words`, but it must
 // have WORDS numbers.
-pub fn sweep(
-    problem: &Problem,
-    swept: &[[u16; 128]; 4],
-    found: &mut [u16; 128],
-    words: &mut [u64],
-) -> bool
+pub fn sweep(problem: &Problem, swept: &Swept, found: &mut [u16; 128], words: &mut [u64]) -> bool
     requires { Sweepable problem.now }
     ensures { result ≡ false → From (rules_in problem.now swept.now)
         (rows_in problem.now) 0 (replicate 128 false) }

@@ -6,22 +6,23 @@ ghost use Rattle.exact.specs.Sweep.{in_order, AllInOrder};
 ghost use Rattle.exact.specs.Sided.{all_in};
 ghost use Rattle.sweep.specs.Arrays.{sides_in, lets_by, rules_in, Sweepable};
 
+use super::Swept;
 use searcher::Problem;
 
 // If `put`, link l of job i lets it be put into the row: the partner that must not be later has a row. If not, the link lets it be left out of the row:
 // the partner that must not be earlier has none.
-fn lets(swept: &[[u16; 128]; 4], flags: &[bool; 128], i: usize, l: u8, put: bool) -> bool
+fn lets(swept: &Swept, flags: &[bool; 128], i: usize, l: u8, put: bool) -> bool
     requires { i < 128 }
     ensures { result ≡ lets_by put (sides_in swept.now) flags.now i l }
 {
     let partner = (l % 128) as usize;
-    (l >= 128) == put || swept[2][partner] != swept[2][i] || flags[partner] == put
+    (l >= 128) == put || swept.side[partner] != swept.side[i] || flags[partner] == put
 }
 
 // Every link of job i lets it be put into the row, or left out of it.
 pub(super) fn all_let(
     problem: &Problem,
-    swept: &[[u16; 128]; 4],
+    swept: &Swept,
     flags: &[bool; 128],
     i: usize,
     put: bool,
@@ -36,7 +37,7 @@ pub(super) fn all_let(
 }
 
 // The tests of the order hold of job i between two rows.
-fn is_in_order(problem: &Problem, swept: &[[u16; 128]; 4], flags: &[bool; 128], i: usize) -> bool
+fn is_in_order(problem: &Problem, swept: &Swept, flags: &[bool; 128], i: usize) -> bool
     requires { LinksBack (counts_in problem.now) problem.now.links i }
     ensures { result ≡ in_order (rules_in problem.now swept.now) flags.now i }
 {
@@ -44,7 +45,7 @@ fn is_in_order(problem: &Problem, swept: &[[u16; 128]; 4], flags: &[bool; 128], 
 }
 
 // They hold of all jobs.
-pub(super) fn all_in_order(problem: &Problem, swept: &[[u16; 128]; 4], flags: &[bool; 128]) -> bool
+pub(super) fn all_in_order(problem: &Problem, swept: &Swept, flags: &[bool; 128]) -> bool
     requires { Sweepable problem.now }
     ensures { result ≡ true → AllInOrder (rules_in problem.now swept.now) flags.now }
 {

@@ -4,7 +4,8 @@ use Rattle.std.proofs.Common.{arith, ◌≡◌, sym, subst, ◌∙◌, Bool, tru
 use Rattle.exact.specs.Sweep.{Ordered, skips, puts}
 use Rattle.searcher.specs.Arrays.{jobs_in}
 use Rattle.searcher.specs.declared.Problem.{Problem as InArrays}
-use Rattle.sweep.specs.Arrays.{part_in, rules_in, tied_in}
+use Rattle.sweep.specs.declared.Swept.{Swept}
+use Rattle.sweep.specs.Arrays.{rules_in, tied_in}
 use Rattle.sweep.proofs.Laws.{cost_within, not_skipped, free_of}
 use Rattle.sweep.proofs.LateLaws.{end_of, cost_of_lem, sided_of}
 use Rattle.sweep.proofs.RunLaws.{n_is, f_is, run_start, run_next, run_end, run_full, run_known, run_late, run_row, run_stuck, run_left}
@@ -12,9 +13,9 @@ use Rattle.sweep.proofs.RunLaws.{Chosen, failed_at, times_for, time_there, time_
 use Rattle.sweep.proofs.+put_run.Goals as goal
 
 -- job i, which is not passed over, with its cost
-chosen : (g : InArrays) (s : List (List ℕ)) (ps : List Bool) (i p : ℕ) → i < jobs_in g → jobs_in g ≤ 128
+chosen : (g : InArrays) (s : Swept) (ps : List Bool) (i p : ℕ) → i < jobs_in g → jobs_in g ≤ 128
     → skips (rules_in g s) p ps i ≡ false
-    → Chosen (rules_in g s) ps i (get_or (part_in s 1) i 0) (get_or g.cost i 0)
+    → Chosen (rules_in g s) ps i (get_or s.end i 0) (get_or g.cost i 0)
 chosen g s ps i p more few free =
     let n = n_is g s in
     record {
@@ -27,7 +28,7 @@ chosen g s ps i p more few free =
     }
 
 -- the order is kept only where it was and no job with a higher number must be put before
-kept_free : (g : InArrays) (s : List (List ℕ)) (ps : List Bool) (i room : ℕ) (kept still : Bool)
+kept_free : (g : InArrays) (s : Swept) (ps : List Bool) (i room : ℕ) (kept still : Bool)
     → puts (rules_in g s) ps room i ≡ true
     → (still ≡ true → (kept ≡ true) × (tied_in s i ≡ false)) → still ≡ true → (kept ≡ true) × ((rules_in g s).free ps i ≡ true)
 kept_free g s ps i room kept still may k e = ((k e).0, free_of g s ps i room may (k e).1)
