@@ -2,6 +2,7 @@
 // Pruning: whether domains, for each job the frames from `low` to before `high`, may hold a placing. Both questions first tighten them by the links.
 // `is_crowded` asks the arcs. `may` says no if a domain is empty, or if the sweep of the sided jobs does; else it takes a job that is not sided, and
 // asks of the domains with it not carried, and carried. Only that there is no placing is ever said for certain.
+// That a problem is `Packed` stands in clauses and not in its type: `searcher::lower_bound` and `sweep::sweep` take the same type and ask less.
 mod arcs;
 mod sides;
 mod tighten;
