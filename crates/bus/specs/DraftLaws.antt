@@ -1,7 +1,9 @@
 -- Each way out of a call on a draft, as its definition has it.
-use Rattle.std.specs.Prelude.{ℕ, ◌≤◌, ◌<◌, ◌≡◌, List, ℤ, pos, length}
-use Rattle.std.proofs.Common.{inl, inr, arith}
+use Rattle.std.specs.Prelude.{ℕ, ◌≤◌, ◌<◌, ◌≡◌, List, ℤ, pos, length, Result, Ok, Err}
+use Rattle.std.proofs.Common.{ap, refl, inl, inr, arith}
 use borrow.Author.Tests.{lt-ltb, le-ltb}
+use Rattle.refusal.specs.declared.Refusal.{Refusal}
+use Rattle.request.specs.SectionLaws.{no_zero}
 use Rattle.cursor.specs.WrittenLaws.{written_most}
 use Rattle.cursor.specs.Written.{Written}
 use Rattle.table.specs.Table.{encode}
@@ -13,11 +15,11 @@ use Rattle.plan_writer.specs.OutcomeLaws.{refused_answer, table_answer}
 use Rattle.draft.specs.Draft.{write, frames_held}
 use Rattle.draft.specs.WriteLaws.{WriteComes, write_comes_to}
 use Rattle.draft.specs.declared.Draft.{Draft}
-use Rattle.draft.specs.Numbered.{Drafted}
+use Rattle.draft.specs.Numbered.{Drafted, drafted_said}
 use Rattle.lent.specs.DraftBytes.{draft_in, draft_bytes}
-use Rattle.bus.specs.Reply.{refused_reply}
-use Rattle.bus.specs.ReplyLaws.{reply_refused, reply_value, after_refusal, after_value, written_refused, written_length}
-use Rattle.bus.specs.Drafts.{drafted_reply, drafted_bytes, write_reply, write_buffer}
+use Rattle.bus.specs.Reply.{refused_reply, written_reply}
+use Rattle.bus.specs.ReplyLaws.{reply_refused, reply_value, after_refusal, after_value}
+use Rattle.bus.specs.Drafts.{handed_reply, handed_bytes, drafted_reply, drafted_bytes, write_reply, write_buffer}
 
 -- a call that gives a draft
 module _ (made : Drafted) (draft : List ℕ) where
@@ -43,6 +45,12 @@ module _ (made : Drafted) (draft : List ℕ) where
       after_value made.refusal (draft_bytes made.draft draft) draft h,
     )
 
+-- a draft handed back: what the call `made` says of it, of any draft `old` that its caller had
+pub handed_back : (old : Draft) (made : Result Draft Refusal) (draft : List ℕ) → 770 ≤ length draft
+    → Drafts (drafted_said old made) draft (handed_reply made) (handed_bytes made draft)
+handed_back old (Ok d) draft room = draft_made (drafted_said old (Ok d)) draft room refl
+handed_back old (Err e) draft room = draft_refused (drafted_said old (Err e)) draft room (no_zero e)
+
 -- bus_draft_write
 module _ (request draft out : List ℕ) where
   abbrev pub Writes : ℤ → List ℕ → Type 0
@@ -53,13 +61,9 @@ module _ (request draft out : List ℕ) where
   write_short h = let e = lt-ltb (length draft) 770 h in (rw e, rw e)
 
   module _ (room : 770 ≤ length draft) (w : Written) (e : w ≡ outcome_answer (write request (draft_in draft)) out) where
-    pub write_refused : (w.refusal ≡ 0 → ⊥) → refused_reply w.refusal ≡ write_reply request draft out
+    pub write_answered : written_reply w ≡ write_reply request draft out
     unfolding write_reply
-    write_refused h = rw (le-ltb (length draft) 770 room) (written_refused w _ e h)
-
-    pub write_made : w.refusal ≡ 0 → pos w.length ≡ write_reply request draft out
-    unfolding write_reply
-    write_made h = rw (le-ltb (length draft) 770 room) (written_length w _ e h)
+    write_answered = rw (le-ltb (length draft) 770 room) (ap written_reply e)
 
   pub write_buffer_lem : 770 ≤ length draft → outcome_buffer (write request (draft_in draft)) out ≡ write_buffer request draft out
   unfolding write_buffer

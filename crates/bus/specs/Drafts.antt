@@ -1,8 +1,11 @@
 -- What each call on a draft answers and what it leaves in the buffers that it was lent.
-use Rattle.std.specs.Prelude.{ℕ, List, cond, ℤ, length, ltb}
+use Rattle.std.specs.Prelude.{ℕ, List, cond, ℤ, pos, length, ltb, Result, Ok, Err}
+use Rattle.refusal.specs.Refusal.{number_of}
+use Rattle.refusal.specs.declared.Refusal.{Refusal}
 use Rattle.plan_writer.specs.Outcome.{outcome_answer, outcome_buffer}
 use Rattle.draft.specs.Draft.{start, lift, put, write}
 use Rattle.draft.specs.Numbered.{Drafted}
+use Rattle.draft.specs.declared.Draft.{Draft}
 use Rattle.lent.specs.DraftBytes.{draft_in, draft_bytes}
 use Rattle.bus.specs.Reply.{refused_reply, reply, written_reply, after}
 
@@ -13,6 +16,15 @@ drafted_reply made draft = cond (ltb (length draft) 770) (refused_reply 99) (rep
 -- the lent draft after it: a refused call leaves it as it was
 unfoldable pub drafted_bytes : Drafted → List ℕ → List ℕ
 drafted_bytes made draft = cond (ltb (length draft) 770) draft (after made.refusal (draft_bytes made.draft draft) draft)
+
+-- the same of a draft that is made or refused, for a buffer that is long enough
+abbrev pub handed_reply : Result Draft Refusal → ℤ
+handed_reply (Ok d) = pos 0
+handed_reply (Err e) = refused_reply (number_of e)
+
+abbrev pub handed_bytes : Result Draft Refusal → List ℕ → List ℕ
+handed_bytes (Ok d) draft = draft_bytes d draft
+handed_bytes (Err e) draft = draft
 
 -- bus_draft_start
 unfoldable pub start_reply : List ℕ → List ℕ → List ℕ → ℤ

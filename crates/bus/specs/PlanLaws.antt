@@ -1,5 +1,5 @@
 -- The ways out of bus_plan.
-use Rattle.std.specs.Prelude.{ℕ, ◌≤◌, ◌<◌, ◌≡◌, List, ◌++◌, ℤ, pos, length}
+use Rattle.std.specs.Prelude.{ℕ, ◌≤◌, ◌<◌, ◌≡◌, List, ◌++◌, ℤ, length}
 use Rattle.std.proofs.Math.Path.{ap}
 use Rattle.std.proofs.Common.{◌∙◌, arith}
 use Rattle.std.proofs.Math.ListN.{drop}
@@ -13,7 +13,6 @@ use Rattle.planner.specs.TableLaws.{GoodOutcome, outcome_within_good}
 use Rattle.planner.specs.Numbered.{Searched}
 use Rattle.lent.specs.Numbers.{low_first}
 use Rattle.bus.specs.Reply.{refused_reply, reply}
-use Rattle.bus.specs.ReplyLaws.{reply_refused, reply_value}
 use Rattle.bus.specs.Plan.{plan_reply, plan_buffer, plan_tries}
 
 -- what is handed out is no longer than two bytes count
@@ -36,14 +35,8 @@ module _ (allowance : ℕ) (request out tries : List ℕ) where
     plan_few = rw is (outcome_few out (outcome_within allowance request) (outcome_within_good allowance request))
 
     module _ (out' tries' : List ℕ) (left : out' ≡ outcome_buffer (outcome_within allowance request) out) (counted : tries' ≡ low_first 8 s.tries ++ drop 8 tries) where
-      answered : (z : ℤ) → z ≡ reply s.refusal s.length → PlanAnswered z out' tries'
+      pub plan_answered : (z : ℤ) → z ≡ reply s.refusal s.length → PlanAnswered z out' tries'
       unfolding plan_reply plan_buffer plan_tries
-      answered z q =
+      plan_answered z q =
           let e = le-ltb (length tries) 8 room in
           (rw e (q ∙ ap (λ (x : Searched). reply x.refusal x.length) is), rw e left, rw e (counted ∙ ap (λ (x : Searched). low_first 8 x.tries ++ drop 8 tries) is))
-
-      pub plan_refused : (s.refusal ≡ 0 → ⊥) → PlanAnswered (refused_reply s.refusal) out' tries'
-      plan_refused h = answered (refused_reply s.refusal) (reply_refused s.refusal s.length h)
-
-      pub plan_written_lem : s.refusal ≡ 0 → PlanAnswered (pos s.length) out' tries'
-      plan_written_lem h = answered (pos s.length) (reply_value s.refusal s.length h)

@@ -1,6 +1,7 @@
 -- Each way out of a call of the timer, as its definition has it.
 use Rattle.std.specs.Prelude.{ℕ, ◌≤◌, ◌<◌, ◌≡◌, true, false, List, ◌++◌, ℤ, pos, length, drop}
 use borrow.Author.Tests.{lt-ltb, le-ltb}
+use Rattle.cursor.specs.Choice.{bit}
 use Rattle.table.specs.Table.{decode}
 use Rattle.timer.specs.Registers.{fresh_timer, after_event, register_read, line_on}
 use Rattle.timer.specs.RegisterLaws.{serve_none}
@@ -126,11 +127,6 @@ module _ (bytes : List ℕ) where
   unfolding timer_line_reply
   line_no_timer e = rw e
 
-  module _ (is : is_timer bytes ≡ true) where
-    pub line_on_lem : line_on (timer_of bytes) ≡ true → pos 1 ≡ timer_line_reply bytes
-    unfolding timer_line_reply
-    line_on_lem e = rw (is, e)
-
-    pub line_off : line_on (timer_of bytes) ≡ false → pos 0 ≡ timer_line_reply bytes
-    unfolding timer_line_reply
-    line_off e = rw (is, e)
+  pub line_told : is_timer bytes ≡ true → pos (bit (line_on (timer_of bytes))) ≡ timer_line_reply bytes
+  unfolding timer_line_reply
+  line_told is = rw is

@@ -1,7 +1,7 @@
 // The calls on a draft: a job is moved by hand. The draft stands in bytes that the caller lends, and a call that is refused leaves them as they were. A draft
 // buffer below 770 bytes gives 99, before every other number; any 770 bytes are a draft.
 ghost use Rattle.std.specs.Prelude.{◌≡◌, ◌≤◌, length};
-ghost use Rattle.bus.specs.Drafts.{drafted_reply, drafted_bytes, start_reply, start_bytes, lift_reply, lift_bytes, put_reply, put_bytes, write_reply, write_buffer};
+ghost use Rattle.bus.specs.Drafts.{handed_reply, handed_bytes, start_reply, start_bytes, lift_reply, lift_bytes, put_reply, put_bytes, write_reply, write_buffer};
 
 use crate::reply::{BAD_BYTES, length, refused};
 use draft::Draft;
@@ -11,7 +11,7 @@ use refusal::Refusal;
 // The draft that a call gives, into the lent bytes: 0, or the number negated and nothing changed.
 fn hand_back(lent: &mut [u8], made: Result<Draft, Refusal>) -> i32
     requires { 770 ≤ length lent.old }
-    ensures { (result ≡ drafted_reply made lent.old) × (lent.new ≡ drafted_bytes made lent.old) }
+    ensures { (result ≡ handed_reply made) × (lent.new ≡ handed_bytes made lent.old) }
 {
     match made {
         Ok(draft) => {

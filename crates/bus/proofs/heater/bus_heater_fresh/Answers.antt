@@ -1,13 +1,10 @@
 -- All 72 bytes are cleared, and the fresh link is written over them.
 use Rattle.std.proofs.Common.{◌∙◌}
-use Rattle.bus.specs.ReplyLaws.{kept}
 use Rattle.bus.specs.HeaterLaws.{heater_fresh_refused, heater_fresh_made}
 use Rattle.bus.proofs.heater.bus_heater_fresh.Goals as goal
 
 pub returns-then-heater-lt72 : goal.returns-then-heater-lt72
-returns-then-heater-lt72 c =
-    let law = heater_fresh_refused c.args.heater.now c.if-heater-lt72.true in
-    (kept _ c.refusal.type_inv ∙ c.refusal.ensures ∙ law.0, law.1)
+returns-then-heater-lt72 c = heater_fresh_refused c.args.heater.now c.if-heater-lt72.true
 
 pub returns : goal.returns
 returns c =

@@ -2,7 +2,6 @@
 use Rattle.std.proofs.Common.{◌≡◌, sym, ◌∙◌, true}
 use Rattle.lent.specs.TimerBytes.{is_timer}
 use Rattle.lent.specs.TimerByteLaws.{timer_long}
-use Rattle.bus.specs.ReplyLaws.{kept}
 use Rattle.bus.specs.TimerLaws.{event_no_timer, event_made}
 use Rattle.bus.proofs.registers.bus_timer_event.Goals as goal
 use Rattle.bus.proofs.registers.bus_timer_event.Goals.{Else-not-is_timer}
@@ -12,10 +11,7 @@ a-timer : (c : Else-not-is_timer) → is_timer c.args.timer.now ≡ true
 a-timer c = sym c.is_timer.ensures ∙ c.if-not-is_timer.false
 
 pub returns-then-not-is_timer : goal.returns-then-not-is_timer
-returns-then-not-is_timer c =
-    let no-timer = sym c.is_timer.ensures ∙ c.if-not-is_timer.true in
-    let law = event_no_timer c.args.timer.now no-timer in
-    (kept _ c.refusal.type_inv ∙ c.refusal.ensures ∙ law.0, law.1)
+returns-then-not-is_timer c = event_no_timer c.args.timer.now (sym c.is_timer.ensures ∙ c.if-not-is_timer.true)
 
 pub read_timer-old-requires : goal.read_timer-old-requires
 read_timer-old-requires c = timer_long _ (a-timer c)

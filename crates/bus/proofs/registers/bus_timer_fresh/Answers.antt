@@ -1,13 +1,10 @@
 -- All 72 bytes are cleared, and the fresh timer is written over them.
 use Rattle.std.proofs.Common.{◌∙◌}
-use Rattle.bus.specs.ReplyLaws.{kept}
 use Rattle.bus.specs.TimerLaws.{timer_fresh_refused, timer_fresh_made}
 use Rattle.bus.proofs.registers.bus_timer_fresh.Goals as goal
 
 pub returns-then-timer-lt72 : goal.returns-then-timer-lt72
-returns-then-timer-lt72 c =
-    let law = timer_fresh_refused c.args.timer.now c.if-timer-lt72.true in
-    (kept _ c.refusal.type_inv ∙ c.refusal.ensures ∙ law.0, law.1)
+returns-then-timer-lt72 c = timer_fresh_refused c.args.timer.now c.if-timer-lt72.true
 
 pub returns : goal.returns
 returns c =

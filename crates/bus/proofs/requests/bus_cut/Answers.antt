@@ -1,25 +1,14 @@
--- The cut request's answer, of which a refusal is negated and a length is small.
-use Rattle.std.proofs.Common.{◌∙◌}
-use Rattle.bus.specs.ReplyLaws.{kept, written_refused, written_length}
+-- The cut request's length or refusal, of which a length is small.
+use Rattle.std.proofs.Common.{ap, ◌∙◌}
+use Rattle.bus.specs.Reply.{written_reply}
+use Rattle.bus.specs.ReplyLaws.{kept}
 use Rattle.bus.specs.Cut.{cut_reply, cut_buffer}
 use Rattle.bus.specs.CutLaws.{cut_few}
 use Rattle.bus.proofs.requests.bus_cut.Goals as goal
 
-pub returns-then-written-ne0 : goal.returns-then-written-ne0
-unfolding cut_reply cut_buffer
-returns-then-written-ne0 c = (
-  kept _ c.refusal.type_inv ∙ c.refusal.ensures ∙ written_refused _ _ c.cut-written.ensures.0
-      c.if-written-ne0.true,
-  c.cut-written.ensures.1,
-)
-
-pub value-requires : goal.value-requires
-value-requires c = rw c.cut-written.ensures.0 (cut_few _ _ _ _)
+pub length-requires : goal.length-requires
+length-requires c = rw c.cut.ensures.0 (cut_few _ _ _ _)
 
 pub returns : goal.returns
 unfolding cut_reply cut_buffer
-returns c = (
-  kept _ c.value.type_inv ∙ c.value.ensures ∙ written_length _ _ c.cut-written.ensures.0
-      c.if-written-ne0.false,
-  c.cut-written.ensures.1,
-)
+returns c = (kept _ c.length.type_inv ∙ c.length.ensures ∙ ap written_reply c.cut.ensures.0, c.cut.ensures.1)
