@@ -1,8 +1,7 @@
 -- Each way out of a call on a draft, as its definition has it.
-use Rattle.std.specs.Prelude.{ℕ, ◌≤◌, ◌<◌, ◌≡◌, List, ℤ, length, Result, Ok, Err}
+use Rattle.std.specs.Prelude.{ℕ, ◌≤◌, ◌<◌, ◌≡◌, List, ℤ, pos, length, Result, Ok, Err}
 use Rattle.std.proofs.Common.{ap, refl, inl, inr, arith}
 use borrow.Author.Tests.{lt-ltb, le-ltb}
-use Rattle.refusal.specs.Refusal.{number_of}
 use Rattle.refusal.specs.declared.Refusal.{Refusal}
 use Rattle.request.specs.SectionLaws.{no_zero}
 use Rattle.cursor.specs.WrittenLaws.{written_most}
@@ -31,14 +30,26 @@ module _ (made : Drafted) (draft : List ℕ) where
   unfolding drafted_reply drafted_bytes
   too_short h = let e = lt-ltb (length draft) 770 h in (rw e, rw e)
 
+  module _ (room : 770 ≤ length draft) where
+    pub draft_refused : (made.refusal ≡ 0 → ⊥) → Drafts (refused_reply made.refusal) draft
+    unfolding drafted_reply drafted_bytes
+    draft_refused h = rw (le-ltb (length draft) 770 room) (
+      reply_refused made.refusal 0 h,
+      after_refusal made.refusal (draft_bytes made.draft draft) draft h,
+    )
+
+    pub draft_made : made.refusal ≡ 0 → Drafts (pos 0) (draft_bytes made.draft draft)
+    unfolding drafted_reply drafted_bytes
+    draft_made h = rw (le-ltb (length draft) 770 room) (
+      reply_value made.refusal 0 h,
+      after_value made.refusal (draft_bytes made.draft draft) draft h,
+    )
+
 -- a draft handed back: what the call `made` says of it, of any draft `old` that its caller had
 pub handed_back : (old : Draft) (made : Result Draft Refusal) (draft : List ℕ) → 770 ≤ length draft
-    → (handed_reply made ≡ drafted_reply (drafted_said old made) draft) × (handed_bytes made draft ≡ drafted_bytes (drafted_said old made) draft)
-unfolding drafted_reply drafted_bytes
-handed_back old (Ok d) draft room = rw (le-ltb (length draft) 770 room) (reply_value 0 0 refl, after_value 0 (draft_bytes d draft) draft refl)
-handed_back old (Err e) draft room =
-    rw (le-ltb (length draft) 770 room)
-    (reply_refused (number_of e) 0 (no_zero e), after_refusal (number_of e) (draft_bytes old draft) draft (no_zero e))
+    → Drafts (drafted_said old made) draft (handed_reply made) (handed_bytes made draft)
+handed_back old (Ok d) draft room = draft_made (drafted_said old (Ok d)) draft room refl
+handed_back old (Err e) draft room = draft_refused (drafted_said old (Err e)) draft room (no_zero e)
 
 -- bus_draft_write
 module _ (request draft out : List ℕ) where

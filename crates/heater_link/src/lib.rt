@@ -49,7 +49,7 @@ pub fn fresh() -> Link
     }
 }
 
-// Whether a, b is one of the pairs.
+// Whether a, b is one of the pairs. A loop: with `any` the goal stayed open, twice.
 fn is_pair(pairs: &[Pair], a: u8, b: u8) -> bool
     ensures { result ≡ is_pair a b pairs.now }
 {
