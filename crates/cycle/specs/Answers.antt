@@ -1,7 +1,9 @@
 -- The answers of the functions as values of their types, and what the functions that are not called from outside ask of their arguments.
-use Rattle.std.specs.Prelude.{ℕ, ◌≤◌, ◌<◌, ◌≡◌, List, map, cond, length, take, get_or, replicate, ltb, Option, Some, None, Ok}
+use Rattle.std.specs.Prelude.{ℕ, ◌≤◌, ◌<◌, ◌≡◌, List, map, cond, length, take, get_or, replicate, ltb, Option, Some, None, Result, Ok, Err}
 use Rattle.std.specs.Int.{◌∣◌}
 use Rattle.cursor.specs.Padded.{padded}
+use Rattle.refusal.specs.Refusal.{number_of}
+use Rattle.refusal.specs.declared.Refusal.{Refusal}
 use Rattle.request.specs.Request.{Reading, readable, no_task, no_pair, period_of}
 use Rattle.request.specs.Answers as request
 use Rattle.request.specs.Numbered.{request_said}
@@ -71,6 +73,11 @@ reading_of r = readable (take r.n r.tasks) (take r.m r.pairs) r.g
 -- the cycle of a request that was read already
 unfoldable pub cycle_for : Request → Cycle
 cycle_for r = after_reading (reading_of r)
+
+-- the cycle of what `request::read` answered: a refusal is handed on
+abbrev pub cycle_after : Result Request Refusal → Cycle
+cycle_after (Ok r) = cycle_for r
+cycle_after (Err e) = no_cycle (number_of e)
 
 -- what is asked of such a request: its places hold a reading that keeps the form, and nothing else, as in the answers of `request::read`
 pub record AsRead (r : Request) : Type 0 where

@@ -1,5 +1,5 @@
 -- The laws by which the cycle of a request that was read is found: each way out is one case of the definition.
-use Rattle.std.specs.Prelude.{ℕ, ◌≤◌, ◌<◌, ◌≡◌, refl, Bool, true, false, cond, List, length, take, ltb, Option, Some, None, Ok, Err}
+use Rattle.std.specs.Prelude.{ℕ, ◌≤◌, ◌<◌, ◌≡◌, refl, Bool, true, false, cond, List, length, take, ltb, Option, Some, None, Result, Ok, Err, IfOk}
 use Rattle.std.proofs.Common.{sym, ◌∙◌, arith, lt-ltb, le-ltb, ltb-false}
 use Rattle.std.proofs.Math.Path.{ap}
 use Rattle.std.proofs.lemmas.Option.{same_Some}
@@ -18,7 +18,7 @@ use Rattle.request.specs.declared.Request.{Request}
 use Rattle.cycle.specs.Cycle.{Cycle, hyperperiod, all_jobs, planned, cycle, limited, after_reading, cycle_of}
 use Rattle.cycle.specs.PlannedLaws.{planned_length}
 use Rattle.cycle.specs.LimitLaws.{hyperperiod_pos, hyperperiod_divides, readable_periodic}
-use Rattle.cycle.specs.Answers.{short_cycle, Sized, Listable, AsRead, reading_of, cycle_for, listed, cycle_answered}
+use Rattle.cycle.specs.Answers.{short_cycle, Sized, Listable, AsRead, reading_of, cycle_for, cycle_after, listed, cycle_answered}
 use Rattle.cycle.specs.Numbered.{refused_cycle, cycle_said, cycle_numbered}
 use Rattle.cycle.specs.declared.Job.{Job}
 use Rattle.cycle.specs.declared.Cycle as answer
@@ -60,6 +60,16 @@ not_read s e is = go (reading s) is
     go : (x : Reading) → read.request_said (Err e) ≡ request.request_answered x → cycle_said (Err e) ≡ cycle_numbered (after_reading x)
     go (readable tasks pairs g) q = absurd (no_zero e (ap (λ (y : read.Request). y.refusal) q))
     go (unreadable number) q = ap refused_cycle (ap (λ (y : read.Request). y.refusal) q)
+
+-- every answer of `request::read` is so, and its cycle is that of the bytes
+module _ (s : List ℕ) where
+  pub answer_as_read : (r : Result Request Refusal) → read.request_said r ≡ request.request_answered (reading s) → IfOk r AsRead
+  answer_as_read (Ok r) e = bytes_as_read s e
+  answer_as_read (Err x) e = tt
+
+  pub answer_cycle : (r : Result Request Refusal) → read.request_said r ≡ request.request_answered (reading s) → cycle_numbered (cycle_after r) ≡ cycle_numbered (cycle_of s)
+  answer_cycle (Ok r) e = ap cycle_numbered (bytes_cycle s e)
+  answer_cycle (Err x) e = not_read s x e
 
 -- a cycle that is answered stands in its places
 pub said_answered : {c : answer.Cycle} (d : Cycle) → cycle_said (Ok c) ≡ cycle_numbered d → c ≡ cycle_answered d

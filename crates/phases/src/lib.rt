@@ -36,7 +36,7 @@ fn outcome_at(request: Request, i: usize, p: u16, allowance: u64) -> Result<Chos
     ensures { refusal_in result ≡ phase_number allowance request i p }
 {
     let shifted = with_phase(request, i, p);
-    let cycle = cycle::of(shifted)?;
+    let cycle = cycle::of(Ok(shifted))?;
     planner::choose::choose(cycle, allowance).outcome
 }
 
@@ -84,7 +84,7 @@ pub fn phases(request: &[u8], task: u8, allowance: u64) -> Result<PhaseCounts, R
     let i = usize::from(task);
     let read = request::read(request)?;
     // 7 and 8 come before 16.
-    cycle::of(read)?;
+    cycle::of(Ok(read))?;
     if read.n <= i {
         return Err(Refusal::NoSuchTask);
     }
