@@ -2,6 +2,7 @@
 use Rattle.std.specs.Prelude.{ℕ, List, replicate, Result, Ok, Err}
 use Rattle.refusal.specs.Refusal.{number_of}
 use Rattle.refusal.specs.declared.Refusal.{Refusal}
+use Rattle.cycle.specs.Answers.{no_places}
 use Rattle.cycle.specs.declared.Cycle.{Cycle}
 use Rattle.checker.specs.declared.Read as code
 
@@ -15,12 +16,12 @@ pub record Read : Type 0 where
 abbrev pub unread : Cycle → ℕ → Read
 unread c number = record { refusal = number; cycle = c; f = 0; frames = replicate 128 0 }
 
--- what is answered to a request with this cycle: a refusal says no more of it
-abbrev pub read_said : Cycle → Result code.Read Refusal → Read
-read_said c (Ok r) = record { refusal = 0; cycle = r.cycle; f = r.f; frames = r.frames }
-read_said c (Err e) = unread c (number_of e)
-
--- the same of the frame length and the frames alone
+-- the frame length and the frames that were found for this cycle
 abbrev pub found_said : Cycle → Result (ℕ × List ℕ) Refusal → Read
 found_said c (Ok p) = record { refusal = 0; cycle = c; f = p.0; frames = p.1 }
 found_said c (Err e) = unread c (number_of e)
+
+-- what is answered: the request's cycle also beside a refusal of the table, and none where the request is refused
+abbrev pub read_said : Result code.Read Refusal → Read
+read_said (Ok r) = found_said r.cycle r.plan
+read_said (Err e) = unread no_places (number_of e)

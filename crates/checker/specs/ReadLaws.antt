@@ -198,15 +198,23 @@ said_number c v e = ap (λ (y : Read). y.refusal) e ∙ answer_number c v
 -- what the answer of `read_plan` says of the bytes of a request and of a table
 module _ (request bytes : List ℕ) where
   abbrev pub ReadSays : Result code.Read Refusal → Type 0
-  ReadSays r = read_said (cycle_answered (cycle_of request)) r ≡ read_answer (cycle_answered (cycle_of request)) (checked (cycle_of request) (decode bytes))
+  ReadSays r = read_said r ≡ read_answer (cycle_answered (cycle_of request)) (checked (cycle_of request) (decode bytes))
 
-  -- a plan is read where the check passes, with the request's cycle;
-  pub read_passes : {read : code.Read} → ReadSays (Ok read) → check_number request bytes ≡ 0
-  read_passes e = sym (said_number (cycle_answered (cycle_of request)) (checked (cycle_of request) (decode bytes)) e)
+  -- where the request is read, what was found in the table says it with the cycle beside it
+  abbrev pub FoundSays : Cycle → Result (ℕ × List ℕ) Refusal → Type 0
+  FoundSays c p = found_said c p ≡ read_answer (cycle_answered (cycle_of request)) (checked (cycle_of request) (decode bytes))
 
-  pub read_cycle : {read : code.Read} → ReadSays (Ok read) → read.cycle ≡ cycle_answered (cycle_of request)
-  read_cycle e = ap (λ (y : Read). y.cycle) e ∙ answer_cycle (cycle_answered (cycle_of request)) (checked (cycle_of request) (decode bytes))
+  -- a plan is found where the check passes, with the request's cycle;
+  pub found_passes : {c : Cycle} {p : ℕ × List ℕ} → FoundSays c (Ok p) → check_number request bytes ≡ 0
+  found_passes e = sym (said_number (cycle_answered (cycle_of request)) (checked (cycle_of request) (decode bytes)) e)
 
-  -- and a refusal is the check's
+  pub found_cycle : {c : Cycle} {p : ℕ × List ℕ} → FoundSays c (Ok p) → c ≡ cycle_answered (cycle_of request)
+  found_cycle e = ap (λ (y : Read). y.cycle) e ∙ answer_cycle (cycle_answered (cycle_of request)) (checked (cycle_of request) (decode bytes))
+
+  -- and a refusal is the check's, of the table
+  pub table_refused : {c : Cycle} (e : Refusal) → FoundSays c (Err e) → number_of e ≡ check_number request bytes
+  table_refused e says = said_number (cycle_answered (cycle_of request)) (checked (cycle_of request) (decode bytes)) says
+
+  -- or of the request
   pub refused_number : (e : Refusal) → ReadSays (Err e) → number_of e ≡ check_number request bytes
   refused_number e says = said_number (cycle_answered (cycle_of request)) (checked (cycle_of request) (decode bytes)) says

@@ -16,12 +16,11 @@ ghost use Rattle.checker.specs.Numbered.{read_said, found_said};
 use cycle::Cycle;
 use refusal::Refusal;
 
-// What the check read: the request's cycle, and the frame length and the jobs' frames in planning order.
+// What the check read: the request's cycle, and the frame length and the jobs' frames in planning order; or the refusal of the table.
 #[derive(Clone, Copy)]
 pub struct Read {
     pub cycle: Cycle,
-    pub f: u16,
-    pub frames: [u16; 128],
+    pub plan: Result<(u16, [u16; 128]), Refusal>,
 }
 
 // The frame length and the jobs' frames of the plan that the table's rows describe. The cycle is not among them, so that it is not copied.
@@ -55,14 +54,14 @@ fn judge(cycle: Cycle, table: &[u8]) -> Result<(u16, [u16; 128]), Refusal>
     read_rows(cycle, table, sizes.height, sizes.f)
 }
 
-// The request's cycle, and the plan that the table describes; or the refusal of the request or the table, with a number from 1 to 8, 17 or from 12 to 14.
+// The request's cycle, and beside it the plan that the table describes, or the refusal of the table, with a number from 12 to 14; or the refusal of the request,
+// with a number from 1 to 8 or 17.
 pub fn read_plan(request: &[u8], table: &[u8]) -> Result<Read, Refusal>
-    ensures { read_said (cycle_answered (cycle_of request.now)) result
-        ≡ read_answer (cycle_answered (cycle_of request.now)) (checked (cycle_of request.now) (decode table.now)) }
+    ensures { read_said result ≡ read_answer (cycle_answered (cycle_of request.now)) (checked (cycle_of request.now) (decode table.now)) }
 {
     let cycle = cycle::read(request)?;
-    let (f, frames) = judge(cycle, table)?;
-    Ok(Read { cycle, f, frames })
+    let plan = judge(cycle, table);
+    Ok(Read { cycle, plan })
 }
 
 // Nothing where the table describes a plan of the request; or the refusal.

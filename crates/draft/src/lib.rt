@@ -181,18 +181,10 @@ pub fn start(request: &[u8], table: &[u8]) -> Result<Draft, Refusal>
 {
     let read = checker::read_plan(request, table)?;
     let cycle = read.cycle;
-    let frames = read.frames;
+    let (f, frames) = read.plan?;
     let cost = problem::costs(cycle);
-    let loads = row_loads(
-        &cost[..cycle.count],
-        &frames[..cycle.count],
-        cycle.h / read.f,
-    );
-    Ok(Draft {
-        f: read.f,
-        frames,
-        loads,
-    })
+    let loads = row_loads(&cost[..cycle.count], &frames[..cycle.count], cycle.h / f);
+    Ok(Draft { f, frames, loads })
 }
 
 // The draft with the job at place `job` lifted; or the request's refusal or 26, and the caller keeps the draft as it was.

@@ -140,7 +140,9 @@ pub fn serve(
 ) -> Result<Exchange, Refusal>
     ensures { exchange_said link result ≡ exchange a b lost request.now table.now link }
 {
-    let cycle = checker::read_plan(request, table)?.cycle;
+    let read = checker::read_plan(request, table)?;
+    read.plan?;
+    let cycle = read.cycle;
     if !is_pair(&cycle.pairs[..cycle.m], a, b) {
         return Err(Refusal::NoSuchPair);
     }

@@ -31,12 +31,12 @@ pub fn known(request: &[u8], table: &[u8], places: usize) -> Result<JobsKnown, R
     ensures { known_said result ≡ known_answer (filling request.now table.now places) }
 {
     let read = checker::read_plan(request, table)?;
+    let (_, frames) = read.plan?;
     let cycle = read.cycle;
     if places < cycle.count {
         return Err(Refusal::ShortBuffer);
     }
     let jobs = cycle.jobs;
-    let frames = read.frames;
     Ok(JobsKnown {
         count: cycle.count,
         jobs,

@@ -93,6 +93,7 @@ pub fn one_off(
     ensures { found_said result ≡ offer_answer (one_off length from until request.now table.now) }
 {
     let read = checker::read_plan(request, table)?;
+    read.plan?;
     let cycle = read.cycle;
     if !well_asked(cycle.h, length, from, until) {
         return Err(Refusal::WrongSpan);

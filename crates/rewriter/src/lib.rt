@@ -13,5 +13,6 @@ pub fn rewrite(request: &[u8], table: &[u8], out: &mut [u8]) -> Result<usize, Re
         × (out.new ≡ outcome_buffer (rewritten request.now table.now) out.old) }
 {
     let read = checker::read_plan(request, table)?;
-    plan_writer::write(read.cycle, read.f, read.frames, out)
+    let (f, frames) = read.plan?;
+    plan_writer::write(read.cycle, f, frames, out)
 }

@@ -2,7 +2,6 @@
 use Rattle.std.specs.Prelude.{◌≡◌}
 use Rattle.std.proofs.Common.{sym, ◌∙◌, ap, ap₂}
 use Rattle.std.proofs.lemmas.Result.{err_from_is_err_and}
-use Rattle.refusal.specs.Refusal.{number_of}
 use Rattle.cycle.specs.Cycle.{Cycle, cycle_of}
 use Rattle.cycle.specs.Answers.{cycle_answered}
 use Rattle.cycle.specs.Numbered.{cycle_said}
@@ -11,7 +10,6 @@ use Rattle.table.specs.Table.{decode}
 use Rattle.model.specs.WithinLaws.{Taken, read_taken, read_refused}
 use Rattle.checker.specs.Checked.{checked}
 use Rattle.checker.specs.Answers.{read_answer, cycle_in}
-use Rattle.checker.specs.Numbered.{unread, found_said}
 use Rattle.checker.specs.ReadLaws.{request_refused}
 use Rattle.checker.proofs.read_plan.Goals as goal
 use Rattle.checker.proofs.read_plan.Goals.{In_ok-cycle}
@@ -32,17 +30,10 @@ returns-in_err-cycle c =
     let a = c.args in
     let p = err_from_is_err_and c.from_residual.result c.from_residual.ensures.1 in
     let is = read_refused _ _ (ap cycle_said (sym c.in_err-cycle.was) ∙ c.read.ensures) in
-    rw (p.1, p.2) (ap (read_answer (cycle_answered (cycle_of a.request.now))) (sym (request_refused a.request.now _ (decode a.table.now) is)))
+    rw (p.1, p.2) (ap₂ read_answer (ap cycle_answered (sym is)) (sym (request_refused a.request.now _ (decode a.table.now) is)))
 
-pub judge-requires : goal.judge-requires
-judge-requires c = (taken (goal.at.judge-requires c).In_ok-cycle).limits
-
-pub returns-in_err-f : goal.returns-in_err-f
-returns-in_err-f c =
-    let p = err_from_is_err_and c.from_residual-in_err-f.result c.from_residual-in_err-f.ensures.1 in
-    let read = (goal.at.returns-in_err-f c).In_ok-cycle in
-    rw (p.1, p.2)
-    (ap (λ y. unread y (number_of c.in_err-f.field-0.0)) (sym (same read)) ∙ ap (found_said c.in_ok-cycle.cycle) (sym c.in_err-f.was) ∙ c.judge.ensures ∙ whole read)
+pub judge-plan-requires : goal.judge-plan-requires
+judge-plan-requires c = (taken (goal.at.judge-plan-requires c).In_ok-cycle).limits
 
 pub returns : goal.returns
-returns c = ap (found_said c.in_ok-cycle.cycle) (sym c.in_ok-f.was) ∙ c.judge.ensures ∙ whole (goal.at.returns c).In_ok-cycle
+returns c = c.judge-plan.ensures ∙ whole (goal.at.returns c).In_ok-cycle
