@@ -59,7 +59,7 @@ fn print<R: Print + Eprint + AllocGlobal>(rt: &R, checked: Result<(), Refusal>) 
         }
         Err(refusal) => {
             let mut line = [0u8; 4096];
-            let end = plan_listing::refused(refusal, &mut line);
+            let end = plan_listing::refused(refusal.number(), &mut line);
             streams::print(rt, &line[..end]);
         }
     }

@@ -88,6 +88,6 @@ pub fn list(request: &[u8], out: &mut [u8]) -> usize
 {
     match put_flight(request, out) {
         Ok(end) => end,
-        Err(refusal) => plan_listing::refused(refusal, out),
+        Err(refusal) => plan_listing::refused(refusal.number(), out),
     }
 }

@@ -5,19 +5,18 @@ pub mod entry;
 mod rows;
 pub mod ticks;
 
-ghost use Rattle.refusal.specs.Refusal.{number_of};
 ghost use Rattle.text.specs.Text.{PutIn};
 ghost use Rattle.plan_listing.specs.Listing.{refused_line, listing};
 ghost use Rattle.plan_listing.specs.Answers.{PlanPut};
 
 use refusal::Refusal;
 
-// The line of a refusal.
-pub fn refused(refusal: Refusal, out: &mut [u8]) -> usize
-    ensures { PutIn (refused_line (number_of refusal)) out.old result out.new }
+// The line of a refusal with this number.
+pub fn refused(number: u8, out: &mut [u8]) -> usize
+    ensures { PutIn (refused_line number) out.old result out.new }
 {
     let name = text::put_all(out, 0, b"refused ");
-    let line = text::put_number(out, name, refusal.number() as u32);
+    let line = text::put_number(out, name, number as u32);
     text::put(out, line, b'\n')
 }
 
@@ -36,6 +35,6 @@ pub fn plan(request: &[u8], out: &mut [u8]) -> usize
 {
     match put_plan(request, out) {
         Ok(end) => end,
-        Err(refusal) => refused(refusal, out),
+        Err(refusal) => refused(refusal.number(), out),
     }
 }

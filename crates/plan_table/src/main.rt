@@ -28,7 +28,7 @@ fn main(rt: HostRuntime) {
             streams::print(&rt, &out[..length]);
         }
         Err(refusal) => {
-            let end = plan_listing::refused(refusal, &mut out);
+            let end = plan_listing::refused(refusal.number(), &mut out);
             let _ = rt.stderr().write_all(&out[..end]);
         }
     }

@@ -89,6 +89,6 @@ pub fn list(request: &[u8], out: &mut [u8]) -> usize
 {
     match put_list(request, out) {
         Ok(end) => end,
-        Err(refusal) => plan_listing::refused(refusal, out),
+        Err(refusal) => plan_listing::refused(refusal.number(), out),
     }
 }

@@ -8,4 +8,4 @@ returns-in-Ok c = put_front _ c.args.out.now c.put_flight.new.out c.in-Ok.end (r
 pub returns-in-Err : goal.returns-in-Err
 returns-in-Err c =
     let none = rw c.in-Err.is at c.put_flight.ensures in
-    rw (none.0, none.1) at c.refused.ensures
+    rw (c.number.ensures, none.0, none.1) at c.refused.ensures
