@@ -14,7 +14,7 @@ use Rattle.table.specs.RisingLaws.{row_rises, row_few}
 use Rattle.table.specs.Inverse.{decode_wellformed}
 use Rattle.table.specs.Answers.{sizes_of, row_given, row_refused, row_answer, entries_said}
 use Rattle.table.specs.AnswerLaws.{EntriesPlaced, none_placed, one_placed, placed_given}
-use Rattle.table.specs.AnswerLaws.{entries_at, entries_more, entries_none, entries_given, given_count, given_refusal, height_is}
+use Rattle.table.specs.AnswerLaws.{entries_at, entries_more, entries_none, entries_given, given_count, given_refusal, refused_is, height_is}
 use Rattle.table.specs.AnswerLaws.{RowSought, found, behind, no_table, row_sought, RowFound}
 use Rattle.table.specs.Answers.{Row}
 use Rattle.table.specs.Answers.{Sizes}
@@ -67,12 +67,7 @@ module _ (tasks jobs : List ℕ) (n : ℕ) where
 
 -- 12 is the table reader's
 pub form_refused : (bytes : List ℕ) (s : State) (z : Sizes) → z ≡ sizes_of (decode bytes) → (z.refusal ≡ 0 → ⊥) → no_frame z.refusal s ≡ next_frame (decode bytes) s
-unfolding sizes_of
-form_refused bytes s z e ne = go (decode bytes) refl e
-  where
-    go : (d : Decoded) → decode bytes ≡ d → z ≡ sizes_of d → no_frame z.refusal s ≡ next_frame (decode bytes) s
-    go (table t) is q = absurd (ne (ap (λ (y : Sizes). y.refusal) q))
-    go malformed is q = rw q (sym (frame_malformed bytes s is))
+form_refused bytes s z e ne = let none = refused_is (decode bytes) z e ne in rw none.1 (sym (frame_malformed bytes s none.0))
 
 -- the table has no such row
 pub row_missing : (bytes : List ℕ) (s : State) → row_refused 15 ≡ row_answer s.row (decode bytes) → no_frame 15 s ≡ next_frame (decode bytes) s

@@ -96,6 +96,12 @@ pub sizes_table : (t : Table) → sizes_of (table t) ≡ record { refusal = 0; f
 unfolding sizes_of
 sizes_table t = refl
 
+-- sizes that are refused are those of bytes without the form, with 12
+pub refused_is : (d : Decoded) (z : Sizes) → z ≡ sizes_of d → (z.refusal ≡ 0 → ⊥) → (d ≡ malformed) × (z.refusal ≡ 12)
+unfolding sizes_of
+refused_is (table t) z e ne = absurd (ne (ap (λ (y : Sizes). y.refusal) e))
+refused_is malformed z e ne = (refl, ap (λ (y : Sizes). y.refusal) e)
+
 pub height_is : (bytes : List ℕ) (t : Table) (z : Sizes) → decode bytes ≡ table t → z ≡ sizes_of (decode bytes) → z.height ≡ length t.rows
 height_is bytes t z is e = rw (e, is, sizes_table t)
 
