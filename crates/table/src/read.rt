@@ -10,7 +10,6 @@ use cursor::Cursor;
 use refusal::Refusal;
 
 // An entry whose task is at least `low`: its task byte and its job byte.
-#[inline(always)]
 fn read_entry(s: &[u8], first: Cursor, low: u8) -> Option<(u8, u8, Cursor)>
     ensures { EntryAt s.now first.at low result }
 {
@@ -22,7 +21,6 @@ fn read_entry(s: &[u8], first: Cursor, low: u8) -> Option<(u8, u8, Cursor)>
     Some((task, job, next))
 }
 
-#[inline(always)]
 fn read_row(s: &[u8], first: Cursor) -> Option<(Row, Cursor)>
     ensures { RowAt s.now first.at result }
 {
