@@ -1,5 +1,5 @@
 // Reading a table: each part by a cursor, the rows from the part of the bytes behind the sizes.
-ghost use Rattle.std.specs.Prelude.{◌≡◌};
+ghost use Rattle.std.specs.Prelude.{◌≡◌, replicate};
 ghost use Rattle.std.specs.Option.{ok_or};
 ghost use Rattle.table.specs.Table.{decode, whole_table, rows_from, height_fits};
 ghost use Rattle.table.specs.Answers.{sizes_said, table_said, taken_said, sizes_of, row_answer, table_read, first_row, row_at};
@@ -21,16 +21,21 @@ fn read_entry(s: &[u8], first: Cursor, low: u8) -> Option<(u8, u8, Cursor)>
     Some((task, job, next))
 }
 
-fn read_row(s: &[u8], first: Cursor) -> Option<(Row, Cursor)>
-    ensures { RowAt s.now first.at result }
+// A row, whose entries go into the places of `tasks` and `jobs`, so that a row that is passed over is not copied: their number, and the cursor behind it.
+fn read_row(
+    s: &[u8],
+    first: Cursor,
+    tasks: &mut [u8; 16],
+    jobs: &mut [u8; 16],
+) -> Option<(usize, Cursor)>
+    requires { (tasks.old ≡ replicate 16 0) × (jobs.old ≡ replicate 16 0) }
+    ensures { RowAt s.now first.at tasks.new jobs.new result }
 {
     let (count, start) = first.byte(s)?;
     if 16 < count {
         return None;
     }
     let n = count as usize;
-    let mut tasks = [0u8; 16];
-    let mut jobs = [0u8; 16];
     let mut low: u8 = 0;
     let mut here = start;
     for i in 0..n {
@@ -40,12 +45,7 @@ fn read_row(s: &[u8], first: Cursor) -> Option<(Row, Cursor)>
         low = task + 1;
         here = next;
     }
-    let row = Row {
-        count: n,
-        tasks,
-        jobs,
-    };
-    Some((row, here))
+    Some((n, here))
 }
 
 // f and H.
@@ -84,9 +84,11 @@ fn read_rows(s: &[u8], f: u16, h: u16, k: u16) -> Option<(Sizes, Option<Row>)>
     let mut kept = None;
     let mut here = start;
     for i in 0..height {
-        let (row, next) = read_row(s, here)?;
+        let mut tasks = [0u8; 16];
+        let mut jobs = [0u8; 16];
+        let (count, next) = read_row(s, here, &mut tasks, &mut jobs)?;
         if i == k {
-            kept = Some(row);
+            kept = Some(Row { count, tasks, jobs });
         }
         here = next;
     }
@@ -125,5 +127,8 @@ pub fn first_row() -> Cursor
 pub fn next_row(table: &[u8], here: Cursor) -> Option<(Row, Cursor)>
     ensures { taken_said here.at result ≡ row_at table.now here.at }
 {
-    read_row(table, here)
+    let mut tasks = [0u8; 16];
+    let mut jobs = [0u8; 16];
+    let (count, next) = read_row(table, here, &mut tasks, &mut jobs)?;
+    Some((Row { count, tasks, jobs }, next))
 }

@@ -21,7 +21,9 @@ unfolding row_from
 returns-then-count-gt16 c = rw ((count_read (goal.at.returns-then-count-gt16 c).In_ok-count).field, lt-leb _ _ c.if-count-gt16.true)
 
 pub loop-i-init : goal.loop-i-init
-loop-i-init c = (c.if-count-gt16.false, entries_start _ _ _)
+loop-i-init c =
+    let pre = c.requires in
+    (c.if-count-gt16.false, rw (pre.0, pre.1) (entries_start _ _ _))
 
 pub returns-in_err-task : goal.returns-in_err-task
 unfolding row_from

@@ -31,17 +31,17 @@ returns-then-not-height_fits c =
 pub loop-i-init : goal.loop-i-init
 loop-i-init c = rows_start _ _ _ _ _
 
-pub returns-in_err-row : goal.returns-in_err-row
+pub returns-in_err-count : goal.returns-in_err-count
 unfolding table_read sizes_of row_answer
-returns-in_err-row c =
-    let none = rw c.in_err-row.was at c.read_row.ensures in
-    rw c.from_residual-in_err-row.ensures
-    (rw (rows_refused _ _ _ _ _ _ _ _ c.loop-i.invariant (height-read (goal.at.returns-in_err-row c).Else-not-height_fits)
-    (fits (goal.at.returns-in_err-row c).Else-not-height_fits) c.loop-i-test.true none))
+returns-in_err-count c =
+    let none = rw c.in_err-count.was at c.read_row.ensures in
+    rw c.from_residual-in_err-count.ensures
+    (rw (rows_refused _ _ _ _ _ _ _ _ c.loop-i.invariant (height-read (goal.at.returns-in_err-count c).Else-not-height_fits)
+    (fits (goal.at.returns-in_err-count c).Else-not-height_fits) c.loop-i-test.true none))
 
 pub loop-i-preserved : goal.loop-i-preserved
 loop-i-preserved c =
-    let here = rw c.in_ok-row.was at c.read_row.ensures in
+    let here = rw c.in_ok-count.was at c.read_row.ensures in
     let more = c.loop-i-test.true in
     let so = c.loop-i.invariant in
     elim c.if-i-k.branch [
