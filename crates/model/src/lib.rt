@@ -47,6 +47,8 @@ fn frame_rules(tasks: &[Task], g: u8, f: u16) -> bool
 pub fn plausible(cycle: Cycle, f: u16) -> bool
     ensures { result ≡ plausible (instance_of cycle) f }
 {
+    // The tasks alone are lent: a part of the cycle would have it copied whole at each call.
+    let tasks = cycle.tasks;
     let n = cycle.n.min(16);
-    0 < f && cycle.h % f == 0 && cycle.h / f <= 256 && frame_rules(&cycle.tasks[..n], cycle.g, f)
+    0 < f && cycle.h % f == 0 && cycle.h / f <= 256 && frame_rules(&tasks[..n], cycle.g, f)
 }
